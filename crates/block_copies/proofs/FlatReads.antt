@@ -24,12 +24,14 @@ use Rattle.block_copies.proofs.FlatWrites.{known-in, known-past, past-or-in}
 
 -- ---- a read that is done
 
+-- a range is shown and the disk stays; a range with blocks is within a disk that serves
 pub record Showed (old : FlatDisk) (first n : ℕ) (shown : List (List ℕ)) (new : FlatDisk) : Type 0 where
   pub same : new ≡ old
   pub shown_is : shown ≡ blocks_from old.array first n
   pub within : 0 < n → first + n ≤ old.size
   pub serves : 0 < n → old.status ≡ statuses.Serving
 
+-- a read that is done has shown the blocks of its range, and the disk stays
 pub showed : (old new : FlatDisk) (first n : ℕ) (shown : List (List ℕ)) → FlatCall old (read first n) (record { result = Ok tt; shown = shown }) new → Showed old first n shown new
 showed old new first zero shown flat = record {
   same = flat.1;
@@ -62,6 +64,7 @@ showed old new first (suc n) shown flat = of (nat_lt old.size (first + suc n)) r
         let bad : Ok tt ≡ Err Unmounted = ap (λ (a : Answer). a.result) known.0 in
         absurd (cc)
 
+-- and conversely, what is shown so answers a read of that range
 pub shows : (old new : FlatDisk) (first n : ℕ) (shown : List (List ℕ)) → Showed old first n shown new → FlatCall old (read first n) (record { result = Ok tt; shown = shown }) new
 shows old new first zero shown s = (ap (λ (bs : List (List ℕ)). record { result = Ok tt; shown = bs }) s.shown_is, s.same)
 shows old new first (suc n) shown s = rw (known-in old first (suc n) (omega arith) (s.within (omega arith)), s.serves (omega arith)) (s.shown_is, s.same ∙ ap (λ (d : DiskStatus). record { array = old.array; size = old.size; status = d; block = old.block; most = old.most }) (s.serves (omega arith)))
@@ -78,7 +81,8 @@ some-or-none : (n : ℕ) (P : Type 0) → (n ≡ 0 → P) → (0 < n → P) → 
 some-or-none zero P none some = none refl
 some-or-none (suc n) P none some = some (omega arith)
 
-pub showed-both : (old mid new : FlatDisk) (first m next n : ℕ) (xs ys : List (List ℕ)) → next ≡ first + m → Showed old first m xs mid → Showed mid next n ys new → Showed old first (m + n) (xs ++ ys) new
+-- two ranges next to each other, shown one after the other, are shown as one
+showed-both : (old mid new : FlatDisk) (first m next n : ℕ) (xs ys : List (List ℕ)) → next ≡ first + m → Showed old first m xs mid → Showed mid next n ys new → Showed old first (m + n) (xs ++ ys) new
 showed-both old mid new first m next n xs ys e x y =
     let array : mid.array ≡ old.array = ap (λ (d : FlatDisk). d.array) x.same in
     let size : mid.size ≡ old.size = ap (λ (d : FlatDisk). d.size) x.same in
@@ -106,7 +110,7 @@ same-refusal a b c d Reserve = refl
 same-refusal a b c d Unmounted = refl
 
 -- a read is refused as one of other blocks within the disk is
-pub refused-as : (old new : FlatDisk) (first n next k : ℕ) (fault : DiskFault) → 0 < n → first + n ≤ old.size → 0 < k → next + k ≤ old.size
+refused-as : (old new : FlatDisk) (first n next k : ℕ) (fault : DiskFault) → 0 < n → first + n ≤ old.size → 0 < k → next + k ≤ old.size
     → FlatCall old (read next k) (with_nothing (Err fault)) new → FlatCall old (read first n) (with_nothing (Err fault)) new
 refused-as old new first n next k fault some fits more inside flat = of old.status refl
   where
@@ -121,36 +125,9 @@ refused-as old new first n next k fault some fits more inside flat = of old.stat
         let known = rw (known-in old next k more inside, s) at flat in
         rw (known-in old first n some fits, s) known
 
--- whatever a read answers, the array stays
-pub array-kept : (old new : FlatDisk) (first n : ℕ) (answer : Answer) → FlatCall old (read first n) answer new → new.array ≡ old.array
-array-kept old new first n answer flat = by _ answer.result answer.shown flat
-  where
-    by : (known : Option (Result (Unit {0}) DiskFault)) (result : Result (Unit {0}) DiskFault) (shown : List (List ℕ))
-        → MatchOption known (Begun old (read first n) result shown new) (λ r. (record { result = result; shown = shown } ≡ with_nothing r) × (new ≡ old)) → new.array ≡ old.array
-    by (Some r) result shown c = ap (λ (d : FlatDisk). d.array) c.1
-    by None (Ok done) shown c = ap (λ (d : FlatDisk). d.array) c.1
-    by None (Err fault) shown c = c.2
-
 -- ---- exports
 
--- nothing was written yet
-pub exports-none : (disk : DiskView) (first : ℕ) (written : Option (List ℕ)) → Exports disk first 0 written written (Ok tt) disk
-exports-none disk first written = ([], (refl, refl), Appends-nil written)
-
--- a range past the end
-pub exports-past : (disk : DiskView) (first n size : ℕ) (written : Option (List ℕ)) → size ≡ disk_size disk → true ≡ (nat_lt 0 n && nat_lt size (first + n))
-    → Exports disk first n written written (Err (Disk OutOfRange)) disk
-exports-past disk first n size written same past =
-    let some : 0 < n = grind (arith, nat_tests) in
-    let end : size < first + n = grind (arith, nat_tests) in
-    record {
-      done = 0;
-      within = omega arith;
-      bytes = Appends-nil written;
-      flat = rw (known-past (flat_of disk) first n some (omega (arith, end, same))) (refl, refl);
-      cause = tt;
-    }
-
+-- a range with blocks that was not found past the end is within the size
 pub within-size : (size first n long : ℕ) → size ≡ long → false ≡ (nat_lt 0 n && nat_lt size (first + n)) → 0 < n → first + n ≤ long
 within-size size first n long same fits some = let inside : first + n ≤ size = grind (arith, nat_tests) in omega (arith, inside, same)
 
@@ -212,12 +189,6 @@ pub exports-fail : (old mid new : DiskView) (first m next n total : ℕ) (fault 
 exports-fail old mid new first m next n total Output written between contents e some part fits x y = exports-cut old mid new first m next n total written between contents e some part fits x y
 exports-fail old mid new first m next n total (Disk fault) written between contents e some part fits x r =
     exports-refused old mid new first m next n total fault written between contents e some part fits x r
-
--- whatever ends an export, the array stays
-pub exports-array : (old new : DiskView) (first n : ℕ) (written contents : Option (List ℕ)) (result : Result (Unit {0}) ExportFault) → Exports old first n written contents result new → disk_array new ≡ disk_array old
-exports-array old new first n written contents (Ok done) x = array-kept (flat_of old) (flat_of new) first n (record { result = Ok tt; shown = x.0 }) x.1
-exports-array old new first n written contents (Err Output) x = array-kept (flat_of old) (flat_of new) first n (record { result = Ok tt; shown = x.0 }) x.1
-exports-array old new first n written contents (Err (Disk fault)) x = array-kept (flat_of old) (flat_of new) first n (with_nothing (Err fault)) x.flat
 
 -- a read that is refused shows nothing
 shown-none : (old new : FlatDisk) (first n : ℕ) (fault : DiskFault) (shown : List (List ℕ)) → FlatCall old (read first n) (record { result = Err fault; shown = shown }) new → shown ≡ []

@@ -13,33 +13,38 @@ use Rattle.zone_translator.proofs.FlatLaws.{replaced-append, replaced-none}
 
 -- ---- what is known of a call before it begins
 
+-- for some blocks within the disk, only its status tells what is answered beforehand
 pub known-in : (disk : FlatDisk) (first n : ℕ) → 0 < n → first + n ≤ disk.size → known_range disk first n ≡ answer_while disk.status
 known-in disk first n some fits =
     let e : (n == 0) ≡ false = grind (arith, nat_tests) in
     let f : nat_lt disk.size (first + n) ≡ false = grind (arith, nat_tests) in
     rw (e, f) refl
 
+-- a range with blocks that ends past the disk is known to be out of range
 pub known-past : (disk : FlatDisk) (first n : ℕ) → 0 < n → disk.size < first + n → known_range disk first n ≡ Some (Err OutOfRange)
 known-past disk first n some past =
     let e : (n == 0) ≡ false = grind (arith, nat_tests) in
     let f : nat_lt disk.size (first + n) ≡ true = grind (arith, nat_tests) in
     rw (e, f) refl
 
+-- a test of an end against the size tells whether the end is past it, or within
 pub past-or-in : (size end : ℕ) (past : Bool) → nat_lt size end ≡ past → (past ≡ true → size < end) × (past ≡ false → end ≤ size)
 past-or-in size end true e = (λ _. grind (arith, nat_tests), λ no. absurd (cc no))
 past-or-in size end false e = (λ no. absurd (cc no), λ _. grind (arith, nat_tests))
 
 -- the status of a disk, by another name
-pub with-status : (disk : FlatDisk) {status : DiskStatus} → status ≡ disk.status → record { array = disk.array; size = disk.size; status = status; block = disk.block; most = disk.most } ≡ disk
+with-status : (disk : FlatDisk) {status : DiskStatus} → status ≡ disk.status → record { array = disk.array; size = disk.size; status = status; block = disk.block; most = disk.most } ≡ disk
 with-status disk e = ap (λ (d : DiskStatus). record { array = disk.array; size = disk.size; status = d; block = disk.block; most = disk.most }) e
 
 -- ---- a write that is done
 
+-- blocks are replaced and nothing else changes; a write with blocks is within a disk that serves
 pub record Wrote (old : FlatDisk) (first : ℕ) (blocks : List (List ℕ)) (new : FlatDisk) : Type 0 where
   pub after : new ≡ record old { array = replaced old.array first blocks }
   pub within : 0 < length blocks → first + length blocks ≤ old.size
   pub serves : 0 < length blocks → old.status ≡ statuses.Serving
 
+-- a write that is done has replaced its blocks, and changed nothing else
 pub wrote : (old new : FlatDisk) (first : ℕ) (blocks : List (List ℕ)) → FlatCall old (write first blocks) (with_nothing (Ok tt)) new → Wrote old first blocks new
 wrote old new first [] flat = record {
   after = flat.1 ∙ ap (λ (a : List (List ℕ)). record old { array = a }) (sym (replaced-none old.array first));
@@ -70,6 +75,7 @@ wrote old new first (b ∷ bs) flat = of (nat_lt old.size (first + suc (length b
         let bad : Ok tt ≡ Err Unmounted = ap (λ (a : Answer). a.result) known.0 in
         absurd (cc)
 
+-- and conversely, blocks that are replaced so are a write that is done
 pub written : (old new : FlatDisk) (first : ℕ) (blocks : List (List ℕ)) → Wrote old first blocks new → FlatCall old (write first blocks) (with_nothing (Ok tt)) new
 written old new first [] w = (refl, w.after ∙ ap (λ (a : List (List ℕ)). record old { array = a }) (replaced-none old.array first))
 written old new first (b ∷ bs) w =
@@ -99,6 +105,7 @@ wrote-both old mid new first next xs ys e x y =
           (λ more. sym status ∙ y.serves more);
     }
 
+-- a write, and a write of the blocks after it, are done as one write of both
 pub write-more : (old mid new : FlatDisk) (first next : ℕ) (xs ys : List (List ℕ)) → next ≡ first + length xs
     → FlatCall old (write first xs) (with_nothing (Ok tt)) mid → FlatCall mid (write next ys) (with_nothing (Ok tt)) new → FlatCall old (write first (xs ++ ys)) (with_nothing (Ok tt)) new
 write-more old mid new first next xs ys e x y = written old new first (xs ++ ys) (wrote-both old mid new first next xs ys e (wrote old mid first xs x) (wrote mid new next ys y))
@@ -120,6 +127,7 @@ pub data Refused (old : FlatDisk) (first : ℕ) (blocks : List (List ℕ)) (faul
       → new ≡ record old { array = new.array; status = status_after (Err fault) } → Refused old first blocks fault new
   before : answer_while old.status ≡ Some (Err fault) → new ≡ old → Refused old first blocks fault new
 
+-- a write within the disk that is refused leaves the disk so
 pub refused : (old new : FlatDisk) (first : ℕ) (blocks : List (List ℕ)) (fault : DiskFault) → (0 < length blocks → first + length blocks ≤ old.size)
     → FlatCall old (write first blocks) (with_nothing (Err fault)) new → Refused old first blocks fault new
 refused old new first [] fault within flat = let bad : Err fault ≡ Ok tt = ap (λ (a : Answer). a.result) flat.0 in absurd (cc)
@@ -139,6 +147,7 @@ refused old new first (b ∷ bs) fault within flat = of old.status refl
         let known = rw (known-in old first (suc (length bs)) (omega arith) fits, s) at flat in
         before (rw s (ap (λ (a : Answer). Some a.result) (sym known.0))) (known.1 ∙ with-status old (sym s))
 
+-- and conversely, a disk left so has refused a write of some blocks within it
 pub refuses : (old new : FlatDisk) (first : ℕ) (blocks : List (List ℕ)) (fault : DiskFault) → 0 < length blocks → first + length blocks ≤ old.size
     → Refused old first blocks fault new → FlatCall old (write first blocks) (with_nothing (Err fault)) new
 refuses old new first blocks fault some fits (midway s may front is) = rw (known-in old first (length blocks) some fits, s) (may, refl, front, is)
@@ -173,6 +182,7 @@ refused-after old mid new first next (b ∷ bs) ys fault e x (before answer is) 
     let none : None ≡ Some (Err fault) = rw (status, x.serves (omega arith)) at answer in
     absurd (cc)
 
+-- if a write is done and the next refused within the disk, the write of both is refused
 pub refuse-after : (old mid new : FlatDisk) (first next : ℕ) (xs ys : List (List ℕ)) (fault : DiskFault) → next ≡ first + length xs → (0 < length ys → next + length ys ≤ mid.size)
     → FlatCall old (write first xs) (with_nothing (Ok tt)) mid → FlatCall mid (write next ys) (with_nothing (Err fault)) new → FlatCall old (write first (xs ++ ys)) (with_nothing (Err fault)) new
 refuse-after old mid new first next xs [] fault e within x y = let bad : Err fault ≡ Ok tt = ap (λ (a : Answer). a.result) y.0 in absurd (cc)
@@ -183,6 +193,7 @@ refuse-after old mid new first next xs (y ∷ ys) fault e within x r =
     refuses old new first (xs ++ y ∷ ys) fault (omega (arith, long)) (omega (arith, long, e, size, within (omega arith)))
     (refused-after old mid new first next xs (y ∷ ys) fault e w (refused mid new next (y ∷ ys) fault within r))
 
+-- if a write of some first blocks is refused, so is a write of more within the disk
 pub refuse-longer : (old new : FlatDisk) (first : ℕ) (xs ys : List (List ℕ)) (fault : DiskFault) → 0 < length xs → first + length (xs ++ ys) ≤ old.size
     → FlatCall old (write first xs) (with_nothing (Err fault)) new → FlatCall old (write first (xs ++ ys)) (with_nothing (Err fault)) new
 refuse-longer old new first xs ys fault some fits r =

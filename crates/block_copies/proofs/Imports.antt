@@ -61,7 +61,7 @@ front-taken old new first blocks count piece input rest result some within fits 
     }
 
 -- how many blocks that are, and bytes after them
-pub front-blocks : (geometry : Geometry) (blocks : ℕ) (piece : List ℕ) → 0 < geometry.block → blocks * geometry.block ≤ length piece → length (data_blocks geometry (take (blocks * geometry.block) piece)) ≡ blocks
+front-blocks : (geometry : Geometry) (blocks : ℕ) (piece : List ℕ) → 0 < geometry.block → blocks * geometry.block ≤ length piece → length (data_blocks geometry (take (blocks * geometry.block) piece)) ≡ blocks
 front-blocks geometry blocks piece some fits =
     length-cut geometry.block _ (take (blocks * geometry.block) piece)
     ∙ count-of geometry (take (blocks * geometry.block) piece) blocks some (omega (arith, length-take (blocks * geometry.block) piece, fits))
@@ -91,7 +91,8 @@ piece-read old first piece count blocks room input rest some fits consumes end l
 times-more : (n m b : ℕ) → n ≤ m → n * b ≤ m * b
 times-more n m b le = let e : n + (m - n) ≡ m = omega (arith, le) in omega (arith, add-mul n (m - n) b, ap (λ (k : ℕ). k * b) e)
 
-pub read-within : (old : DiskView) (first : ℕ) (piece : List ℕ) (count blocks room : ℕ) (input rest : Option (List ℕ)) → IsRead old first piece count blocks room input rest → blocks * old.drive.geometry.block ≤ count
+-- the whole blocks of a piece have no more bytes than were read
+read-within : (old : DiskView) (first : ℕ) (piece : List ℕ) (count blocks room : ℕ) (input rest : Option (List ℕ)) → IsRead old first piece count blocks room input rest → blocks * old.drive.geometry.block ≤ count
 read-within old first piece count blocks room input rest r =
     let b = old.drive.geometry.block in
     omega (arith, times-more blocks (count / b) b (omega (arith, r.blocks_is)), div-mul-le_self count b)
@@ -181,6 +182,7 @@ pub record Imported (old : DiskView) (first count : ℕ) (input rest : Option (L
   pub none : takes.left ≡ []
   pub geometry : new.drive.geometry ≡ old.drive.geometry
 
+-- at the start no block is imported, and nothing is read
 pub imported-none : (old : DiskView) (first : ℕ) (input : Option (List ℕ)) → Imported old first 0 input input old
 imported-none old first input = record {
   takes = record { blocks = []; whole = tt; within = λ some. absurd (omega (arith, some)); left = []; read = Consumes-nil input; flat = wrote-none (flat_of old) first };

@@ -64,11 +64,13 @@ same-before b (c ∷ cs) e =
     let rest : cs ≡ take (length cs) (c ∷ cs) = ap (λ (xs : List ℕ). drop 1 xs) e in
     ap (λ (xs : List ℕ). b ∷ xs) (same-before c cs rest ∙ ap (λ (x : ℕ). replicate (suc (length cs)) x) same)
 
+-- a factor above zero is cancelled on both sides of a comparison
 pub times-less : (n m b : ℕ) → 0 < b → n * b ≤ m * b → n ≤ m
 times-less zero m b some le = omega arith
 times-less (suc n) zero b some le = absurd (omega (arith, some, le, add-mul n 1 b))
 times-less (suc n) (suc m) b some le = let less = times-less n m b some (omega (arith, le)) in omega (arith, less)
 
+-- truth values that compare as equal are the same
 pub beq-same : (a b : Bool) → beq a b ≡ true → a ≡ b
 beq-same true true e = refl
 beq-same false false e = refl

@@ -15,15 +15,17 @@ use Rattle.block_copies.proofs.FlatWrites.{refuse-after, refuse-longer, write-mo
 use Rattle.block_copies.proofs.Pieces.{blocks-both, count-of, times-less}
 
 -- after whole blocks that are not all, there is one more
-pub next-fits : (n m b : ℕ) → n * b < m * b → n * b + b ≤ m * b
+next-fits : (n m b : ℕ) → n * b < m * b → n * b + b ≤ m * b
 next-fits zero zero b lt = absurd (omega (arith, lt))
 next-fits zero (suc m) b lt = omega (arith, add-mul m 1 b)
 next-fits (suc n) zero b lt = absurd (omega (arith, lt))
 next-fits (suc n) (suc m) b lt = let rest = next-fits n m b (omega (arith, lt)) in omega (arith, rest)
 
+-- after whole blocks of bytes that are not all, the next block ends within the bytes
 pub run-fits : (n m b done long : ℕ) → done ≡ n * b → long ≡ m * b → done < long → done + b ≤ long
 run-fits n m b done long e f lt = let fits = next-fits n m b (omega (arith, e, f, lt)) in omega (arith, e, f, fits)
 
+-- bytes of whole blocks, divided by the size of a block, give the number of blocks
 pub run-count : (done n b : ℕ) → 0 < b → done ≡ n * b → done / b ≡ n
 run-count done n b some e = let f : done ≡ n * b + 0 = omega (arith, e) in rw f (div-mul-add n b 0 some)
 
@@ -37,12 +39,15 @@ pub record IsRun (geometry : Geometry) (bytes : List ℕ) (done run : ℕ) : Typ
   pub run_is : run ≡ m * geometry.block
   pub within : done + run ≤ length bytes
 
+-- the bytes of a run, after the bytes that are done
 abbrev pub slice : ℕ → ℕ → List ℕ → List ℕ
 slice done run bytes = take (done + run - done) (drop done bytes)
 
-pub slice-long : (done run : ℕ) (bytes : List ℕ) → done + run ≤ length bytes → length (slice done run bytes) ≡ run
+-- the slice of a run within the bytes is as long as the run
+slice-long : (done run : ℕ) (bytes : List ℕ) → done + run ≤ length bytes → length (slice done run bytes) ≡ run
 slice-long done run bytes fits = omega (arith, fits, length-take (done + run - done) (drop done bytes), length-drop done bytes)
 
+-- the slice of a run has whole blocks
 pub slice-whole : (geometry : Geometry) (bytes : List ℕ) (done run : ℕ) → IsRun geometry bytes done run → length (slice done run bytes) ≡ block_count geometry (slice done run bytes) * geometry.block
 slice-whole geometry bytes done run r =
     let long = slice-long done run bytes r.within ∙ r.run_is in

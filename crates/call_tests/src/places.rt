@@ -29,8 +29,8 @@ fn places_last(rt: &impl Abort, alloc: Global, count: u32) -> Result<(), Fail>
         (Place::None, Place::At(9), Place::None)
     );
     assert_eq!(rt; map.live(2), 1);
-    assert_eq!(rt; map.records_of(2, 0), Some((last, Place::At(9))));
-    assert_eq!(rt; map.records_of(2, count), None);
+    assert_eq!(rt; map.first_record(2, 0), Some((last, Place::At(9))));
+    assert_eq!(rt; map.first_record(2, count), None);
     Ok(())
 }
 
@@ -129,7 +129,7 @@ fn places_as_a_plain_list(rt: HostRuntime) -> Result<(), Fail> {
                 same,
                 map.get(from),
                 map.live(zone),
-                map.records_of(zone, from)
+                map.first_record(zone, from)
             ),
             (
                 true,

@@ -94,10 +94,12 @@ unlettered text no_k no_m no_g no_t none bytes size = by size.letter size.spelle
   by (y ∷ []) spelled is = by-letter y (y == 75) (y == 77) (y == 71) (y == 84) refl refl refl refl spelled is
   by (y ∷ z ∷ rest) spelled is = absurd (cc is)
 
+-- if P gives Q, and P holds of a result that is None, so does Q
 pub none-mapped : {A P Q : Type 0} (result : Option A) → (P → Q) → IfNone result P → IfNone result Q
 none-mapped (Some x) f h = tt
 none-mapped None f h = f h
 
+-- if P gives Q, and P holds of the value of a result, so does Q
 pub some-mapped : {A : Type 0} {P Q : A → Type 0} (result : Option A) → ((x : A) → P x → Q x) → IfSome result P → IfSome result Q
 some-mapped (Some x) f h = f x h
 some-mapped None f h = tt

@@ -18,7 +18,7 @@ use Rattle.command_line.specs.declared.words.WordFault.{WordFault}
 use Rattle.command_line.specs.declared.words.WordFault.TheVariants.{Memory}
 use Rattle.command_line.specs.Program.{habit_names, program}
 use Rattle.command_line.specs.Values.{Finds, HasNumber, HasNumberIf, IsNumber}
-use Rattle.command_line.specs.Words.{AskFor, AsksFor, IsAnswerTo}
+use Rattle.command_line.specs.Words.{WordsAskFor, AsksFor, IsAnswerTo}
 
 -- ---- the program
 
@@ -55,7 +55,7 @@ Faults {A} Is fault = (fault ≡ Memory) ⊎ ((value : A) → Is value → ⊥)
 
 -- memory ran out, or these words ask for no task
 abbrev pub Refuses : Bor (List (Bor Text)) → List Text → Error → Type 0
-Refuses names words error = (kind_of error ≡ OutOfMemory) ⊎ ((task : Task) → AskFor names words task → ⊥)
+Refuses names words error = (kind_of error ≡ OutOfMemory) ⊎ ((task : Task) → WordsAskFor names words task → ⊥)
 
 -- clap takes the words of each task
 pub refused_by_clap : (names : Bor (List (Bor Text))) (words : List Text) (error : Error) → HasKind (fault_of (program names) words) error → Refuses names words error
@@ -69,6 +69,7 @@ refused_by_matches names command words matches fault error is has other (inr non
     inr (λ task ask. none task (subst (Asks task) (sym (met names command words matches is has)) ask.asks))
 
 module _ (names : Bor (List (Bor Text))) (words : List Text) (error : Error) (are_habits : texts names.now ≡ habit_names) (refuses : Refuses names words error) where
+  -- an error that refuses the words is an answer to them
   pub refusal_is : IsAnswerTo words (Err error)
   refusal_is = record { names = names; are_habits = are_habits; task = tt; refusal = refuses }
 
@@ -78,10 +79,7 @@ module _ (names : Bor (List (Bor Text))) (words : List Text) (error : Error) (ar
 
 -- ---- a number
 
--- what holds of the value of an option that holds this
-pub at_some : {T : Type 0} (o : Option T) (x : T) (P : T → Type 0) → o ≡ Some x → IsSomeAnd o P → P x
-at_some o x P is h = subst (λ q. IsSomeAnd q P) is h
-
+-- if a conjunction is true, so are both of its parts
 pub both : (a b : Bool) → (a && b) ≡ true → (a ≡ true) × (b ≡ true)
 both true b h = (refl, h)
 both false b h = absurd cc
@@ -132,10 +130,6 @@ exits IsPart Is (Err f) fault is part why = record {
   value = tt;
   fault = subst (Faults Is) (sym is) (lacks IsPart Is fault part why);
 }
-
--- a fault where there is no such value
-pub refuted : {B : Type 0} (Is : B → Type 0) (fault : WordFault) → ((value : B) → Is value → ⊥) → Finds Is (Err fault)
-refuted Is fault none = record { value = tt; fault = inr none }
 
 -- what is made of a value that is there is there
 pub is_some-map : {A B : Type 0} (f : A → B) (o : Option A) → is_some (option_map f o) ≡ is_some o

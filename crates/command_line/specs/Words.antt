@@ -72,7 +72,7 @@ AsksFor name rows (Copy job) = AsksForCopy name rows job
 AsksFor name rows (Tool job) = AsksForTool name rows job
 
 -- clap refuses none of these words, which name a subcommand of the program, and this is its task
-pub record AskFor (names : Bor (List (Bor Text))) (words : List Text) (task : Task) : Type 0 where
+pub record WordsAskFor (names : Bor (List (Bor Text))) (words : List Text) (task : Task) : Type 0 where
   pub taken : fault_of (program names) words ≡ []
   pub asks : IsSomeAnd (subcommand_of (program names) words) (λ met. AsksFor met.0 met.1 task)
 
@@ -80,5 +80,5 @@ pub record AskFor (names : Bor (List (Bor Text))) (words : List Text) (task : Ta
 pub record IsAnswerTo (words : List Text) (answer : Result Task Error) : Type 0 where
   pub names : Bor (List (Bor Text))
   pub are_habits : texts names.now ≡ habit_names
-  pub task : IfOk answer (AskFor names words)
-  pub refusal : IfErr answer (λ error. (kind_of error ≡ OutOfMemory) ⊎ ((task : Task) → AskFor names words task → ⊥))
+  pub task : IfOk answer (WordsAskFor names words)
+  pub refusal : IfErr answer (λ error. (kind_of error ≡ OutOfMemory) ⊎ ((task : Task) → WordsAskFor names words task → ⊥))

@@ -6,6 +6,7 @@ use Rattle.block_copies.specs.declared.fault.ImportFault.{ImportFault}
 use Rattle.copy_jobs.specs.DriveCopies.{ImportsDisk, ImportsDrive, import_end}
 use Rattle.copy_jobs.specs.declared.job.ImportJob.{ImportJob}
 
+-- an import into the disk of a drive is an import into the drive, whatever ended it
 pub drive-imported : (job : ImportJob) (input rest : Option (List ℕ)) (old : DriveState) (taken : Result ℕ ImportFault) (new : DriveState) → ImportsDisk job input rest old taken new
     → ImportsDrive job input rest old (import_end taken) new
 drive-imported job input rest old (Ok count) new i = i

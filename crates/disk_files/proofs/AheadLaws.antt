@@ -50,6 +50,7 @@ module _ (bytes : List ℕ) (first last start end : ℕ) (begins : first ≤ las
       let sum : first + (start - first) ≡ start = omega (arith, begins, joined) in
       rw (n, take-add (start - first) k (drop first bytes), drop-drop, sum, joined, take-take k (end - start) (drop start bytes) fits) refl
 
+  -- if a line feed is among the next m bytes, the line is taken up to it
   pub line_taken : (m room place : ℕ) → m ≤ room → position is_feed (take m (slice_range bytes start end)) ≡ Some place
       → ReadsPart (Some (slice_range bytes start end)) (Some (slice_range bytes (start + (place + 1)) end)) room (slice_range bytes first last) (slice_range bytes first (start + place)) (Ok Line)
   line_taken m room place fits e =
@@ -63,6 +64,7 @@ module _ (bytes : List ℕ) (first last start end : ℕ) (begins : first ≤ las
         omega (arith, ends.below, length-take place (take m ahead)),
       )
 
+  -- if some bytes are ahead, and the next m have no line feed, all of these are taken
   pub front_taken : (m room : ℕ) → m ≤ room → position is_feed (take m (slice_range bytes start end)) ≡ None → length (take m (slice_range bytes start end)) ≢ 0
       → ReadsPart (Some (slice_range bytes start end)) (Some (slice_range bytes (start + length (take m (slice_range bytes start end))) end)) room (slice_range bytes first last) (slice_range bytes first (start + length (take m (slice_range bytes start end)))) (Ok Front)
   front_taken m room fits e some =

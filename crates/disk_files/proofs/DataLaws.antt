@@ -53,9 +53,11 @@ not_decoded (Err other) result out error value e = refl
 
 module _ (word : List ℕ) (count : ℕ) (result : Result (Unit {0}) FromHexError) (out : List ℕ) (even : length word ≡ 2 * count)
     (value : MatchResult (decode_sized word count) (λ bytes. (result ≡ Ok tt) × (out ≡ bytes)) (λ error. result ≡ Err error)) where
+  -- a word whose digits were decoded says the bytes that came out
   pub bytes_of-Ok : result ≡ Ok tt → hex_bytes word ≡ Some out
   bytes_of-Ok e = bytes_of-sized word count even ∙ decoded (decode_sized word count) result out value e
 
+  -- a word whose decoding failed says no bytes
   pub bytes_of-Err : (error : FromHexError) → result ≡ Err error → hex_bytes word ≡ None
   bytes_of-Err error e = bytes_of-sized word count even ∙ not_decoded (decode_sized word count) result out error value e
 

@@ -20,15 +20,18 @@ module _ (p : ℕ → Bool) (xs : List ℕ) where
   pub position_or_len-None : position p xs ≡ None → length xs ≡ position_or_len p xs
   position_or_len-None e = grind (arith, nat_tests, prefix_len-le-length (λ x. not (p x)) xs)
 
+  -- if no place passes, every element fails the test
   pub All-None : position p xs ≡ None → All (λ x. p x ≡ false) xs
   All-None e = let whole = position_or_len-None e in λ k d lt. fails_before_first p xs k d (omega arith)
 
+  -- the first piece of a split ends at the first place that passes, and the rest is split
   pub slice_split-Some : (i : ℕ) → position p xs ≡ Some i → slice_split p xs ≡ take i xs ∷ slice_split p (drop (i + 1) xs)
   slice_split-Some i e =
       let first = position-Some p xs i 0 e in
       let place = position_or_len-Some i e in
       rw (slice_split_first p xs 0 (omega arith), place) refl
 
+  -- if no place passes, the whole list is the only piece of its split
   pub slice_split-None : position p xs ≡ None → slice_split p xs ≡ xs ∷ []
   slice_split-None e = slice_split_none p xs (All-None e)
 

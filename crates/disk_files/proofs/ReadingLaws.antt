@@ -29,9 +29,11 @@ module _ (line : List ℕ) (none : NoFeed line) where
   place_more : (rest : List ℕ) → length line ≤ position_or_len is_feed (line ++ rest)
   place_more rest = grind (arith, nat_tests, prefix_len-append (λ b. not (is_feed b)) line rest, place_none)
 
+  -- the first line of a line, a line feed and more bytes is that line
   pub first_line-feed : (rest : List ℕ) → first_line (line ++ feed ∷ rest) ≡ line
   first_line-feed rest = rw (place_feed rest) (take_at line (feed ∷ rest) (length line) refl)
 
+  -- what comes after that first line is what follows its line feed
   pub after_line-feed : (rest : List ℕ) → after_line (line ++ feed ∷ rest) ≡ rest
   after_line-feed rest = rw (place_feed rest, ← drop-drop 1 (length line) (line ++ feed ∷ rest), drop_at line (feed ∷ rest) (length line) refl) refl
 

@@ -22,16 +22,6 @@ stores-drive (jobs.Nvme path explain habit sync) old held drive e stored = store
 stores-drive (jobs.Fresh geometry blocks shown statistics stop habit) old held drive e stored = absurd (cc e)
 stores-drive (jobs.FreshRaw geometry habit) old held drive e stored = absurd (cc e)
 
--- whatever it held before
-pub stores-again : (job : Job) (a b held : Known) (drive : DriveState) → has_changes job ≡ true → StoresDrive job a held drive → StoresDrive job b held drive
-stores-again (jobs.Format path geometry force) a b held drive e stored = absurd (cc e)
-stores-again (jobs.Run path blocks zones statistics stop habit sync false progress) a b held drive e stored = stored
-stores-again (jobs.Run path blocks zones statistics stop habit sync true progress) a b held drive e stored = absurd (cc e)
-stores-again (jobs.Report path) a b held drive e stored = absurd (cc e)
-stores-again (jobs.Nvme path explain habit sync) a b held drive e stored = stored
-stores-again (jobs.Fresh geometry blocks shown statistics stop habit) a b held drive e stored = absurd (cc e)
-stores-again (jobs.FreshRaw geometry habit) a b held drive e stored = absurd (cc e)
-
 -- the store of any other job is not used
 pub stores-nothing : (job : Job) (old : Known) (drive : DriveState) → has_changes job ≡ false → StoresDrive job old old drive
 stores-nothing (jobs.Format path geometry force) old drive e = refl

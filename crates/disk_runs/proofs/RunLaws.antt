@@ -9,7 +9,7 @@ use Rattle.disk_files.specs.Output.{AppendsFront}
 use Rattle.disk_files.specs.declared.line_reader.TheConstants.{LONGEST_LINE}
 use Rattle.disk_files.specs.declared.line_reader.LineFault.{LineFault}
 use Rattle.disk_files.specs.declared.line_reader.LineFault.TheVariants as lines
-use Rattle.disk_runs.specs.Run.{AnswersAll, AtLine, Exchange, HasRead, IsAnswered, IsLine, IsNextLine, IsNextLong, Known, Language, LineStops, Ran, ReadsAll, Runs, Stopped, StopsAt, TakesLines, exchange, line_fault}
+use Rattle.disk_runs.specs.Run.{AnswersAll, AtLine, Exchange, HasRead, IsAnswered, IsLine, IsNextLine, IsNextLong, Known, Language, LineStops, Ran, ReadsAll, Runs, StopsEarly, StopsAt, TakesLines, exchange, line_fault}
 use Rattle.disk_runs.specs.declared.fault.RunFault.{RunFault}
 use Rattle.disk_runs.specs.declared.fault.RunFault.TheVariants as runs
 use Rattle.disk_runs.specs.declared.fault.RunFault.TheVariants.{Line, Long, Disk, Mount, Input, Output, Memory}
@@ -151,7 +151,7 @@ ends language bytes old number left left' line new r s =
 
 -- the run stops before anything of the reply is written
 pub stops : {S : Type 0} (language : Language S) (bytes : Exchange) (old : S) (number : ℕ) (left : Known) (middle new : S) (fault : RunFault)
-    → StopsAt language fault left number middle [] new → SoFar language bytes old number left middle → Stopped language bytes old fault new
+    → StopsAt language fault left number middle [] new → SoFar language bytes old number left middle → StopsEarly language bytes old fault new
 stops language bytes old number left middle new fault why s = record {
   lines = s.lines;
   left = left;
@@ -167,7 +167,7 @@ stops language bytes old number left middle new fault why s = record {
 -- the writer fails within the reply
 pub stops_writing : {S : Type 0} (language : Language S) (input written : Known) (old : S) (number : ℕ) (left left' contents contents' : Known) (line reply : List ℕ) (middle new : S)
     → ReadsLine left left' line (Ok true) → IsLine language middle line → language.Answers middle line reply new → AppendsFront contents contents' reply
-    → SoFar language (exchange input written contents) old number left middle → Stopped language (exchange input written contents') old Output new
+    → SoFar language (exchange input written contents) old number left middle → StopsEarly language (exchange input written contents') old Output new
 stops_writing language input written old number left left' contents contents' line reply middle new r is_line answers a s = record {
   lines = s.lines;
   left = left;
@@ -216,6 +216,6 @@ line_of language old new line reply short answered = record { short = short; leg
 
 -- a fault that is handed on ends the run
 pub run_fault : {S : Type 0} (language : Language S) (bytes : Exchange) (old : S) (result : Result (Unit {0}) RunFault) (fault : RunFault) (new : S)
-    → IsErrAnd result (λ e. e ≡ fault) → Stopped language bytes old fault new → Runs language bytes old result new
+    → IsErrAnd result (λ e. e ≡ fault) → StopsEarly language bytes old fault new → Runs language bytes old result new
 run_fault language bytes old (Ok done) fault new is s = absurd is
-run_fault language bytes old (Err e) fault new is s = subst (λ (f : RunFault). Stopped language bytes old f new) (sym is) s
+run_fault language bytes old (Err e) fault new is s = subst (λ (f : RunFault). StopsEarly language bytes old f new) (sym is) s

@@ -16,7 +16,7 @@ use Rattle.zone_translator.specs.declared.fault.DiskFault.TheVariants as faults
 use Rattle.zone_translator.specs.declared.status.DiskStatus.{DiskStatus}
 use Rattle.zone_translator.specs.declared.status.DiskStatus.TheVariants as statuses
 use Rattle.disk_runs.specs.FlatLines.{Request, flat_lines, remount, single, turns}
-use Rattle.disk_runs.specs.Run.{AnswersAll, AtLine, Exchange, IsBeginning, IsLine, Known, Runs, Stopped, StopsAt}
+use Rattle.disk_runs.specs.Run.{AnswersAll, AtLine, Exchange, IsBeginning, IsLine, Known, Runs, StopsEarly, StopsAt}
 use Rattle.disk_runs.specs.Trace.{CallCause, EndCause, KeepsDrive, KeepsFault, KeepsRequest, KeepsServed, MountsAgain, RefusesLine, RunGives, RunKeeps, RunLeaves, RunsFlat, disk_at_first, disk_lines, disk_on, wanted_of}
 use Rattle.disk_runs.specs.declared.fault.RunFault.{RunFault}
 use Rattle.disk_runs.specs.declared.fault.RunFault.TheVariants as runs
@@ -164,7 +164,7 @@ call_cause faults.Smaller old new kept serves cause = cause
 call_cause faults.Reserve old new kept serves cause = cause
 call_cause faults.Unmounted old new kept serves cause = absurd (serves (kept.unmounted cause))
 
-run_cause : (only_reads : Bool) (bytes : Exchange) (first last : DiskView) (fault : RunFault) → IsMountable first.drive (given_size first) → first.status ≡ statuses.Serving → Stopped (disk_lines only_reads) bytes first fault last → CallCause last fault
+run_cause : (only_reads : Bool) (bytes : Exchange) (first last : DiskView) (fault : RunFault) → IsMountable first.drive (given_size first) → first.status ≡ statuses.Serving → StopsEarly (disk_lines only_reads) bytes first fault last → CallCause last fault
 run_cause only_reads bytes first last (Line m) can serves r = tt
 run_cause only_reads bytes first last (Long m) can serves r = tt
 run_cause only_reads bytes first last Input can serves r = tt

@@ -142,7 +142,7 @@ StopsAt language Memory left number old shown new = (shown ≡ []) × language.S
 StopsAt language fault left number old shown new = (shown ≡ []) × AtLine language left old (λ line. language.Refuses old line fault new)
 
 -- some lines are answered, and of the next at most a beginning of its reply is written
-pub record Stopped {S : Type 0} (language : Language S) (bytes : Exchange) (old : S) (fault : RunFault) (new : S) : Type 0 where
+pub record StopsEarly {S : Type 0} (language : Language S) (bytes : Exchange) (old : S) (fault : RunFault) (new : S) : Type 0 where
   pub lines : List (List ℕ)
   pub left : Known
   pub text : List ℕ
@@ -156,4 +156,4 @@ pub record Stopped {S : Type 0} (language : Language S) (bytes : Exchange) (old 
 -- how a run ends
 abbrev pub Runs : {S : Type 0} → Language S → Exchange → S → Result (Unit {0}) RunFault → S → Type 0
 Runs language bytes old (Ok done) new = Ran language bytes old new
-Runs language bytes old (Err fault) new = Stopped language bytes old fault new
+Runs language bytes old (Err fault) new = StopsEarly language bytes old fault new

@@ -8,7 +8,7 @@ use Rattle.drive_array.specs.Reserve.{most_size}
 use Rattle.drive_survey.specs.declared.fault.MountFault.{MountFault}
 use Rattle.remount.specs.Kept.{KeepsMountable}
 use Rattle.remount.specs.Mount.{IsToMount}
-use Rattle.drive_survey.specs.Scan.{FailsBy}
+use Rattle.drive_survey.specs.Scan.{IsInterruption}
 use Rattle.zone_translator.specs.Batches.{LogsAreCut}
 use Rattle.zone_translator.specs.Calls.{IsTurn}
 use Rattle.zone_translator.specs.Changes.{IsCause}
@@ -67,7 +67,7 @@ KeepsFault fault old new = KeepsServed old new
 abbrev pub EndCause : DiskView → RunFault → Type 0
 EndCause disk (Disk Unmounted) = disk.status ≡ statuses.Unmounted
 EndCause disk (Disk fault) = IsCause disk.drive (next_sequence disk) fault
-EndCause disk (Mount fault) = FailsBy (λ _. ⊥) disk.drive fault
+EndCause disk (Mount fault) = IsInterruption disk.drive fault
 EndCause disk fault = ⊥
 
 -- the faults that a refused line ends a run with have a cause of their own

@@ -30,19 +30,23 @@ fn show_blocks<D: Device + Drop>(
     block: &mut Vec<u8>,
     reply: &mut Vec<u8>,
 ) -> Result<(), RunFault>
+    // The blocks are in range, and their numbers fit in 64 bits. While the disk serves, the array has its size.
     requires in_range { 0 < blocks → first + blocks ≤ disk_size disk.old }
     requires array { disk.old.status ≡ Serving → length (disk_array disk.old) ≡ disk_size disk.old }
     requires small { first + blocks ≤ 2 ^ 64 }
+    // Done, the reply has the lines of these blocks too, and the flat disk is the same.
     ensures ok { OnOk result
         ((flat_of disk.new ≡ flat_of disk.old) × (0 < blocks → disk.old.status ≡ Serving)
         × (reply.new.items
         ≡ reply.old.items ++ block_lines first (blocks_from (disk_array disk.old) first blocks))) }
+    // A refusal is a flat disk's too, and has its cause. For `Memory`, the reply has no room for a block's line.
     ensures err { IfErr result
         (λ fault. RequestStops (flat_of disk.old) (Some (single (read first blocks)))
         fault (flat_of disk.new)) }
     ensures cause { IfErr result (HasCause (EndCause disk.new)) }
     ensures full { IfErr result (λ fault. fault ≡ Memory →
         IsFull (vec_capacity reply.new) (vec_len reply.new) (vec_len block.new)) }
+    // Whatever it answers, a drive that could be mounted still can be.
     ensures keeps { KeepsServed disk.old disk.new }
 {
     for i in 0..blocks {
@@ -67,14 +71,17 @@ pub(crate) fn read_blocks<D: Device + Drop>(
 ) -> Result<(), RunFault>
     requires empty { reply.old.items ≡ [] }
     requires room { SHORT_REPLY ≤ vec_capacity reply.old }
+    // Done, the reply is a flat disk's.
     ensures ok { OnOk result (RepliesTo (flat_of disk.old) (single (read first blocks))
         reply.new.items (flat_of disk.new)) }
+    // A refusal is a flat disk's too, and has its cause. For `Memory`, the reply has no room for a block's line.
     ensures err { IfErr result
         (λ fault. RequestStops (flat_of disk.old) (Some (single (read first blocks)))
         fault (flat_of disk.new)) }
     ensures cause { IfErr result (HasCause (EndCause disk.new)) }
     ensures full { IfErr result (λ fault. fault ≡ Memory →
         IsFull (vec_capacity reply.new) (vec_len reply.new) (vec_len block.new)) }
+    // Whatever it answers, a drive that could be mounted still can be.
     ensures keeps { KeepsServed disk.old disk.new }
 {
     if is_past_end(disk.blocks(), first, blocks) {

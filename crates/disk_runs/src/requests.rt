@@ -48,9 +48,11 @@ fn tell(done: Result<(), DiskFault>, reply: &mut Vec<u8>) -> Result<(), RunFault
 /// Gives the cleaner turns, up to one that is refused. Where no clean runs before a turn and none after it, none is
 /// due, and the turns that are left would do nothing.
 fn clean<D: Device + Drop>(disk: &mut Disk<D>, turns: u32) -> Result<(), DiskFault>
+    // Done, all turns count as taken. Refused, fewer were taken, and the fault has its cause.
     ensures flat { Turns turns (flat_of disk.old) result (flat_of disk.new) }
     ensures turns { OnOk result (TakesTurns turns disk.old disk.new) }
     ensures cause { IfErr result (DiskCause disk.new) }
+    // Whatever it answers, a drive that could be mounted still can be.
     ensures keeps { KeepsServed disk.old disk.new }
 {
     for _turn in 0..turns {
@@ -67,12 +69,15 @@ fn clean<D: Device + Drop>(disk: &mut Disk<D>, turns: u32) -> Result<(), DiskFau
 fn mount_again<D: Device + Drop>(disk: &mut Disk<D>, reply: &mut Vec<u8>) -> Result<(), RunFault>
     requires empty { reply.old.items ≡ [] }
     requires room { SHORT_REPLY ≤ vec_capacity reply.old }
+    // Done, the reply is a flat disk's.
     ensures ok { OnOk result
         (RepliesTo (flat_of disk.old) remount reply.new.items (flat_of disk.new)) }
+    // A refusal is a flat disk's too, and has its cause. The reply never lacks memory.
     ensures err { IfErr result
         (λ fault. RequestStops (flat_of disk.old) (Some remount) fault (flat_of disk.new)) }
     ensures cause { IfErr result (HasCause (EndCause disk.new)) }
     ensures no_memory { IfErr result (λ fault. fault ≢ Memory) }
+    // Done, the drive was mounted again. Whatever it answers, a drive that could be mounted still can be.
     ensures keeps { OnOk result (MountsAgain disk.old disk.new) }
     ensures leaves { IfErr result (λ fault. KeepsFault fault disk.old disk.new) }
 {
@@ -92,18 +97,22 @@ pub(crate) fn answer_request<D: Device + Drop>(
     block: &mut Vec<u8>,
     reply: &mut Vec<u8>,
 ) -> Result<(), RunFault>
+    // The line asks for something: the data of a `write` is whole blocks.
     requires asks { is_some (asked disk.old.drive.geometry.block line bytes.now) ≡ true }
     requires empty { reply.old.items ≡ [] }
     requires room { SHORT_REPLY ≤ vec_capacity reply.old }
+    // Done, the reply is a flat disk's.
     ensures ok { OnOk result
         (AnswersRequest (flat_of disk.old) (asked disk.old.drive.geometry.block line bytes.now)
         reply.new.items (flat_of disk.new)) }
+    // A refusal is a flat disk's too, and has its cause. For `Memory`, the reply has no room for a block's line.
     ensures err { IfErr result (λ fault.
         RequestStops (flat_of disk.old) (asked disk.old.drive.geometry.block line bytes.now)
         fault (flat_of disk.new)) }
     ensures cause { IfErr result (HasCause (EndCause disk.new)) }
     ensures full { IfErr result (λ fault. fault ≡ Memory →
         IsFull (vec_capacity reply.new) (vec_len reply.new) (vec_len block.new)) }
+    // Done, the turns were taken, and a write was one write. A drive that could be mounted still can be.
     ensures keeps { OnOk result
         (KeepsRequest (asked disk.old.drive.geometry.block line bytes.now) disk.old disk.new) }
     ensures leaves { IfErr result (λ fault. KeepsFault fault disk.old disk.new) }

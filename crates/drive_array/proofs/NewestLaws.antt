@@ -136,7 +136,7 @@ map-range_above f k v a (suc n) lt =
     rw (no, map-range_above f k v (a + 1) n (omega arith)) refl
 
 -- one number of a range is given another value
-pub map-range_set : {Y : Type 0} (f : ℕ → Y) (k : ℕ) (v : Y) (a n j : ℕ) → k ≡ a + j → map (λ b. cond (eqb k b) v (f b)) (range_with_len a n) ≡ set (map f (range_with_len a n)) j v
+map-range_set : {Y : Type 0} (f : ℕ → Y) (k : ℕ) (v : Y) (a n j : ℕ) → k ≡ a + j → map (λ b. cond (eqb k b) v (f b)) (range_with_len a n) ≡ set (map f (range_with_len a n)) j v
 map-range_set f k v a zero j e = refl
 map-range_set f k v a (suc n) zero e =
     let yes : eqb k a ≡ true = eq-eqb k a (omega arith) in

@@ -98,10 +98,6 @@ abbrev pub place : ℕ → Option Record → Place
 place zone_size None = places.None
 place zone_size (Some r) = if is_some r.content then places.At (r.zone * zone_size + r.offset) else places.Trimmed (r.zone * zone_size + r.offset)
 
--- the map of n blocks: of each block where its newest record is
-abbrev pub places_of : ℕ → ℕ → List Record → List Place
-places_of zone_size n rs = told (place zone_size) n rs
-
 -- ---- changes of the logs
 
 -- a zone's log with a batch more

@@ -65,9 +65,11 @@ halted-alone drive geometry content zone seen (inr (inr fails)) = absurd (never-
 
 -- ---- zone after zone is read
 
+-- each of these reads is of the zone with its number, by itself
 abbrev pub EachRead : DriveState → List (Result ScannedZone MountFault) → Type 0
 EachRead drive reads = (zone : ℕ) (read : Result ScannedZone MountFault) → slice_get reads zone ≡ Some read → ReadsAlone drive zone read
 
+-- an empty list holds only such reads
 pub each-none : (drive : DriveState) → EachRead drive []
 each-none drive zone read there = absurd (cc)
 
@@ -79,20 +81,23 @@ each-append P (w ∷ ws) x all here zero y there = all zero y there
 each-append P (w ∷ ws) x all here (suc z) y there = each-append (λ k. P (suc k)) ws x (λ k v h. all (suc k) v h) here z y there
 
 -- what is read of a drive was there before controllers closed zones
-pub read-before : (old new : DriveState) (zone : ℕ) (read : Result ScannedZone MountFault) → KeepsZones old new → ReadsAlone new zone read → ReadsAlone old zone read
+read-before : (old new : DriveState) (zone : ℕ) (read : Result ScannedZone MountFault) → KeepsZones old new → ReadsAlone new zone read → ReadsAlone old zone read
 read-before old new zone (Ok scanned) k is = rw (k.geometry, kept-contents old new k) at is
 read-before old new zone (Err fault) k is = rw (k.geometry, kept-contents old new k) at is
 
+-- a list with one element more is longer by one
 pub one-more : {X : Type 0} (xs more : List X) (x : X) (n : ℕ) → length xs ≡ n → more ≡ xs ++ x ∷ [] → length more ≡ n + 1
 one-more xs more x n count is = rw is (omega (arith, length-append xs (x ∷ []), count))
 
+-- with the read of the next zone added, each is still a read of the first drive
 pub reads-more : (first now : DriveState) (reads more : List (Result ScannedZone MountFault)) (read : Result ScannedZone MountFault) (zone : ℕ) → KeepsZones first now → length reads ≡ zone → more ≡ reads ++ read ∷ []
     → EachRead first reads → ReadsAlone now zone read → EachRead first more
 reads-more first now reads more read zone k count is each one =
     let here : ReadsAlone first (length reads) read = rw count (read-before first now zone read k one) in
     rw is (each-append (ReadsAlone first) reads read each here)
 
-pub reads-before : (old new : DriveState) (reads : List (Result ScannedZone MountFault)) → KeepsZones old new → AreReads new reads → AreReads old reads
+-- the reads of all zones were the same before controllers closed zones
+reads-before : (old new : DriveState) (reads : List (Result ScannedZone MountFault)) → KeepsZones old new → AreReads new reads → AreReads old reads
 reads-before old new reads k are = record { count = are.count ∙ length-closing old.zones new.zones k.closing; each = λ zone read there. read-before old new zone read k (are.each zone read there) }
 
 -- ---- unusable zones
@@ -106,6 +111,7 @@ unusable-from geometry i (z ∷ zs) (r ∷ rs) are =
     let here : unusable_reported i r ≡ unusable_at i (content_of z) = rw are.0.state refl in
     rw (here, rest) refl
 
+-- the zones that a report finds unusable are the unusable zones of the drive
 pub unusable-found : (old new : DriveState) (reported : List ReportedZone) → ReportsZones old reported new → found_in unusable_reported reported ≡ unusable_zones old
 unusable-found old new reported reports =
     unusable-from old.geometry 0 reports.zones reported reports.are ∙ ap (λ (cs : List Content). found_in unusable_at cs) (contents-closing old.zones reports.zones reports.before)
@@ -118,6 +124,7 @@ not-false : (b : Bool) → not b ≡ false → b ≡ true
 not-false true e = refl
 not-false false e = absurd (cc)
 
+-- if no zone of a report is found unusable, all of them are usable
 pub all-usable : (i : ℕ) (reported : List ReportedZone) → found_from unusable_reported i reported ≡ [] → AreReportedUsable reported
 all-usable i [] e = tt
 all-usable i (r ∷ rs) e =
@@ -125,28 +132,6 @@ all-usable i (r ∷ rs) e =
     (not-false (is_usable (usage_of r.state)) both.0, all-usable (i + 1) rs both.1)
 
 -- ---- the refusal
-
--- a mount is refused only for its geometry, or that is in range
-pub refused-range : (drive : DriveState) (n : ℕ) (fault : MountFault) → MountFails drive n fault → fault ≢ Limits → IsInRange drive.geometry
-refused-range drive n Limits fails other = absurd (other refl)
-refused-range drive n Reserve fails other = fails.0
-refused-range drive n (ZoneUnusable zone) fails other = fails.0
-refused-range drive n TooManyPartial fails other = fails.0
-refused-range drive n BlockOutOfRange fails other = fails.0.geometry
-refused-range drive n NoSpare fails other = fails.0.geometry
-refused-range drive n (TornZone zone) fails other = fails.0.geometry
-refused-range drive n Spent (inl met) other = met.0.geometry
-refused-range drive n Spent (inr cannot) other = cannot.0.geometry
-refused-range drive n (Log zone offset cause) fails other = fails.0.geometry
-refused-range drive n SequenceRepeated fails other = fails.0.geometry
-refused-range drive n Halted fails other = absurd fails
-refused-range drive n OutOfMemory fails other = absurd fails
-
--- a mount that was halted says that the drive has stopped
-pub halted-mount : (drive last : DriveState) (n : ℕ) → FailsBy (MountFails drive n) last Halted → IsInterruption last Halted
-halted-mount drive last n (inl memory) = inl memory
-halted-mount drive last n (inr (inl halted)) = inr (inl halted)
-halted-mount drive last n (inr (inr fails)) = absurd fails
 
 -- what no interruption is
 pub mount-refused : (drive last : DriveState) (n : ℕ) (fault : MountFault) → FailsBy (MountFails drive n) last fault → fault ≢ Halted → fault ≢ OutOfMemory → MountFails drive n fault
@@ -178,20 +163,7 @@ pub lists-some : (drive : DriveState) (n : ℕ) (findings : Findings) (zones : L
 lists-some drive n findings [] some none = absurd (some refl)
 lists-some drive n findings (z ∷ zs) some none = none
 
-pub findings-none : (drive : DriveState) (n : ℕ) (findings : Findings) → findings.refusal ≡ None → IsToMount drive n → ListsNothing findings → AreFindings drive n findings
-findings-none drive n findings is can clean = record {
-  refuses = subst (Refuses drive n) (sym is) can;
-  clean = λ none. clean;
-  listed = λ range some. let bad : is_some {T = MountFault} None ≡ true = subst IsSome is some in absurd (cc);
-}
-
-pub findings-limits : (drive : DriveState) (n : ℕ) (findings : Findings) → findings.refusal ≡ Some Limits → MountFails drive n Limits → ListsNothing findings → AreFindings drive n findings
-findings-limits drive n findings is fails clean = record {
-  refuses = subst (Refuses drive n) (sym is) fails;
-  clean = λ none. clean;
-  listed = λ range some. absurd (fails range);
-}
-
+-- if a mount is refused, that fault and the lists of all faults are the findings
 pub findings-faults : (drive : DriveState) (n : ℕ) (findings : Findings) (fault : MountFault) → findings.refusal ≡ Some fault → MountFails drive n fault → ListsFaults drive n findings → AreFindings drive n findings
 findings-faults drive n findings fault is fails lists = record {
   refuses = subst (Refuses drive n) (sym is) fails;
@@ -199,6 +171,7 @@ findings-faults drive n findings fault is fails lists = record {
   listed = λ range some. lists;
 }
 
+-- the listed faults of a drive were the same before controllers closed zones
 pub faults-before : (old new : DriveState) (n : ℕ) (findings : Findings) → KeepsZones old new → ListsFaults new n findings → ListsFaults old n findings
 faults-before old new n findings k is = record {
   range = rw k.geometry at is.range;

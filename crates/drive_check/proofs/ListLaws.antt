@@ -17,6 +17,7 @@ repeats_step zone i heads d seen met found more all lt so_far is then =
     let head = get_or heads i d in
     rw (is, then) (append_assoc found (repeat_at zone seen head.sequence) (repeats_of zone (insert_key nat_cmp seen head.sequence) (drop (i + 1) heads)) ∙ (rw (drop_at i heads d lt) at so_far))
 
+-- once one header more is met, the others still lead to the same sequences in the end
 pub met_step : (i : ℕ) (heads : List Head) (d : Head) (seen met all : List ℕ) → i < length heads → met ≡ insert_key nat_cmp seen (get_or heads i d).sequence
     → met_with seen (drop i heads) ≡ all → met_with met (drop (i + 1) heads) ≡ all
 met_step i heads d seen met all lt then so_far = rw then (rw (drop_at i heads d lt) at so_far)

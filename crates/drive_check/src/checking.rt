@@ -44,11 +44,13 @@ fn list_reads(
     findings: &mut Findings,
 ) -> Result<(), AllocError>
     requires { length reads.now < 2 ^ 32 }
+    // Done, each list has exactly the faults of its kind.
     ensures batches { OnOk result (findings.new.batches.items ≡ found_in fault_at reads.now) }
     ensures repeated { OnOk result (findings.new.repeated.items ≡ repeats_from 0 [] reads.now) }
     ensures past_end { OnOk result (findings.new.past_end.items
         ≡ found_in (past_end_at (size_read given reads.now)) reads.now) }
     ensures torn { OnOk result (findings.new.torn.items ≡ found_in torn_read_at reads.now) }
+    // Whatever it answers, the other findings stay.
     ensures refusal { findings.new.refusal ≡ findings.old.refusal }
     ensures unusable { findings.new.unusable ≡ findings.old.unusable }
     ensures partly { findings.new.partly_written ≡ findings.old.partly_written }
@@ -68,13 +70,17 @@ fn list_zones<D: Device>(
     given: u64,
     findings: &mut Findings,
 ) -> Result<(), MountFault>
+    // The report is true of all zones, and of how many are partly written.
     requires known { AreKnown (D.drive device.old) zones.now }
     requires partly { count_by is_partly_reported zones.now
         ≡ count_by is_partly_written (contents (D.drive device.old).zones) }
+    // Done, the lists have exactly the faults of the zones.
     ensures ok { OnOk result (ListsZones (D.drive device.old) given findings.new) }
+    // It fails only if the drive stops or memory runs out.
+    ensures err { IfErr result (IsInterruption (D.drive device.new)) }
+    // Whatever it answers, the other findings stay, and the zones hold what they held.
     ensures refusal { findings.new.refusal ≡ findings.old.refusal }
     ensures unusable { findings.new.unusable ≡ findings.old.unusable }
-    ensures err { IfErr result (IsInterruption (D.drive device.new)) }
     ensures kept { KeepsZones (D.drive device.old) (D.drive device.new) }
 {
     let reads = read_zones(alloc, device, zones)?;
@@ -90,10 +96,12 @@ fn list_faults<D: Device>(
     given: u64,
     refusal: MountFault,
 ) -> Result<Findings, MountFault>
-    requires range { IsInRange (D.drive device.old).geometry }
+    requires in_range { IsInRange (D.drive device.old).geometry }
     requires lawful { IsLawful (D.drive device.old) }
+    // Done, the unusable zones are listed; without any, all other faults. The refusal is told.
     ensures ok { IfOk result (ListsFaults (D.drive device.old) given) }
     ensures refusal { IfOk result (λ findings. findings.refusal ≡ Some refusal) }
+    // It fails only if the drive stops or memory runs out. Whatever it answers, zones hold what they held.
     ensures err { IfErr result (IsInterruption (D.drive device.new)) }
     ensures kept { KeepsZones (D.drive device.old) (D.drive device.new) }
 {

@@ -19,7 +19,9 @@ fn read_zone<D: Device>(
     block: &mut Vec<u8>,
 ) -> Result<ZoneReading, MountFault>
     requires zone { IsKnown (D.drive device.old) zone.number zone.reported }
+    // Done, these are the headers of the zone, or the first fault of its batches.
     ensures ok { IfOk result (ReadsAlone (D.drive device.old) zone.number) }
+    // It fails only if the drive stops or memory runs out. Whatever it answers, zones hold what they held.
     ensures err { IfErr result (IsInterruption (D.drive device.new)) }
     ensures kept { KeepsZones (D.drive device.old) (D.drive device.new) }
 {
@@ -39,7 +41,9 @@ pub fn read_zones<D: Device>(
     zones: &[ReportedZone],
 ) -> Result<Vec<ZoneReading>, MountFault>
     requires zones { AreKnown (D.drive device.old) zones.now }
+    // Done, these are the headers of each zone, or the first fault of its batches.
     ensures ok { IfOk result (λ reads. AreReads (D.drive device.old) reads.items) }
+    // It fails only if the drive stops or memory runs out. Whatever it answers, zones hold what they held.
     ensures err { IfErr result (IsInterruption (D.drive device.new)) }
     ensures kept { KeepsZones (D.drive device.old) (D.drive device.new) }
 {

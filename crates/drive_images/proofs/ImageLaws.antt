@@ -18,11 +18,13 @@ use Rattle.drive_images.specs.declared.fault.ImageFault.{ImageFault}
 use Rattle.drive_images.proofs.TellingLaws.{after_front, tells_first}
 
 module _ (head : List ℕ) (long : length head ≡ 64) where
+  -- the fault in the head is the first failing check of the 64 bytes at the front
   pub head_fault-at : (rest : List ℕ) → head_fault (head ++ rest) ≡ first_failing (head_checks head)
   head_fault-at rest =
       let enough : nat_lt (length (head ++ rest)) 64 ≡ false = grind (arith, nat_tests, length-append head rest) in
       rw (enough, take_at head rest 64 long) refl
 
+  -- bytes that begin with a head have the fault of its first failing check
   pub bad_head : (rest : List ℕ) (fault : ImageFault) → first_failing (head_checks head) ≡ Some fault → IsFrontFault (head ++ rest) fault
   bad_head rest fault e = inl (tells_first (head_fault (head ++ rest)) fault (head_fault-at rest ∙ e))
 
@@ -65,6 +67,7 @@ module _ (geometry : Geometry) (zones : List StoredZone) (old new : Option (List
   begins : MayBegin geometry here
   begins = record { lawful = read.are_zones.lawful; active = read.are_zones.active; open_zones = read.are_zones.open_zones }
 
+  -- the image bytes of the zones that were read are an image of their unused drive
   pub image_of : IsImage (image_bytes geometry here) (unused geometry here)
   image_of = record { text = refl; geometry = read.in_range; zones = begins; count = count; unused = refl }
 

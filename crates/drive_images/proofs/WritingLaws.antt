@@ -29,7 +29,8 @@ module _ (geometry : Geometry) (zones : List Zone) (old mid new : Option (List �
   pub head_written : Appends old mid (head_bytes geometry) → Appends old mid (head_bytes geometry ++ zones_bytes (take 0 zones))
   head_written written = rw (append-nil (head_bytes geometry)) written
 
-  pub head_fails : AppendsFront old new (head_bytes geometry) → AppendsFront old new (image_bytes geometry zones)
+  -- if the writer fails in the head, a beginning of the image is written
+  head_fails : AppendsFront old new (head_bytes geometry) → AppendsFront old new (image_bytes geometry zones)
   head_fails front = front_first old new (head_bytes geometry) (zones_bytes zones) front
 
   module _ (i : ℕ) (d : Zone) (more : i < length zones) (written : Appends old mid (head_bytes geometry ++ zones_bytes (take i zones))) where
@@ -44,9 +45,11 @@ module _ (geometry : Geometry) (zones : List Zone) (old mid new : Option (List �
         append_assoc (head_bytes geometry) (zones_bytes (take (i + 1) zones)) (zones_bytes (drop (i + 1) zones))
         ∙ ap (λ xs. head_bytes geometry ++ xs) (sym (flat_map-append zone_bytes (take (i + 1) zones) (drop (i + 1) zones)) ∙ ap zones_bytes (take-append-drop (i + 1) zones))
 
+    -- one zone more is written after the head and the zones before it
     pub zone_written : Appends mid new (zone_bytes (get_or zones i d)) → Appends old new (head_bytes geometry ++ zones_bytes (take (i + 1) zones))
     zone_written next = subst (Appends old new) joined (Appends-trans old mid new _ _ written next)
 
+    -- if the writer fails in a zone, a beginning of the image is written
     pub zone_fails : AppendsFront mid new (zone_bytes (get_or zones i d)) → AppendsFront old new (image_bytes geometry zones)
     zone_fails front = subst (AppendsFront old new) all (front_first old new _ _ (subst (AppendsFront old new) joined (front_second old mid new _ _ written front)))
 

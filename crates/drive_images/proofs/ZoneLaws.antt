@@ -31,29 +31,35 @@ module _ (geometry : Geometry) (counts : ZoneCounts) where
       by_length true t = rw t (rw t at e)
       by_length false f = cc (rw f at e)
 
-  pub tells_short_head : (bytes : List ℕ) (fault : ImageFault) → TellsFirst (short_of 8 bytes) fault → TellsFirst (zone_fault geometry counts bytes) fault
+  -- what is told of a zone head that is too short is told of the zone
+  tells_short_head : (bytes : List ℕ) (fault : ImageFault) → TellsFirst (short_of 8 bytes) fault → TellsFirst (zone_fault geometry counts bytes) fault
   tells_short_head bytes fault t = tells_so (short_of 8 bytes) (zone_fault geometry counts bytes) fault (short_head bytes fault) t
 
   -- a head, and the bytes after it
-  pub zone_fault-at : (head rest : List ℕ) → length head ≡ 8 → zone_fault geometry counts (head ++ rest) ≡ fault_with geometry counts (length rest) (told_head head)
+  zone_fault-at : (head rest : List ℕ) → length head ≡ 8 → zone_fault geometry counts (head ++ rest) ≡ fault_with geometry counts (length rest) (told_head head)
   zone_fault-at head rest long =
       let enough : nat_lt (length (head ++ rest)) 8 ≡ false = grind (arith, nat_tests, length-append head rest) in
       rw (enough, take_at head rest 8 long, drop_at head rest 8 long) refl
 
+  -- a fault that the 8 bytes of a head tell is told of the zone
   pub tells_bad_head : (head rest : List ℕ) (fault : ImageFault) → length head ≡ 8 → told_head head ≡ Err fault → TellsFirst (zone_fault geometry counts (head ++ rest)) fault
   tells_bad_head head rest fault long e = tells_first _ fault (zone_fault-at head rest long ∙ ap (fault_with geometry counts (length rest)) e)
 
   module _ (head : List ℕ) (told : ZoneHead) (long : length head ≡ 8) (e : told_head head ≡ Ok told) where
+    -- after a good head, the fault of a zone is what the checks of that head find
     pub told-at : (rest : List ℕ) → zone_fault geometry counts (head ++ rest) ≡ fault_with geometry counts (length rest) (Ok told)
     told-at rest = zone_fault-at head rest long ∙ ap (fault_with geometry counts (length rest)) e
 
+    -- a zone whose state may not hold that many blocks has the fault `Written`
     pub too_many : (rest : List ℕ) → may_hold told.state geometry.capacity told.written ≡ false → zone_fault geometry counts (head ++ rest) ≡ Some faults.Written
     too_many rest bad = told-at rest ∙ rw bad refl
 
     module _ (fits : may_hold told.state geometry.capacity told.written ≡ true) where
+      -- a zone that makes too many zones active or open has the fault `Limits`
       pub over_limit : (rest : List ℕ) → is_over_limit geometry (counts_with counts told.state) ≡ true → zone_fault geometry counts (head ++ rest) ≡ Some faults.Limits
       over_limit rest bad = told-at rest ∙ rw (fits, bad) refl
 
+      -- a fault that is told of too few bytes for the blocks is told of the zone
       pub tells_short_zone : (rest : List ℕ) (fault : ImageFault) → is_over_limit geometry (counts_with counts told.state) ≡ false
           → TellsFirst (short_of (told.written * geometry.block) rest) fault → TellsFirst (zone_fault geometry counts (head ++ rest)) fault
       tells_short_zone rest fault within t = tells_so _ (zone_fault geometry counts (head ++ rest)) fault (λ short. told-at rest ∙ rw (fits, within) short) t
@@ -64,12 +70,15 @@ module _ (block written : ℕ) (bytes : List ℕ) (some : 1 ≤ block) (long : l
   count-whole : length bytes / block ≡ written
   count-whole = let sum : length bytes ≡ written * block + 0 = omega arith in rw sum (div-mul-add written block 0 some)
 
+  -- bytes as long as a number of blocks are whole blocks
   pub is-whole : AreWholeBlocks block bytes
   is-whole = rw count-whole long
 
+  -- the bytes of a zone in an image are its head, and then its written bytes
   pub zone_bytes-is : (state : ZoneState) → zone_bytes (zone_stored block (record { state = state; bytes = bytes })) ≡ zone_head_bytes state written ++ bytes
   zone_bytes-is state = rw (count-whole, length-cut block written bytes, concat-cut block written bytes long) refl
 
+  -- a stored zone whose state may hold its blocks is lawful
   pub is-lawful : (geometry : Geometry) (state : ZoneState) → geometry.block ≡ block → may_hold state geometry.capacity written ≡ true → IsLawfulZone geometry (zone_stored block (record { state = state; bytes = bytes }))
   is-lawful geometry state e fits = record {
     written = rw (count-whole, length-cut block written bytes) (may_hold-true state geometry.capacity written fits);

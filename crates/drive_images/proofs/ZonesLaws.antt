@@ -52,10 +52,12 @@ zones_of-more : (block : ℕ) (zones : List StoredZone) (zone : StoredZone) → 
 zones_of-more block zones zone = map-append (zone_stored block) zones (zone ∷ [])
 
 module _ (geometry : Geometry) (zones : List StoredZone) (zone : StoredZone) (counts after : ZoneCounts) (old mid new : Option (List ℕ)) where
+  -- after one zone more is read, the counts are the counts of all zones so far
   pub counts_next : counts ≡ counts_of (zones_of geometry.block zones) → ReadsStoredZone geometry mid new counts zone after → after ≡ counts_of (zones_of geometry.block (zones ++ zone ∷ []))
   counts_next same next =
       next.counts ∙ ap (λ (c : ZoneCounts). counts_with c zone.state) same ∙ sym (counts-more (zones_of geometry.block zones) (zone_stored geometry.block zone)) ∙ ap counts_of (sym (zones_of-more geometry.block zones zone))
 
+  -- if one zone more is read after others, all of them are read together
   pub zones_next : counts ≡ counts_of (zones_of geometry.block zones) → ReadsStoredZones geometry old mid zones → ReadsStoredZone geometry mid new counts zone after → ReadsStoredZones geometry old new (zones ++ zone ∷ [])
   zones_next same read next =
       let before = zones_of geometry.block zones in
@@ -74,9 +76,11 @@ no_zones geometry old = record { text = Consumes-nil old; whole = tt; begins = r
 -- ---- a fault after some zones
 
 module _ (geometry : Geometry) (zones : List StoredZone) (old mid : Option (List ℕ)) (read : ReadsStoredZones geometry old mid zones) where
+  -- the zones that were read, cut into blocks
   abbrev pub before : List Zone
   before = zones_of geometry.block zones
 
+  -- a fault in the next zone is a fault in a zone of all the bytes
   pub fails_next : (counts : ZoneCounts) (fault : ImageFault) → counts ≡ counts_of before → length zones < geometry.zones
       → IfSome mid (λ rest. TellsFirst (zone_fault geometry counts rest) fault) → IfSome old (λ bytes. FailsInZone geometry bytes fault)
   fails_next counts fault same more told =

@@ -21,6 +21,7 @@ pub record LiveTo (first now : TablesView) (zone : ℕ) (live : LiveCount) (from
   pub all : live.written + live.trimmed ≡ length blocks
   pub few : length blocks ≤ from
 
+-- at the start no record of a zone is met, and none is counted
 pub live-to-none : (tables : TablesView) (zone : ℕ) → LiveTo tables tables zone (record { written = 0; trimmed = 0 }) 0
 live-to-none tables zone = record { blocks = []; so_far = live-none tables zone; all = omega arith; few = omega arith }
 
@@ -33,12 +34,14 @@ record-counts live places.None = record { written = omega arith; all = omega ari
 record-counts live (places.Trimmed address) = record { written = omega arith; all = omega arith }
 record-counts live (places.At address) = record { written = refl; all = omega arith }
 
+-- a next live record: its block is below the size, and it is counted with the others
 pub record LiveToNext (first now : TablesView) (zone : ℕ) (live : LiveCount) (from block : ℕ) (place : Place) : Type 0 where
   pub after : from ≤ block
   pub in_range : block < size_of first
   pub fits : live.written + live.trimmed + 1 ≤ size_of first
   pub more : LiveTo first now zone (counting_record live place) (block + 1)
 
+-- the first record of a zone from a block on is the next one to be counted
 pub live-to-next : (first now new : TablesView) (zone : ℕ) (live : LiveCount) (from block : ℕ) (place : Place) → LiveTo first now zone live from → Some (block, place) ≡ first_record now.map zone from → new ≡ now
     → LiveToNext first new zone live from block place
 live-to-next first now new zone live from block place to found kept =
@@ -56,10 +59,12 @@ live-to-next first now new zone live from block place to found kept =
       };
     }
 
+-- a count of all live records of a zone: the ones with data, and all together
 pub record LiveInZone (first : TablesView) (zone : ℕ) (live : LiveCount) : Type 0 where
   pub written : live.written ≡ data_in first.map.zone_size zone first.map.places
   pub all : live.written + live.trimmed ≡ length (blocks_in first.map.zone_size zone 0 first.map.places)
 
+-- if no record comes after the counted ones, all live records of the zone are counted
 pub live-to-end : (first now : TablesView) (zone : ℕ) (live : LiveCount) (from : ℕ) → LiveTo first now zone live from → None ≡ first_record now.map zone from → LiveInZone first zone live
 live-to-end first now zone live from to found =
     let all = live-end first now zone to.blocks live.written from to.so_far found in
@@ -67,33 +72,12 @@ live-to-end first now zone live from to found =
 
 -- ---- the records of all zones
 
+-- the blocks below a bound are counted: how many have data, and how many are trimmed
 pub record LiveBelow (all : List Place) (live : LiveCount) (block : ℕ) : Type 0 where
   pub written : live.written + count_by is_data_place (drop block all) ≡ count_by is_data_place all
   pub trimmed : live.trimmed + count_by is_trim_place (drop block all) ≡ count_by is_trim_place all
   pub few : live.written + live.trimmed ≤ block
 
-record PlaceCounts (live : LiveCount) (place : Place) : Type 0 where
-  written : (counting_place live place).written ≡ live.written + cond (is_data_place place) 1 0
-  trimmed : (counting_place live place).trimmed ≡ live.trimmed + cond (is_trim_place place) 1 0
-  few : (counting_place live place).written + (counting_place live place).trimmed ≤ live.written + live.trimmed + 1
-
-place-counts : (live : LiveCount) (place : Place) → PlaceCounts live place
-place-counts live places.None = record { written = omega arith; trimmed = omega arith; few = omega arith }
-place-counts live (places.Trimmed address) = record { written = omega arith; trimmed = omega arith; few = omega arith }
-place-counts live (places.At address) = record { written = omega arith; trimmed = omega arith; few = omega arith }
-
+-- below block 0 nothing is counted
 pub live-below-none : (all : List Place) → LiveBelow all (record { written = 0; trimmed = 0 }) 0
 live-below-none all = record { written = omega arith; trimmed = omega arith; few = omega arith }
-
-pub live-below-next : (all : List Place) (live : LiveCount) (block : ℕ) (d : Place) → block < length all → LiveBelow all live block → LiveBelow all (counting_place live (get_or all block d)) (block + 1)
-live-below-next all live block d lt below =
-    let place = get_or all block d in
-    let counts = place-counts live place in
-    let rest : drop block all ≡ place ∷ drop (block + 1) all = rw (add-one, drop-cons all block d lt) refl in
-    let written : count_by is_data_place (drop block all) ≡ cond (is_data_place place) 1 0 + count_by is_data_place (drop (block + 1) all) = ap (count_by is_data_place) rest ∙ count-cons is_data_place place (drop (block + 1) all) in
-    let trimmed : count_by is_trim_place (drop block all) ≡ cond (is_trim_place place) 1 0 + count_by is_trim_place (drop (block + 1) all) = ap (count_by is_trim_place) rest ∙ count-cons is_trim_place place (drop (block + 1) all) in
-    record {
-      written = omega (arith, counts.written, written, below.written);
-      trimmed = omega (arith, counts.trimmed, trimmed, below.trimmed);
-      few = omega (arith, counts.few, below.few);
-    }

@@ -102,9 +102,11 @@ holds-zone drive n survey tables zone info known placed tells =
 
 -- ---- zone after zone
 
+-- each info in a list tells of the zone with its number
 abbrev pub EachTold : List ScannedZone → MapView → List ZoneInfo → Type 0
 EachTold scanned map infos = (zone : ℕ) (info : ZoneInfo) → slice_get infos zone ≡ Some info → TellsZone scanned map zone info
 
+-- an empty list holds only such infos
 pub each-none : (scanned : List ScannedZone) (map : MapView) → EachTold scanned map []
 each-none scanned map zone info there = absurd (cc)
 
@@ -115,10 +117,12 @@ each-append P [] x all here (suc z) y there = absurd (cc)
 each-append P (w ∷ ws) x all here zero y there = all zero y there
 each-append P (w ∷ ws) x all here (suc z) y there = each-append (λ k. P (suc k)) ws x (λ k v h. all (suc k) v h) here z y there
 
+-- the zones below a number are told, with one info for each
 pub record ToldTo (scanned : List ScannedZone) (map : MapView) (infos : List ZoneInfo) (zone : ℕ) : Type 0 where
   pub count : length infos ≡ zone
   pub each : EachTold scanned map infos
 
+-- once one zone more is told, all zones below the next number are told
 pub told-next : (scanned : List ScannedZone) (map : MapView) (infos more : List ZoneInfo) (zone : ℕ) (info : ZoneInfo) → length infos ≡ zone → EachTold scanned map infos → TellsZone scanned map zone info → more ≡ infos ++ info ∷ []
     → ToldTo scanned map more (zone + 1)
 told-next scanned map infos more zone info count each one is = rw is (record {
@@ -128,6 +132,7 @@ told-next scanned map infos more zone info count each one is = rw is (record {
 
 -- ---- the drive
 
+-- what is counted from a survey and its tables is what the drive holds
 pub holds-drive : (drive : DriveState) (n : ℕ) (survey : Survey) (tables : TablesView) (holdings : Holdings) → Knows drive n (drive_logs drive) survey → IsPlaced drive.geometry n (drive_logs drive) tables
     → holdings.most ≡ most_size drive.geometry → holdings.said ≡ greatest_in (heads_in survey.scanned.items) → holdings.size ≡ survey.size
     → holdings.greatest ≡ greatest_sequence (sequences_in (heads_in survey.scanned.items))

@@ -30,6 +30,7 @@ use Rattle.drive_info.proofs.WorkLaws.{foretells, foretells-before}
 
 -- ---- a drive that can be mounted
 
+-- a survey that was made is the survey of a drive with this geometry
 pub was-surveyed : (old middle : DriveState) (n : ℕ) (survey : Survey) (geometry : Geometry) → geometry ≡ old.geometry → KeepsZones old middle → Surveys old middle n survey → WasSurveyed geometry survey.given survey
 was-surveyed old middle n survey geometry same k is = record {
   drive = middle;
@@ -38,6 +39,7 @@ was-surveyed old middle n survey geometry same k is = record {
   knows = known-own middle n (drive_logs middle) survey (survey-knows old middle n survey k is);
 }
 
+-- holdings by a survey, and the work of a planned mount, are the info of a drive
 pub info-found : (old middle last : DriveState) (n : ℕ) (first second : Survey) (geometry : Geometry) (plan : Plan) (holdings : Holdings) (work : MountWork) → geometry ≡ old.geometry → IsLawful old
     → KeepsZones old middle → Surveys old middle n first → KeepsZones middle last → IsPlanned last n second plan
     → ((drive : DriveState) → drive.geometry ≡ geometry → Knows drive first.given (drive_logs drive) first → AreHoldings drive first.given holdings) → IsWorkOf geometry plan work
@@ -72,16 +74,15 @@ refuses drive last n fault (inl memory) is = absurd (is.0 memory)
 refuses drive last n fault (inr (inl halted)) is = absurd (is.1 halted.0)
 refuses drive last n fault (inr (inr fails)) is = fails
 
+-- if its error is a refusal, what was found is the drive's info or the mount's fault
 pub found-so : (drive last : DriveState) (n : ℕ) (found same : Result Info MountFault) → IfOk found (IsInfo drive n) → IfErr found (FailsBy (MountFails drive n) last) → same ≡ found → IfErr same IsRefusal → InfoOrRefusal drive n same
 found-so drive last n (Ok info) same is fails e refusal = subst (InfoOrRefusal drive n) (sym e) is
 found-so drive last n (Err fault) same is fails e refusal =
     subst (InfoOrRefusal drive n) (sym e) (refuses drive last n fault fails (subst (λ (r : Result Info MountFault). IfErr r IsRefusal) e refusal))
 
-pub interrupted-so : (drive last : DriveState) (n : ℕ) (found : Result Info MountFault) (fault : MountFault) → IfErr found (FailsBy (MountFails drive n) last) → found ≡ Err fault → (IsRefusal fault → ⊥) → IsInterruption last fault
-interrupted-so drive last n found fault fails e none = interrupts drive last n fault (subst (λ (r : Result Info MountFault). IfErr r (FailsBy (MountFails drive n) last)) e fails) none
-
 -- ---- its zones
 
+-- zones that were reported of a drive were so reported before controllers closed zones
 pub reported-before : (old new : DriveState) (zones : List ReportedZone) → KeepsZones old new → (IsInRange new.geometry → WereReported new zones) → IsInRange old.geometry → WereReported old zones
 reported-before old new zones k were range =
     let is = were (rw k.geometry range) in
@@ -93,6 +94,7 @@ reported-before old new zones k were range =
 
 -- ---- its mount
 
+-- a mount that is done, or fails for a cause, is a rehearsal of the drive
 pub rehearsed-so : (old new : DriveState) (n : ℕ) (mounted : Result Rehearsal MountFault) → IfOk mounted (Rehearses old new n) → IfErr mounted (FailsBy (MountFails old n) new) → IsRehearsed old new n mounted
 rehearsed-so old new n (Ok rehearsal) is fails = is
 rehearsed-so old new n (Err fault) is fails = fails

@@ -21,7 +21,7 @@ use Rattle.drive_survey.specs.Scan.{AreKnown}
 use Rattle.drive_survey.proofs.ReadLaws.{kept-contents}
 use Rattle.remount.specs.declared.plan.Plan.{Plan}
 use Rattle.remount.specs.declared.repair.Repair.{Repair}
-use Rattle.remount.specs.Mount.{AreToEmpty, IsPlanned, Plans}
+use Rattle.remount.specs.Mount.{AreToEmpty, IsPlanned, PlansRepair}
 use Rattle.remount.specs.Resets.{reported_empty}
 use Rattle.remount.proofs.TornPlanLaws.{counts-live}
 use Rattle.drive_info.specs.declared.info.MountWork.{MountWork}
@@ -84,7 +84,7 @@ empties drive survey zones known are = record {
 -- ---- the torn zone
 
 repairs : (drive : DriveState) (n : ℕ) (logs : List (List Batch)) (survey : Survey) (plan : Option Repair) (told : Option TornRepair) → Knows drive n logs survey
-    → Plans drive.geometry n logs (zone_tails (contents drive.zones)) plan → TellsRepair drive.geometry plan told → RepairsAny drive.geometry (encoded_size n logs) logs (zone_tails (contents drive.zones)) told
+    → PlansRepair drive.geometry n logs (zone_tails (contents drive.zones)) plan → TellsRepair drive.geometry plan told → RepairsAny drive.geometry (encoded_size n logs) logs (zone_tails (contents drive.zones)) told
 repairs drive n logs survey None told known none tells = subst (RepairsAny drive.geometry (encoded_size n logs) logs (zone_tails (contents drive.zones))) (sym tells) none
 repairs drive n logs survey (Some repair) told known is tells =
     let counts = counts-live drive n logs survey repair.zone known in
@@ -96,6 +96,7 @@ repairs drive n logs survey (Some repair) told known is tells =
 
 -- ---- all of it
 
+-- the work of a planned mount tells what a mount does to the drive
 pub foretells : (drive : DriveState) (n : ℕ) (survey : Survey) (plan : Plan) (work : MountWork) → IsPlanned drive n survey plan → IsWorkOf drive.geometry plan work → Foretells drive n work
 foretells drive n survey plan work planned is =
     let vacant : work.vacant.items ≡ plan.vacant.items = ap (λ v. v.items) is.vacant in
@@ -106,6 +107,7 @@ foretells drive n survey plan work planned is =
       torn = rw half (repairs drive n (cleared (drive_logs drive) plan.half_clean.items) survey plan.repair work.torn planned.known planned.repair is.torn);
     }
 
+-- what is foretold of a mount was the same before controllers closed zones
 pub foretells-before : (old new : DriveState) (n : ℕ) (work : MountWork) → KeepsZones old new → Foretells new n work → Foretells old n work
 foretells-before old new n work k is = record {
   vacant = record {

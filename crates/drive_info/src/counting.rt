@@ -48,6 +48,7 @@ fn counting_place(live: LiveCount, place: Place) -> LiveCount
 pub fn live_in_zone(tables: &mut Tables, zone: u32) -> LiveCount
     requires few { size_of tables.old ≤ 2 ^ 31 }
     requires zone { zone < tables.old.map.zones }
+    // The records with data are counted, and all of them together. The tables are unchanged.
     ensures written { result.written ≡ data_in tables.old.map.zone_size zone tables.old.map.places }
     ensures all { result.written + result.trimmed
         ≡ length (blocks_in tables.old.map.zone_size zone 0 tables.old.map.places) }
@@ -55,7 +56,7 @@ pub fn live_in_zone(tables: &mut Tables, zone: u32) -> LiveCount
 {
     let mut live = NONE;
     let mut from = 0;
-    while let Some((block, place)) = tables.records_of(zone, from) {
+    while let Some((block, place)) = tables.first_record(zone, from) {
         live = counting_record(live, place);
         from = block + 1;
     }

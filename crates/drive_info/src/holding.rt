@@ -40,9 +40,11 @@ fn is_torn(zone: &ScannedZone) -> bool
 
 /// What a zone holds.
 fn zone_info(tables: &mut Tables, zone: u32, scanned: &[ScannedZone]) -> ZoneInfo
+    // The tables have the zones that were scanned, and this is one of them.
     requires few { size_of tables.old ≤ 2 ^ 31 }
     requires in_range { zone < length scanned.now }
     requires zones { tables.old.map.zones ≡ length scanned.now }
+    // The answer is right by the headers and the places. The tables are unchanged.
     ensures tells { TellsZone scanned.now tables.old.map zone result }
     ensures kept { tables.new ≡ tables.old }
 {
@@ -60,9 +62,11 @@ fn zone_infos(
     tables: &mut Tables,
     scanned: &[ScannedZone],
 ) -> Result<Vec<ZoneInfo>, AllocError>
+    // The tables have the zones that were scanned.
     requires few { size_of tables.old ≤ 2 ^ 31 }
     requires in_range { length scanned.now < 2 ^ 32 }
     requires zones { tables.old.map.zones ≡ length scanned.now }
+    // Done, the answer is right by the headers and the places. The tables are unchanged, whatever it answers.
     ensures tell { IfOk result (λ infos. TellZones scanned.now tables.old.map infos.items) }
     ensures kept { tables.new ≡ tables.old }
 {

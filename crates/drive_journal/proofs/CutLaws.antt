@@ -52,14 +52,14 @@ one-body geometry a b x y is_a is_b same =
     (ap (λ (e : List ℕ). record { entry = e; bytes = a.bytes }) heads.0 ∙ ap (λ (l : List ℕ). record { entry = b.entry; bytes = l }) datas.0, ends.1)
 
 -- bytes begin with one change at most
-pub one-change : (geometry : Geometry) (a b : Change) (x y : List ℕ) → IsChange geometry a → IsChange geometry b → change_bytes a ++ x ≡ change_bytes b ++ y → (a ≡ b) × (x ≡ y)
+one-change : (geometry : Geometry) (a b : Change) (x y : List ℕ) → IsChange geometry a → IsChange geometry b → change_bytes a ++ x ≡ change_bytes b ++ y → (a ≡ b) × (x ≡ y)
 one-change geometry a b x y is_a is_b same =
     one-body geometry a b x y is_a is_b (append_cancel_left mark (body_bytes a ++ x) (body_bytes b ++ y) (sym (append_assoc mark (body_bytes a) x) ∙ same ∙ append_assoc mark (body_bytes b) y))
 
 -- ---- bytes without a whole change
 
 -- no bytes begin with no change
-pub none-nil : (geometry : Geometry) → HasNoChange geometry []
+none-nil : (geometry : Geometry) → HasNoChange geometry []
 none-nil geometry change rest is same = absurd (omega (arith, ap (λ (l : List ℕ). length l) same, length-append (change_bytes change) rest, length-change geometry change is))
 
 none-short : (geometry : Geometry) (change : Change) (n : ℕ) → IsChange geometry change → n < length (change_bytes change) → HasNoChange geometry (take n (change_bytes change))

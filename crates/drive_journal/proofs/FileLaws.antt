@@ -153,10 +153,6 @@ journal-fault geometry zones old mid (Damaged at) read fails = behind geometry z
 journal-fault geometry zones old mid Zones read fails = some_so old (λ bytes. FailsBehindImage bytes Zones) (λ bytes. IsFileFault bytes Zones)
     (λ bytes f. absurd (not-zones (begins_as_mark f.fails.rest) _ _ _ f.fails.told)) (behind geometry zones old mid read Zones fails)
 
--- a fault in an image is one of the file
-pub front-fault : (old : Option (List ℕ)) (fault : ImageFault) → IfSome old (λ bytes. IsFrontFault bytes fault) → IfSome old (λ bytes. IsFileFault bytes (Image fault))
-front-fault old fault fails = some_so old (λ bytes. IsFrontFault bytes fault) (λ bytes. IsFileFault bytes (Image fault)) (λ bytes f. inl f) fails
-
 -- a fault that is handed on
 pub handed-on : {T : Type 0} (r : Result T FileFault) (fault : FileFault) (P : FileFault → Type 0) → IsErrAnd r (λ f. f ≡ fault) → P fault → IfErr r P
 handed-on (Ok x) fault P is p = tt

@@ -12,7 +12,7 @@ use Rattle.zone_drive.specs.Habits.{MemoryDrive}
 use Rattle.drive_journal.proofs.StepLaws.{done-code}
 
 -- a completion has the code 0 just where Success was foreseen
-pub answered-code : (old new : MemoryDrive) (entry bytes completion returned : List ℕ) → AnswersByChoice old entry bytes completion returned new → (code_in completion == 0) ≡ is_success (foreseen old entry bytes).status
+answered-code : (old new : MemoryDrive) (entry bytes completion returned : List ℕ) → AnswersByChoice old entry bytes completion returned new → (code_in completion == 0) ≡ is_success (foreseen old entry bytes).status
 answered-code old new entry bytes completion returned answers =
     ap (λ (l : List ℕ). code_in l == 0) answers.completion_is ∙ done-code (foreseen old entry bytes).value (id_of entry) (foreseen old entry bytes).status
 

@@ -44,16 +44,10 @@ abbrev pub journaled : Loss → DriveState → List Zone → Option (List ℕ) �
 journaled loss inner next contents = record { drive = shown_drive loss inner next; lost = is_lost loss; contents = contents }
 
 -- a device that runs has lost nothing, and the one within runs
-pub runs-on : (loss : Loss) (inner : DriveState) (next : List Zone) → (shown_drive loss inner next).stopped ≡ false → (loss ≡ losses.Nothing) × (inner.stopped ≡ false)
+runs-on : (loss : Loss) (inner : DriveState) (next : List Zone) → (shown_drive loss inner next).stopped ≡ false → (loss ≡ losses.Nothing) × (inner.stopped ≡ false)
 runs-on losses.Nothing inner next e = (refl, e)
 runs-on losses.Change inner next e = absurd (cc e)
 runs-on losses.Completion inner next e = absurd (cc e)
-
--- what is shown is lawful
-pub lawful-shown : (loss : Loss) (inner : DriveState) (next : List Zone) (contents : Option (List ℕ)) → IsInStep (journaled loss inner next contents) → IsLawful inner → IsLawful (shown_drive loss inner next)
-lawful-shown losses.Nothing inner next contents kept lawful = lawful
-lawful-shown losses.Change inner next contents kept lawful = kept.lawful refl
-lawful-shown losses.Completion inner next contents kept lawful = kept.lawful refl
 
 lawful-stopped : (drive : DriveState) → IsLawful drive → IsLawful (record drive { stopped = true })
 lawful-stopped drive lawful = record {
@@ -79,7 +73,8 @@ if-more None (Some now) more P Q appends known f p = absurd (cc known)
 if-more (Some held) None more P Q appends known f p = absurd appends
 if-more (Some held) (Some now) more P Q appends known f p = rw appends (f held p)
 
-pub if-so : (known : Option (List ℕ)) (P Q : List ℕ → Type 0) → ((bytes : List ℕ) → P bytes → Q bytes) → IfSome known P → IfSome known Q
+-- if P of any bytes gives Q, then P of known bytes gives Q
+if-so : (known : Option (List ℕ)) (P Q : List ℕ → Type 0) → ((bytes : List ℕ) → P bytes → Q bytes) → IfSome known P → IfSome known Q
 if-so None P Q f p = tt
 if-so (Some held) P Q f p = f held p
 
@@ -88,7 +83,7 @@ appends-nothing None = tt
 appends-nothing (Some held) = sym (append-nil held)
 
 -- while nothing is lost, the bytes that store the drive are all that is to be kept
-pub going-kept : (inner : DriveState) (contents : Option (List ℕ)) → IfSome contents (λ held. IsStoredWhole held inner) → IsInStep (going_on inner contents)
+going-kept : (inner : DriveState) (contents : Option (List ℕ)) → IfSome contents (λ held. IsStoredWhole held inner) → IsInStep (going_on inner contents)
 going-kept inner contents whole = record {
   stored = if-so contents (λ held. IsStoredWhole held inner) (λ held. IsStored held inner) (λ held stored. stored.0) whole;
   whole = λ e. whole;
@@ -118,7 +113,7 @@ answers-stopped old entry bytes held stopped lawful kept = record {
 }
 
 -- a command that changes nothing, or is refused, has nothing written
-pub written-not : (entry bytes completion : List ℕ) (good : Bool) → (changes (decode_of entry) && good) ≡ false → (code_in completion == 0) ≡ good → written_by completion entry bytes ≡ []
+written-not : (entry bytes completion : List ℕ) (good : Bool) → (changes (decode_of entry) && good) ≡ false → (code_in completion == 0) ≡ good → written_by completion entry bytes ≡ []
 written-not entry bytes completion good none code = rw code (by (changes (decode_of entry)) refl good none)
   where
     by : (b : Bool) → changes (decode_of entry) ≡ b → (good : Bool) → (b && good) ≡ false → (if good then written_for entry bytes else []) ≡ []
@@ -128,7 +123,7 @@ written-not entry bytes completion good none code = rw code (by (changes (decode
     by false e false none = refl
 
 -- the device within answered, and nothing was to be written
-pub answers-plain : (inner new : DriveState) (contents : Option (List ℕ)) (entry bytes held items : List ℕ) (result : Result (List ℕ) Halt) → length entry ≡ 64 → inner.stopped ≡ false → IsLawful inner → IsLawful new
+answers-plain : (inner new : DriveState) (contents : Option (List ℕ)) (entry bytes held items : List ℕ) (result : Result (List ℕ) Halt) → length entry ≡ 64 → inner.stopped ≡ false → IsLawful inner → IsLawful new
     → SubmitAdds inner entry bytes held result items new → IfOk result (λ completion. written_by completion entry bytes ≡ []) → OnErr result (new ≡ inner) → IsInStep (going_on inner contents)
     → AnswersInStep (going_on inner contents) entry bytes held result items (going_on new contents)
 answers-plain inner new contents entry bytes held items (Ok completion) long runs was lawful gives none same kept = record {
@@ -164,7 +159,7 @@ module _ (inner : DriveState) (contents before : Option (List ℕ)) (entry bytes
       rw (written-yes entry bytes is_changing) (cut-front inner.geometry (change_of entry bytes) n (is-change inner.geometry inner.zones given.zones entry bytes given.returned given.value long is_changing effect) (rw (written-yes entry bytes is_changing) at short))
 
   -- there was no memory for it
-  pub answers-memory : AnswersInStep (going_on inner contents) entry bytes held (Err Memory) held (going_on inner before)
+  answers-memory : AnswersInStep (going_on inner contents) entry bytes held (Err Memory) held (going_on inner before)
   answers-memory = record {
     gives = adds-nothing held (λ returned. SubmitGives inner entry bytes (Err Memory) returned inner) (refl, (runs, refl));
     was_lawful = was;
@@ -175,7 +170,7 @@ module _ (inner : DriveState) (contents before : Option (List ℕ)) (entry bytes
   }
 
   -- the store failed
-  pub answers-cut : (now : Option (List ℕ)) → AppendsFront before now (written_for entry bytes) → is_some now ≡ is_some before → AnswersInStep (going_on inner contents) entry bytes held (Err Stopped) held (given_up inner inner.zones now)
+  answers-cut : (now : Option (List ℕ)) → AppendsFront before now (written_for entry bytes) → is_some now ≡ is_some before → AnswersInStep (going_on inner contents) entry bytes held (Err Stopped) held (given_up inner inner.zones now)
   answers-cut now front known = record {
     gives = adds-nothing held (λ returned. SubmitGives inner entry bytes (Err Stopped) returned (given_up inner inner.zones now).drive) (
       refl,
@@ -198,7 +193,7 @@ module _ (inner : DriveState) (contents before : Option (List ℕ)) (entry bytes
   -- the change was written
   module _ (now : Option (List ℕ)) (appends : Appends before now (written_for entry bytes)) (known : is_some now ≡ is_some before) where
     -- and the command was done
-    pub answers-done : (new : DriveState) (completion items : List ℕ) → IsLawful new → SubmitAdds inner entry bytes held (Ok completion) items new → (code_in completion == 0) ≡ is_success given.status
+    answers-done : (new : DriveState) (completion items : List ℕ) → IsLawful new → SubmitAdds inner entry bytes held (Ok completion) items new → (code_in completion == 0) ≡ is_success given.status
         → AnswersInStep (going_on inner contents) entry bytes held (Ok completion) items (going_on new now)
     answers-done new completion items lawful gives code =
         let success : is_success given.status ≡ true = ap (λ (s : Status). is_success s) good in
@@ -214,7 +209,7 @@ module _ (inner : DriveState) (contents before : Option (List ℕ)) (entry bytes
         }
 
     -- and there was no memory to do the command
-    pub answers-behind : (halt : Halt) (items : List ℕ) → SubmitAdds inner entry bytes held (Err halt) items inner → AnswersInStep (going_on inner contents) entry bytes held (Err Stopped) items (given_up inner given.zones now)
+    answers-behind : (halt : Halt) (items : List ℕ) → SubmitAdds inner entry bytes held (Err halt) items inner → AnswersInStep (going_on inner contents) entry bytes held (Err Stopped) items (given_up inner given.zones now)
     answers-behind halt items gives = record {
       gives = adds-also held items (λ returned. SubmitGives inner entry bytes (Err halt) returned inner) (λ returned. SubmitGives inner entry bytes (Err Stopped) returned (given_up inner given.zones now).drive) (λ returned none. (
         none.0,
@@ -236,10 +231,12 @@ module _ (inner : DriveState) (contents before : Option (List ℕ)) (entry bytes
 
 -- ---- an entry and its data, kept together
 
-pub kept-entry : (entry written : List ℕ) → length entry ≡ 64 → changed_entry_in (entry ++ written) ≡ entry
+-- the first 64 bytes of what is kept are the entry
+kept-entry : (entry written : List ℕ) → length entry ≡ 64 → changed_entry_in (entry ++ written) ≡ entry
 kept-entry entry written long = take_at entry written 64 long
 
-pub kept-data : (entry written : List ℕ) → length entry ≡ 64 → changed_data_in (entry ++ written) ≡ written
+-- the bytes after the entry are the data
+kept-data : (entry written : List ℕ) → length entry ≡ 64 → changed_data_in (entry ++ written) ≡ written
 kept-data entry written long = ap (λ (n : ℕ). drop n (entry ++ written)) (sym long) ∙ drop-append_seam entry written
 
 -- ---- the same of a device by its parts
@@ -266,6 +263,7 @@ module _ (loss : Loss) (inner : DriveState) (next : List Zone) (contents : Optio
   pub shown-whole : IfSome contents (λ b. IsStoredWhole b inner)
   shown-whole = kept-within.whole refl
 
+  -- a command that changes nothing, or is refused, is answered in step
   pub shown-plain : (new : DriveState) (after : List Zone) (items : List ℕ) (result : Result (List ℕ) Halt) (given : Outcome) → false ≡ (changes (decode_of entry) && is_success given.status) → IsLawful new
       → SubmitAdds inner entry bytes held result items new → IfOk result (λ completion. (code_in completion == 0) ≡ is_success given.status) → OnErr result (new ≡ inner)
       → AnswersInStep (journaled loss inner next contents) entry bytes held result items (journaled loss new after contents)
@@ -284,6 +282,7 @@ module _ (loss : Loss) (inner : DriveState) (next : List Zone) (contents : Optio
     good : given.status ≡ Success
     good = success-is given.status (both (changes (decode_of entry)) (is_success given.status) willing).1
 
+    -- if memory runs out, the answer is in step, and no change is written
     pub shown-memory : (after : List Zone) → AnswersInStep (journaled loss inner next contents) entry bytes held (Err Memory) held (journaled loss inner after before)
     shown-memory after =
         subst (λ (l : Loss). AnswersInStep (journaled l inner next contents) entry bytes held (Err Memory) held (journaled l inner after before)) (sym ran.0)
@@ -293,6 +292,7 @@ module _ (loss : Loss) (inner : DriveState) (next : List Zone) (contents : Optio
     change-is : (written : List ℕ) → written ≡ beside_bytes (decode_of entry) bytes → change_bytes (record { entry = entry; bytes = written }) ≡ written_for entry bytes
     change-is written is = rw (is, written-yes entry bytes changing) refl
 
+    -- if only a beginning of the change is written, the device stops, and the answer is in step
     pub shown-cut : (after : List Zone) (now : Option (List ℕ)) (written : List ℕ) → written ≡ beside_bytes (decode_of entry) bytes → AppendsFront before now (change_bytes (record { entry = entry; bytes = written }))
         → is_some now ≡ is_some before
         → AnswersInStep (journaled loss inner next contents) entry bytes held (Err Stopped) held (journaled losses.Change inner after now)
@@ -300,6 +300,7 @@ module _ (loss : Loss) (inner : DriveState) (next : List Zone) (contents : Optio
         subst (λ (l : Loss). AnswersInStep (journaled l inner next contents) entry bytes held (Err Stopped) held (journaled losses.Change inner after now)) (sym ran.0)
         (answers-cut inner contents before entry bytes held given long ran.1 was-within kept-within changing good can stored now (subst (AppendsFront before now) (change-is written is) front) known)
 
+    -- if the change is written and the command completed, the answer is in step
     pub shown-done : (new : DriveState) (after : List Zone) (now : Option (List ℕ)) (written completion items : List ℕ) → written ≡ beside_bytes (decode_of entry) bytes → Appends before now (change_bytes (record { entry = entry; bytes = written }))
         → is_some now ≡ is_some before → IsLawful new
         → SubmitAdds inner entry bytes held (Ok completion) items new → (code_in completion == 0) ≡ is_success given.status

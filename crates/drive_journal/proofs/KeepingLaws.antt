@@ -78,7 +78,7 @@ pub written-no : (entry bytes : List ℕ) → changes (decode_of entry) ≡ fals
 written-no entry bytes e = rw e refl
 
 -- a completion has the code 0 just where its status is Success
-pub code-of : (old new : DriveState) (entry bytes completion returned : List ℕ) (done : Completes old entry bytes completion returned new) → (code_in completion == 0) ≡ is_success done.status
+code-of : (old new : DriveState) (entry bytes completion returned : List ℕ) (done : Completes old entry bytes completion returned new) → (code_in completion == 0) ≡ is_success done.status
 code-of old new entry bytes completion returned done =
     ap (λ (l : List ℕ). code_in l == 0) done.encoded ∙ done-code done.value (id_of entry) done.status
 

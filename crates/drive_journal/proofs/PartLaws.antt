@@ -11,6 +11,7 @@ pub on-err : {T E : Type 0} (result : Result T E) (P : Type 0) → P → OnErr r
 on-err (Ok done) P p = tt
 on-err (Err fault) P p = p
 
+-- if P gives Q, and P holds after a fault, so does Q
 pub err-so : {T E : Type 0} (result : Result T E) (P Q : Type 0) → (P → Q) → OnErr result P → OnErr result Q
 err-so (Ok done) P Q f p = tt
 err-so (Err fault) P Q f p = f p
@@ -25,6 +26,7 @@ module _ (old : Option (List ℕ)) (change : Change) where
     after-mark : (new : Option (List ℕ)) → AppendsFront first new (body_bytes change) → AppendsFront old new (change_bytes change)
     after-mark new front = front_second old first new mark (body_bytes change) marks front
 
+    -- if the writer fails in the entry, a beginning of the change is written
     pub cut-entry : (new : Option (List ℕ)) → AppendsFront first new change.entry → AppendsFront old new (change_bytes change)
     cut-entry new front = after-mark new (front_first first new change.entry (change.bytes ++ seal change.entry change.bytes) front)
 
@@ -33,6 +35,7 @@ module _ (old : Option (List ℕ)) (change : Change) where
       after-entry : (new : Option (List ℕ)) → AppendsFront second new (change.bytes ++ seal change.entry change.bytes) → AppendsFront old new (change_bytes change)
       after-entry new front = after-mark new (front_second first second new change.entry (change.bytes ++ seal change.entry change.bytes) enters front)
 
+      -- if the writer fails in the data, a beginning of the change is written
       pub cut-data : (new : Option (List ℕ)) → AppendsFront second new change.bytes → AppendsFront old new (change_bytes change)
       cut-data new front = after-entry new (front_first second new change.bytes (seal change.entry change.bytes) front)
 

@@ -36,13 +36,6 @@ few-left (Some xs) (Some ys) n count buffer text long short ended =
     let none : ys ≡ [] = ended short in
     omega (arith, ap (λ (l : List ℕ). length l) (text ∙ ap (λ (l : List ℕ). take n buffer ++ l) none ∙ append-nil (take n buffer)), length-take n buffer, long, short)
 
--- a buffer that was filled was not longer than what was left
-pub many-left : (old new : Option (List ℕ)) (n count : ℕ) (buffer : List ℕ) → Consumes old new (take n buffer) → length buffer ≡ count + 1 → count < n → IfSome old (λ bytes. count < length bytes)
-many-left None new n count buffer text long full = tt
-many-left (Some xs) None n count buffer text long full = absurd text
-many-left (Some xs) (Some ys) n count buffer text long full =
-    omega (arith, ap (λ (l : List ℕ). length l) text, length-append (take n buffer) ys, length-take n buffer, long, full)
-
 -- ---- a body
 
 -- a change after this entry would have it, and its data and checksum in what follows
@@ -66,18 +59,18 @@ none-shorter : (geometry : Geometry) (bytes : List ℕ) → length bytes < 64 �
 none-shorter geometry bytes short change rest is same = absurd (omega (arith, ap (λ (l : List ℕ). length l) same, length-append (body_bytes change) rest, length-body geometry change is, short))
 
 -- an entry of no change begins none
-pub end-other : (geometry : Geometry) (old mid : Option (List ℕ)) (entry : List ℕ) → length entry ≡ 64 → Consumes old mid entry → changes (decode_of entry) ≡ false → IfSome old (HasNoBody geometry)
+end-other : (geometry : Geometry) (old mid : Option (List ℕ)) (entry : List ℕ) → length entry ≡ 64 → Consumes old mid entry → changes (decode_of entry) ≡ false → IfSome old (HasNoBody geometry)
 end-other geometry old mid entry long text e = known geometry old mid entry long text (λ rest is_rest change after is f. absurd (cc (is.changes, ap (λ (l : List ℕ). changes (decode_of l)) f.entry_is, e)))
 
 -- nor does one of more blocks than one command moves
-pub end-many : (geometry : Geometry) (old mid : Option (List ℕ)) (entry : List ℕ) → length entry ≡ 64 → Consumes old mid entry → geometry.transfer < beside_blocks (decode_of entry) → IfSome old (HasNoBody geometry)
+end-many : (geometry : Geometry) (old mid : Option (List ℕ)) (entry : List ℕ) → length entry ≡ 64 → Consumes old mid entry → geometry.transfer < beside_blocks (decode_of entry) → IfSome old (HasNoBody geometry)
 end-many geometry old mid entry long text many = known geometry old mid entry long text (λ rest is_rest change after is f. absurd (omega (arith, is.few, ap (λ (l : List ℕ). beside_blocks (decode_of l)) f.entry_is, many)))
 
 data_is : (geometry : Geometry) (entry rest after : List ℕ) (change : Change) → IsChange geometry change → Follows entry rest change after → length change.bytes ≡ beside_blocks (decode_of entry) * geometry.block
 data_is geometry entry rest after change is f = is.bytes ∙ ap (λ (l : List ℕ). beside_blocks (decode_of l) * geometry.block) f.entry_is
 
 -- nor does one with fewer bytes after it than its data
-pub end-data : (geometry : Geometry) (old mid : Option (List ℕ)) (entry : List ℕ) (count : ℕ) → length entry ≡ 64 → Consumes old mid entry → count ≡ beside_blocks (decode_of entry) * geometry.block
+end-data : (geometry : Geometry) (old mid : Option (List ℕ)) (entry : List ℕ) (count : ℕ) → length entry ≡ 64 → Consumes old mid entry → count ≡ beside_blocks (decode_of entry) * geometry.block
     → IfSome mid (λ bytes. length bytes < count) → IfSome old (HasNoBody geometry)
 end-data geometry old mid entry count long text count_is short = known geometry old mid entry long text (λ rest is_rest change after is f.
     let less : length rest < count = rw is_rest at short in
@@ -94,7 +87,7 @@ sums geometry entry bytes rest after (Some xs) (Some ys) change is_rest text lon
     (ys, refl, sym parts_are.0, parts_are.1)
 
 -- nor does one whose data another checksum follows
-pub end-wrong : (geometry : Geometry) (old mid last : Option (List ℕ)) (entry bytes : List ℕ) → length entry ≡ 64 → Consumes old mid entry → Consumes mid last bytes → length bytes ≡ beside_blocks (decode_of entry) * geometry.block
+end-wrong : (geometry : Geometry) (old mid last : Option (List ℕ)) (entry bytes : List ℕ) → length entry ≡ 64 → Consumes old mid entry → Consumes mid last bytes → length bytes ≡ beside_blocks (decode_of entry) * geometry.block
     → IfSome last (λ rest. (after : List ℕ) → rest ≡ seal entry bytes ++ after → ⊥) → IfSome old (HasNoBody geometry)
 end-wrong geometry old mid last entry bytes long text data_text data_long wrong = known geometry old mid entry long text (λ rest is_rest change after is f.
     let s = sums geometry entry bytes rest after mid last change is_rest data_text data_long is f in
@@ -103,12 +96,12 @@ end-wrong geometry old mid last entry bytes long text data_text data_long wrong 
 -- ---- a checksum
 
 -- fewer than 8 bytes do not begin with a checksum
-pub wrong-short : (known : Option (List ℕ)) (entry bytes : List ℕ) → IfSome known (λ rest. length rest < 8) → IfSome known (λ rest. (after : List ℕ) → rest ≡ seal entry bytes ++ after → ⊥)
+wrong-short : (known : Option (List ℕ)) (entry bytes : List ℕ) → IfSome known (λ rest. length rest < 8) → IfSome known (λ rest. (after : List ℕ) → rest ≡ seal entry bytes ++ after → ⊥)
 wrong-short None entry bytes short = tt
 wrong-short (Some xs) entry bytes short = λ after same. absurd (omega (arith, short, ap (λ (l : List ℕ). length l) same, length-append (seal entry bytes) after, length-seal entry bytes))
 
 -- nor do others
-pub wrong-other : (old new : Option (List ℕ)) (entry bytes sum : List ℕ) → length sum ≡ 8 → Consumes old new sum → (sum ≡ seal entry bytes → ⊥) → IfSome old (λ rest. (after : List ℕ) → rest ≡ seal entry bytes ++ after → ⊥)
+wrong-other : (old new : Option (List ℕ)) (entry bytes sum : List ℕ) → length sum ≡ 8 → Consumes old new sum → (sum ≡ seal entry bytes → ⊥) → IfSome old (λ rest. (after : List ℕ) → rest ≡ seal entry bytes ++ after → ⊥)
 wrong-other None new entry bytes sum long text wrong = tt
 wrong-other (Some xs) None entry bytes sum long text wrong = absurd text
 wrong-other (Some xs) (Some ys) entry bytes sum long text wrong = λ after same. wrong (same-front sum (seal entry bytes) ys after (long ∙ sym (length-seal entry bytes)) (sym text ∙ same)).0
@@ -218,7 +211,7 @@ module _ (old new : Option (List ℕ)) (n : ℕ) (buffer : List ℕ) (text : Con
       by (Some xs) (Some ys) text ended = rw (text, first-eight n buffer ys long most ended) other
 
   -- the reader ended in the mark
-  pub ends-in-mark : (geometry : Geometry) → starts_with nat_eq mark (take n buffer) ≡ true → n < 8 → IfSome old (IsCutOff geometry)
+  ends-in-mark : (geometry : Geometry) → starts_with nat_eq mark (take n buffer) ≡ true → n < 8 → IfSome old (IsCutOff geometry)
   ends-in-mark geometry begins short = by old new text ended
     where
       by : (old new : Option (List ℕ)) → Consumes old new (take n buffer) → (n < 8 → IsAtEnd new) → IfSome old (IsCutOff geometry)
@@ -232,29 +225,6 @@ module _ (old new : Option (List ℕ)) (n : ℕ) (buffer : List ℕ) (text : Con
             begins = rw (text, first-eight n buffer ys long most ended) begins;
             short = omega (arith, few);
           }
-
--- eight bytes that the mark begins with are the mark
-pub is-mark : (buffer : List ℕ) (n : ℕ) → length buffer ≡ 8 → 8 ≤ n → starts_with nat_eq mark (take n buffer) ≡ true → buffer ≡ mark
-is-mark buffer n long full begins =
-    let all = take_all n buffer (omega (arith, long, full)) in
-    let same = rw all at begins in
-    same_text buffer mark (sym same ∙ ap (λ (k : ℕ). pointwise nat_eq buffer (take k mark)) long)
-
-none-behind : (geometry : Geometry) (rest : List ℕ) → HasNoBody geometry rest → HasNoChange geometry (mark ++ rest)
-none-behind geometry rest none change after is same = none change after is (append_cancel_left mark rest (body_bytes change ++ after) (same ∙ append_assoc mark (body_bytes change) after))
-
--- what was found after a mark, with the mark
-pub with-mark : (geometry : Geometry) (old mid new : Option (List ℕ)) (change : Change) (found : Found) → Consumes old mid mark → FindsBody geometry mid new change found → FindsChange geometry old new change found
-with-mark geometry old mid new change found.Change text finds = record { is = finds.is; text = Consumes-trans old mid new mark (body_bytes change) text finds.text }
-with-mark geometry None mid new change found.CutOff text finds = tt
-with-mark geometry (Some xs) None new change found.CutOff text finds = absurd text
-with-mark geometry (Some xs) (Some ys) new change found.CutOff text finds =
-    rw text (record { none = none-behind geometry ys finds.0; begins = refl; short = omega (arith, length-append mark ys, finds.1) })
-with-mark geometry None mid new change found.TooLong text finds = tt
-with-mark geometry (Some xs) None new change found.TooLong text finds = absurd text
-with-mark geometry (Some xs) (Some ys) new change found.TooLong text finds =
-    rw text (none-behind geometry ys finds.0, refl, omega (arith, length-append mark ys, finds.1))
-with-mark geometry old mid new change found.Other text finds = absurd finds
 
 -- what does not begin as a change does is none
 pub other-none : (geometry : Geometry) (bytes : List ℕ) → begins_as_mark bytes ≡ false → HasNoChange geometry bytes

@@ -98,17 +98,3 @@ module _ (geometry : Geometry) (old new : Option (List ℕ)) (before after : Lis
       by : (b : Bool) → (at == from) ≡ b → IfSome old (λ bytes. IsJournalFault geometry from bytes (if at == from then Image Long else Damaged at))
       by true e = rw e (fails (Image Long) (told true e new left))
       by false e = rw e (fails (Damaged at) (told false e new left))
-
--- the reader failed, or memory ran out
-pub not-read : (geometry : Geometry) (from : ℕ) (old : Option (List ℕ)) (fault : ImageFault) → is_of_bytes fault ≡ false → IfSome old (λ bytes. IsJournalFault geometry from bytes (Image fault))
-not-read geometry from None fault e = tt
-not-read geometry from (Some xs) Input e = tt
-not-read geometry from (Some xs) OutOfMemory e = tt
-not-read geometry from (Some xs) Magic e = absurd (cc e)
-not-read geometry from (Some xs) BadGeometry e = absurd (cc e)
-not-read geometry from (Some xs) State e = absurd (cc e)
-not-read geometry from (Some xs) Written e = absurd (cc e)
-not-read geometry from (Some xs) RestNotZero e = absurd (cc e)
-not-read geometry from (Some xs) Limits e = absurd (cc e)
-not-read geometry from (Some xs) Short e = absurd (cc e)
-not-read geometry from (Some xs) Long e = absurd (cc e)

@@ -23,6 +23,7 @@ use Rattle.drive_journal.proofs.CutLaws.{length-change}
 
 -- ---- zones none of which is open
 
+-- whether a stored zone is not open
 abbrev pub is_shut : StoredZone → Bool
 is_shut zone = not (is_open zone.state)
 
@@ -103,6 +104,7 @@ module _ (bytes : List ℕ) (parts : Parts) (has : HasParts bytes parts) (drive 
       let rests : at_rest drive.zones ≡ drive.zones = ap (λ (d : DriveState). d.zones) same ∙ sym (saved-zones none) in
       rw (eq-eqb (whole_length parts) (length parts.image) (omega (arith, short)), rest-all parts.saved.geometry.block zones (rw zones_are at rests)) refl
 
+  -- the bytes are the image of the restarted drive exactly without changes and without open zones
   pub tells-image : (end from : ℕ) → end ≡ whole_length parts → from ≡ length parts.image → IsTrue ((end == from) && list_all is_shut zones) ↔ IsImage (take end bytes) (restarted drive)
   tells-image end from end_is from_is = rw (end_is, from_is) (
     (λ told. let parts_of = both _ _ told in rested-image parts_of.0 parts_of.1),

@@ -26,7 +26,7 @@ use Rattle.drive_journal.specs.Change.{Change, IsChange, beside_blocks}
 use Rattle.drive_journal.specs.Replay.{changed, replayed, stored_changed, stored_replayed, written_in}
 
 -- to set an element past the end changes nothing
-pub set-out : {X : Type 0} (xs : List X) (i : ℕ) (y : X) → length xs ≤ i → slice_set xs i y ≡ xs
+set-out : {X : Type 0} (xs : List X) (i : ℕ) (y : X) → length xs ≤ i → slice_set xs i y ≡ xs
 set-out [] i y le = refl
 set-out (x ∷ xs) zero y le = absurd (omega (arith, le))
 set-out (x ∷ xs) (suc i) y le = ap (λ (l : List _). x ∷ l) (set-out xs i y (omega (arith, le)))
@@ -112,7 +112,7 @@ whole-sent block action (zone ∷ zones) whole = (one (is_selected action zone.s
 -- ---- a change
 
 -- a change of the stored zones is one of the zones
-pub stored-zones : (geometry : Geometry) (zones : List StoredZone) (command : Result Command DecodeFault) (bytes : List ℕ) → IsInRange geometry → AreWhole geometry.block zones → length bytes ≡ beside_blocks command * geometry.block
+stored-zones : (geometry : Geometry) (zones : List StoredZone) (command : Result Command DecodeFault) (bytes : List ℕ) → IsInRange geometry → AreWhole geometry.block zones → length bytes ≡ beside_blocks command * geometry.block
     → zones_of geometry.block (stored_changed geometry zones command bytes) ≡ changed geometry (zones_of geometry.block zones) command bytes
 stored-zones geometry zones (Err fault) bytes in_range whole long = refl
 stored-zones geometry zones (Ok Flush) bytes in_range whole long = refl
@@ -124,7 +124,7 @@ stored-zones geometry zones (Ok (Send slba action true)) bytes in_range whole lo
 stored-zones geometry zones (Ok (Send slba action false)) bytes in_range whole long = sent-zones geometry zones (slba / geometry.size) action
 
 -- and keeps whole blocks
-pub stored-whole : (geometry : Geometry) (zones : List StoredZone) (command : Result Command DecodeFault) (bytes : List ℕ) → IsInRange geometry → AreWhole geometry.block zones → length bytes ≡ beside_blocks command * geometry.block
+stored-whole : (geometry : Geometry) (zones : List StoredZone) (command : Result Command DecodeFault) (bytes : List ℕ) → IsInRange geometry → AreWhole geometry.block zones → length bytes ≡ beside_blocks command * geometry.block
     → AreWhole geometry.block (stored_changed geometry zones command bytes)
 stored-whole geometry zones (Err fault) bytes in_range whole long = whole
 stored-whole geometry zones (Ok Flush) bytes in_range whole long = whole

@@ -53,16 +53,16 @@ torn_at block j (Ok (Append start blocks)) len = if nat_lt 0 j && (nat_le j bloc
 torn_at block j command len = None
 
 -- out of memory is passed on, and the device continues; it stops after every other answer
-abbrev pub halt_of : Result ℕ PortFault → Halt
-halt_of (Err faults.Memory) = Memory
-halt_of result = Stopped
+abbrev pub halt_after : Result ℕ PortFault → Halt
+halt_after (Err faults.Memory) = Memory
+halt_after result = Stopped
 
 -- one submit of an Append of the first j blocks
 pub record Tears (old : DriveState) (start j : ℕ) (bytes : List ℕ) (halt : Halt) (new : DriveState) : Type 0 where
   pub result : Result ℕ PortFault
   pub returned : List ℕ
   pub gives : CallGives old (Append start j) (take (j * old.geometry.block) bytes) result returned new
-  pub halt_is : halt ≡ halt_of result
+  pub halt_is : halt ≡ halt_after result
 
 -- what the drive within does of the command that stops
 abbrev pub TearsAt : Option ℕ → DriveState → ℕ → List ℕ → Halt → DriveState → Type 0

@@ -12,7 +12,7 @@ use Rattle.drive_store.specs.declared.kept_drive.Begun.{Begun}
 use Rattle.zone_drive.specs.declared.habit.Habit.{Habit}
 
 -- a store that holds a file, and is cut to what is whole of it, stores the drive that was read, restarted
-pub cut-stored : (held file : Option (List ℕ)) (opened : DriveState) (whole : ℕ) → HoldsFile held file → IfSome file (λ bytes. IsDriveFile bytes opened whole)
+cut-stored : (held file : Option (List ℕ)) (opened : DriveState) (whole : ℕ) → HoldsFile held file → IfSome file (λ bytes. IsDriveFile bytes opened whole)
     → IfSome (front_of whole held) (λ bytes. IsStoredWhole bytes (restarted opened))
 cut-stored None file opened whole same read = tt
 cut-stored (Some held) file opened whole same read =

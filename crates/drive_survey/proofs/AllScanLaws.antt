@@ -53,15 +53,19 @@ scans-one geometry zones zone scanned one seen seen' s there =
 
 -- ---- the drive
 
+-- each zone of a report is still known after a look at the drive
 pub all-known : (old new : DriveState) (reported : List ReportedZone) (zone : ℕ) (r : ReportedZone) → AreKnown old reported → KeepsZones old new → slice_get reported zone ≡ Some r → IsKnown new zone r
 all-known old new reported zone r known kept there = kept-known old new zone r kept (known.each zone r there)
 
+-- the zones of a drive below this number were scanned
 abbrev pub ScansTo : DriveState → List ScannedZone → ℕ → List ℕ → Type 0
 ScansTo drive scanned zone seen = ScansFirst drive.geometry (take zone (contents drive.zones)) scanned seen
 
+-- at the start no zone was scanned, and no sequence was met
 pub scans-none : (drive : DriveState) → ScansTo drive [] 0 []
 scans-none drive = record { logs = tt; none = tt; heads = refl; tails = refl; seen_are = refl }
 
+-- scanning the next zone keeps what is known of the zones before it
 pub scans-more : (first now : DriveState) (scanned more : List ScannedZone) (one : ScannedZone) (seen seen' : List ℕ) (zone : ℕ) → KeepsZones first now → zone < length first.zones → more ≡ scanned ++ one ∷ []
     → ScansTo first scanned zone seen → Scans now.geometry (content_at (contents now.zones) zone) seen one.heads one.is_torn seen' → ScansTo first more (zone + 1) seen'
 scans-more first now scanned more one seen seen' zone kept lt pushed s there =
@@ -70,6 +74,7 @@ scans-more first now scanned more one seen seen' zone kept lt pushed s there =
     let done = scans-one first.geometry (take zone (contents first.zones)) (content_at (contents first.zones) zone) scanned one seen seen' s here in
     subst (λ (zs : List Content). ScansFirst first.geometry zs more seen') (sym split) (subst (λ (sc : List ScannedZone). ScansFirst first.geometry (take zone (contents first.zones) ++ content_at (contents first.zones) zone ∷ []) sc seen') (sym pushed) done)
 
+-- the next zone's fault is the drive's first, as the zones before it have none
 pub scans-fail : (first now last : DriveState) (scanned : List ScannedZone) (seen : List ℕ) (zone : ℕ) (fault : MountFault) → KeepsZones first now → zone < length first.zones → ScansTo first scanned zone seen
     → FailsBy (FailsIn now.geometry (content_at (contents now.zones) zone) zone seen) last fault → FailsBy (FailsFirst first.geometry (contents first.zones)) last fault
 scans-fail first now last scanned seen zone fault kept lt s fails = fails-more _ _ last fault more fails
@@ -79,12 +84,14 @@ scans-fail first now last scanned seen zone fault kept lt s fails = fails-more _
         let here : FailsIn first.geometry (content_at (contents first.zones) zone) zone seen f = rw (kept.geometry, kept-contents first now kept) at there in
         record { zone = zone; in_range = omega (arith, lt, length-map first.zones content_of); logs = s.logs; none = s.none; fails = subst (λ (x : List ℕ). FailsIn first.geometry (content_at (contents first.zones) zone) zone x f) s.seen_are here }
 
+-- with no zone left, all logs of the drive have no fault, and their headers are kept
 pub scans-all : (first : DriveState) (scanned : List ScannedZone) (seen : List ℕ) (zone : ℕ) → length first.zones ≤ zone → ScansTo first scanned zone seen → ScansAll first.geometry (contents first.zones) scanned
 scans-all first scanned seen zone le s =
     let whole : take zone (contents first.zones) ≡ contents first.zones = take_all zone (contents first.zones) (omega (arith, le, length-map first.zones content_of)) in
     let all = subst (λ (zs : List Content). ScansFirst first.geometry zs scanned seen) whole s in
     record { logs = all.logs; none = all.none; heads = all.heads; tails = all.tails }
 
+-- reading a list at an index below its length gives the element there
 pub there-is : {X : Type 0} (xs : List X) (i : ℕ) (d : X) → i < length xs → slice_get xs i ≡ Some (get_or xs i d)
 there-is [] i d lt = absurd (omega arith)
 there-is (x ∷ xs) zero d lt = refl

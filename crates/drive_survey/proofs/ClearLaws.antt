@@ -28,6 +28,7 @@ pub record Forgets (old new : Survey) (zone : ℕ) : Type 0 where
   pub size : new.size ≡ old.size
   pub given : new.given ≡ old.given
 
+-- once a half clean zone is forgotten, the survey knows the logs without it
 pub knows-less : (drive : DriveState) (n : ℕ) (logs : List (List Batch)) (old new : Survey) (zone : ℕ) → Knows drive n logs old → IsHalfClean drive.geometry.block n logs zone → Forgets old new zone → Knows drive n (without logs zone) new
 knows-less drive n logs old new zone known half forgets =
     let emptied = empty_spare drive.geometry.block (2 ^ 63) n zone logs known.sound half.spare in
@@ -56,10 +57,12 @@ pub record ClearsSoFar (first now : DriveState) (n : ℕ) (survey : Survey) (res
   pub known : Knows now n (cleared (drive_logs first) resets) survey
   pub lead : (rest : List ℕ) → IsClearing first.geometry.block n (cleared (drive_logs first) resets) rest → IsClearing first.geometry.block n (drive_logs first) (resets ++ rest)
 
-pub clears-none : (drive : DriveState) (n : ℕ) (survey : Survey) → Knows drive n (drive_logs drive) survey → ClearsSoFar drive drive n survey []
+-- at the start a survey that knows the drive's logs has cleared no zone
+clears-none : (drive : DriveState) (n : ℕ) (survey : Survey) → Knows drive n (drive_logs drive) survey → ClearsSoFar drive drive n survey []
 clears-none drive n survey known = record { kept = keeps-none drive known.zones.lawful; known = known; lead = λ rest is. is }
 
-pub clears-more : (first old new : DriveState) (n : ℕ) (before after : Survey) (resets more : List ℕ) (zone : ℕ) → ClearsSoFar first old n before resets → KeepsZones old new → IsLowest first.geometry.block n (cleared (drive_logs first) resets) zone → Forgets before after zone → more ≡ resets ++ zone ∷ []
+-- clearing the lowest half clean zone adds it to the zones that were cleared
+clears-more : (first old new : DriveState) (n : ℕ) (before after : Survey) (resets more : List ℕ) (zone : ℕ) → ClearsSoFar first old n before resets → KeepsZones old new → IsLowest first.geometry.block n (cleared (drive_logs first) resets) zone → Forgets before after zone → more ≡ resets ++ zone ∷ []
     → ClearsSoFar first new n after more
 clears-more first old new n before after resets more zone so_far kept lowest forgets pushed =
     let all = keeps-both first old new so_far.kept kept in
@@ -87,6 +90,7 @@ clears-fewer block_bytes n logs resets more zone lowest pushed =
 
 -- ---- none is left
 
+-- when no half clean zone is left, the zones that were cleared are a whole clearing
 pub clears-all : (first now : DriveState) (n : ℕ) (survey : Survey) (resets : List ℕ) → ClearsSoFar first now n survey resets → FindsLowest first.geometry.block n (cleared (drive_logs first) resets) None → IsClearing first.geometry.block n (drive_logs first) resets
 clears-all first now n survey resets so_far none = subst (IsClearing first.geometry.block n (drive_logs first)) (append-nil resets) (so_far.lead [] none)
 
@@ -98,6 +102,7 @@ pub record SearchesOn (first now : DriveState) (n : ℕ) (survey : Survey) (cand
   pub are : AreCandidates now n (cleared (drive_logs first) resets) survey candidates
   pub wait : AllWait now n (cleared (drive_logs first) resets) candidates
 
+-- a search begins with each half clean zone waiting, and none cleared
 pub searches-none : (drive : DriveState) (n : ℕ) (survey : Survey) (candidates : Candidates) → Knows drive n (drive_logs drive) survey
     → ((d : DriveState) (k : ℕ) (logs : List (List Batch)) → Knows d k logs survey → AreCandidates d k logs survey candidates)
     → ((d : DriveState) (k : ℕ) (logs : List (List Batch)) → Knows d k logs survey → AllWait d k logs candidates) → SearchesOn drive drive n survey candidates []
@@ -112,6 +117,7 @@ next-known first old n survey candidates resets found on finds = subst (λ (g : 
 pub finds-given : (drive : DriveState) (n k : ℕ) (survey : Survey) (candidates : Candidates) (found : Option ℕ) → k ≡ n → FindsLowestWaiting drive k survey candidates found → FindsLowestWaiting drive n survey candidates found
 finds-given drive n k survey candidates found same finds = subst (λ (j : ℕ). FindsLowestWaiting drive j survey candidates found) same finds
 
+-- the other half clean zones still wait, also by the number that was given
 pub leaves-given : (drive : DriveState) (n k : ℕ) (survey : Survey) (old new : Candidates) (zone : ℕ) → k ≡ n → LeavesWaiting drive k survey old new zone → LeavesWaiting drive n survey old new zone
 leaves-given drive n k survey old new zone same leaves = subst (λ (j : ℕ). LeavesWaiting drive j survey old new zone) same leaves
 
@@ -129,6 +135,7 @@ pub record GivesUp (before after : Survey) (old new : Candidates) (zone : ℕ) :
   pub are : (drive : DriveState) (n : ℕ) (logs : List (List Batch)) → AreCandidates drive n logs before old → IsHalfClean drive.geometry.block n logs zone → AreCandidates drive n (without logs zone) after new
   pub wait : (drive : DriveState) (n : ℕ) (logs : List (List Batch)) → AreCandidates drive n logs before old → IsHalfClean drive.geometry.block n logs zone → OthersWait drive n logs old zone → AllWait drive n (without logs zone) new
 
+-- a search that forgets the lowest half clean zone still has each other one waiting
 pub searches-more : (first old new : DriveState) (n : ℕ) (before after : Survey) (begin taken left : Candidates) (resets more : List ℕ) (zone : ℕ) → SearchesOn first old n before begin resets → KeepsZones old new
     → taken.records ≡ begin.records → taken.sizes ≡ begin.sizes → FindsLowestWaiting old n before begin (Some zone)
     → ((logs : List (List Batch)) → AreCandidates old n logs before begin → AllWait old n logs begin → OthersWait old n logs taken zone)
@@ -149,17 +156,14 @@ searches-more first old new n before after begin taken left resets more zone on 
 
 -- ---- a zone to spare
 
+-- clearing these zones, one after the other, leaves no half clean zone
 abbrev pub IsCleared : DriveState → ℕ → List ℕ → Type 0
 IsCleared drive n resets = IsClearing drive.geometry.block n (drive_logs drive) resets
 
+-- a drive where a clearing empties a zone has a zone to spare
 pub cleared-spare : (drive : DriveState) (n : ℕ) (resets : List ℕ) → (length resets ≡ 0 → ⊥) → IsCleared drive n resets → HasSpare drive.geometry.block n (drive_logs drive)
 cleared-spare drive n [] some is = absurd (some refl)
 cleared-spare drive n (z ∷ zs) some is = record { zone = z; in_range = is.0.in_range; spare = inr is.0.half_clean }
-
-pub vacant-spare : (drive now : DriveState) (n : ℕ) (resets : List ℕ) (survey : Survey) → length resets ≡ 0 → Knows now n (cleared (drive_logs drive) resets) survey → ((logs : List (List Batch)) → AreOf survey.scanned.items logs → HasVacant logs)
-    → HasSpare drive.geometry.block n (drive_logs drive)
-vacant-spare drive now n [] survey none known vacant = let here = vacant (drive_logs drive) known.heads in record { zone = here.zone; in_range = here.in_range; spare = inl here.vacant }
-vacant-spare drive now n (z ∷ zs) survey none known vacant = absurd (omega (arith, none))
 
 -- no zone was cleared, and none is vacant
 pub no-spare : (drive now : DriveState) (n : ℕ) (resets : List ℕ) (survey : Survey) → length resets ≡ 0 → IsCleared drive n resets → Knows now n (cleared (drive_logs drive) resets) survey → ((logs : List (List Batch)) → AreOf survey.scanned.items logs → HasVacant logs → ⊥)

@@ -27,6 +27,7 @@ use Rattle.drive_survey.proofs.RecordTableLaws.{at-is}
 
 -- ---- one batch
 
+-- one Read of a header takes its batch, or stays within the blocks that are left
 pub met-reads : (zone : ℕ) (reported : ReportedZone) (old new : HeadsView) (seen seen' : List ℕ) (heading : Heading) (result : Result (Option Bool) MountFault) (before after : DriveState) → old.blocks < reported.blocks
     → after.completed ≤ before.completed + 1 → MeetsHeader zone reported old seen heading result new seen' → ReadsNext reported old result new before after
 met-reads zone reported old new seen seen' heading (Ok None) before after lt one met =
@@ -41,6 +42,7 @@ pub record ReadsSoFar (reported : ReportedZone) (heads : HeadsView) (first now :
   pub few : length heads.heads ≤ heads.blocks
   pub inside : heads.blocks ≤ reported.blocks
 
+-- after one more batch, the Reads of a zone are still no more than its batches
 pub reads-next : (reported : ReportedZone) (old new : HeadsView) (next : Option Bool) (first before after : DriveState) → ReadsSoFar reported old first before → ReadsNext reported old (Ok next) new before after → ((t : Bool) → next ≡ Some t → ⊥)
     → ReadsSoFar reported new first after
 reads-next reported old new None first before after far reads never = record {
@@ -52,6 +54,7 @@ reads-next reported old new (Some t) first before after far reads never = absurd
 
 -- ---- all zones
 
+-- the bound on the Reads of the first zones holds with the next zone added
 pub reads-more : (first now last : DriveState) (zones : List ReportedZone) (zone : ℕ) (d : ReportedZone) (scanned more : List ScannedZone) (one : ScannedZone) → zone < length zones → more ≡ scanned ++ one ∷ []
     → ReadsOfZones (take zone zones) scanned first now → last.completed + one.heads.blocks ≤ now.completed + length one.heads.heads + (get_or zones zone d).blocks
     → ReadsOfZones (take (zone + 1) zones) more first last
@@ -61,12 +64,14 @@ reads-more first now last zones zone d scanned more one lt pushed reads here =
     let kept = sum_by_push (λ (z : ScannedZone). length z.heads.heads) scanned one in
     rw pushed (omega (arith, blocks, taken, kept, reads, here))
 
+-- reading no more than a zone's reported blocks keeps the bound on all Reads so far
 pub blocks-more : (first now last : DriveState) (zones : List ReportedZone) (zone : ℕ) (d : ReportedZone) → zone < length zones → now.completed ≤ first.completed + blocks_reported (take zone zones)
     → last.completed ≤ now.completed + (get_or zones zone d).blocks → last.completed ≤ first.completed + blocks_reported (take (zone + 1) zones)
 blocks-more first now last zones zone d lt far here =
     let blocks = sum_by_more (λ (z : ReportedZone). z.blocks) zones zone d lt in
     omega (arith, blocks, far, here)
 
+-- the first zones of a report have no more blocks than all of them
 pub blocks-within : (zones : List ReportedZone) (zone : ℕ) → blocks_reported (take zone zones) ≤ blocks_reported zones
 blocks-within zones zone = sum_by-take-le (λ (z : ReportedZone). z.blocks) zones zone
 
@@ -85,10 +90,12 @@ counts geometry (r ∷ rs) (z ∷ zs) same each =
     let right = sum_by-cons (λ (zone : Content). length (readable geometry zone)) z zs in
     omega (arith, first, rest, left, right)
 
+-- a report whose zones are known counts the readable blocks of the drive
 pub known-count : (drive : DriveState) (reported : List ReportedZone) → AreKnown drive reported → blocks_reported reported ≡ readable_count drive
 known-count drive reported known =
     counts drive.geometry reported (contents drive.zones) (known.count ∙ sym (length-map drive.zones content_of)) (λ i r there. (known.each i r there).blocks)
 
+-- a look at the drive does not change how many blocks are readable
 pub kept-count : (old new : DriveState) → KeepsZones old new → readable_count new ≡ readable_count old
 kept-count old new kept = rw (kept.geometry, kept-contents old new kept) refl
 
@@ -112,6 +119,7 @@ pub record LooksOnce (scanned : List ScannedZone) (waiting : BTreeSet ℕ) (firs
   pub left : (zone : ℕ) → IsTrue (contains nat_cmp waiting zone) → past ≤ zone
   pub completed : now.completed ≤ first.completed + 2 * entries_kept (take past scanned)
 
+-- before any zone is looked at, no block was read
 pub looks-none : (scanned : List ScannedZone) (waiting : BTreeSet ℕ) (drive : DriveState) → LooksOnce scanned waiting drive drive
 looks-none scanned waiting drive = record { past = 0; left = λ zone waits. omega arith; completed = omega arith }
 
@@ -132,6 +140,7 @@ looks-more scanned old new zone first now last looks there least updates here =
             let le = not-above zone q (least q before) in
             omega (arith, le, apart)
 
+-- the first zones have no more entries than all zones
 pub looks-within : (scanned : List ScannedZone) (past : ℕ) → entries_kept (take past scanned) ≤ entries_kept scanned
 looks-within scanned past = sum_by-take-le (λ (z : ScannedZone). length z.heads.entries) scanned past
 
@@ -146,7 +155,8 @@ same-entries (x ∷ xs) (y ∷ ys) same =
     let rest = same-entries xs ys others in
     omega (arith, rest, ap (λ (h : HeadsView). length h.entries) one, sum_by-cons (λ (z : ScannedZone). length z.heads.entries) x xs, sum_by-cons (λ (z : ScannedZone). length z.heads.entries) y ys)
 
-pub fewer-entries : (a b : List ScannedZone) (zone : ℕ) → heads_in a ≡ without_heads (heads_in b) zone → entries_kept a ≤ entries_kept b
+-- after a zone's headers are forgotten, no more entries are kept than before
+fewer-entries : (a b : List ScannedZone) (zone : ℕ) → heads_in a ≡ without_heads (heads_in b) zone → entries_kept a ≤ entries_kept b
 fewer-entries a [] zone same = let e = same-entries a [] same in omega (arith, e)
 fewer-entries [] (y ∷ ys) zone same = omega arith
 fewer-entries (x ∷ xs) (y ∷ ys) zero same =
@@ -166,10 +176,12 @@ pub record SearchesSoFar (all : ℕ) (rounds : ℕ) (scanned : List ScannedZone)
   pub few : entries_kept scanned ≤ all
   pub completed : now.completed ≤ first.completed + 2 * (rounds * all)
 
+-- after one more search, two blocks at most were read for each entry in each search
 pub searches-once : (all rounds : ℕ) (scanned : List ScannedZone) (first now last : DriveState) → SearchesSoFar all rounds scanned first now → last.completed ≤ now.completed + 2 * entries_kept scanned
     → last.completed ≤ first.completed + 2 * ((rounds + 1) * all)
 searches-once all rounds scanned first now last far here = omega (arith, far.few, far.completed, here, add-mul rounds 1 all)
 
+-- a search that forgets a zone keeps the bounds on entries and Reads
 pub searches-next : (all rounds more : ℕ) (scanned left : List ScannedZone) (zone : ℕ) (first now last : DriveState) → more ≡ rounds + 1 → heads_in left ≡ without_heads (heads_in scanned) zone
     → SearchesSoFar all rounds scanned first now → last.completed ≤ now.completed + 2 * entries_kept scanned → SearchesSoFar all more left first last
 searches-next all rounds more scanned left zone first now last is forgets far here = record {

@@ -15,7 +15,8 @@ found-at [] i x is = refl
 found-at (y ∷ ys) zero x is = let same : Some y ≡ Some x = is in cc
 found-at (y ∷ ys) (suc i) x is = found-at ys i x is
 
-pub next-at : {X : Type 0} (xs : List X) (i : ℕ) (x : X) → slice_get xs i ≡ Some x → drop i xs ≡ x ∷ drop (i + 1) xs
+-- what is left of a list from an index on begins with the element there
+next-at : {X : Type 0} (xs : List X) (i : ℕ) (x : X) → slice_get xs i ≡ Some x → drop i xs ≡ x ∷ drop (i + 1) xs
 next-at xs i x is = drop_more xs i x (in-range xs i x is) ∙ ap (λ y. y ∷ drop (i + 1) xs) (found-at xs i x is)
 
 -- one entry more is kept
@@ -25,5 +26,6 @@ kept-step entries i e now more all is pushed before =
     let before' : now ++ kept_entry e ∷ map kept_entry (drop (i + 1) entries) ≡ all = rw (next-at entries i e is) at before in
     rw pushed (append_assoc now (kept_entry e ∷ []) (map kept_entry (drop (i + 1) entries)) ∙ before')
 
+-- the next entry is taken into the greatest block, and the greatest of all stays the same
 pub highest-step : (entries : List Entry) (i : ℕ) (e : Entry) (now more all : ℕ) → slice_get entries i ≡ Some e → more ≡ max now e.block → highest_of now (drop i entries) ≡ all → highest_of more (drop (i + 1) entries) ≡ all
 highest-step entries i e now more all is grown before = let before' = rw (next-at entries i e is) at before in rw grown before'

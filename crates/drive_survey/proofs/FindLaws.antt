@@ -44,19 +44,17 @@ use Rattle.drive_survey.proofs.RecordTableLaws.{at-is}
 
 -- ---- headers are forgotten
 
+-- putting a zone with no headers in a place forgets the headers there
 pub forgets-heads : (scanned : List ScannedZone) (zone : ℕ) (one : ScannedZone) → one.heads ≡ no_heads → heads_in (set scanned zone one) ≡ without_heads (heads_in scanned) zone
 forgets-heads scanned zone one none = map-set (λ (z : ScannedZone). z.heads) scanned zone one ∙ ap (λ (h : HeadsView). set (heads_in scanned) zone h) none
 
+-- replacing a zone by one with the same tail changes no tail
 pub forgets-tails : (scanned : List ScannedZone) (zone : ℕ) (one old : ScannedZone) → one.is_torn ≡ old.is_torn → old ≡ get_or scanned zone old → tails_in (set scanned zone one) ≡ tails_in scanned
 forgets-tails scanned zone one old same is = map-set_same (λ (z : ScannedZone). z.is_torn) scanned zone one old (same ∙ ap (λ (z : ScannedZone). z.is_torn) is)
 
-pub forgets-past : (scanned : List ScannedZone) (zone : ℕ) → length scanned ≤ zone → heads_in scanned ≡ without_heads (heads_in scanned) zone
-forgets-past [] zone le = refl
-forgets-past (s ∷ ss) zero le = absurd (omega (arith, le))
-forgets-past (s ∷ ss) (suc zone) le = ap (λ (hs : List HeadsView). s.heads ∷ hs) (forgets-past ss zone (omega (arith, le)))
-
 -- ---- what is found of a zone
 
+-- a half clean zone holds only Moves from an older zone
 pub half-moved : (block_bytes n : ℕ) (logs : List (List Batch)) (zone : ℕ) → IsHalfClean block_bytes n logs zone → IsMoved logs zone
 half-moved block_bytes n logs zone half = record { victim = half.victim; apart = half.apart; moves = half.moves; older = half.older }
 
@@ -101,7 +99,8 @@ first-needed block_bytes logs zone block own inside newest needed = record {
     at : (r : Record) × (slice_get entries named.place ≡ Some r) × (kept_record r ≡ named.found)
     at = map-get kept_record entries named.place named.found (subst (λ (ks : List KeptRecord). slice_get ks named.place ≡ Some named.found) kept_are named.there)
 
-pub finds-needed : (drive : DriveState) (n : ℕ) (logs : List (List Batch)) (survey : Survey) (zone block : ℕ) (own : List KeptRecord) → Knows drive n logs survey → IsMoved logs zone → AreNewest (kept_of_zone zone (heads_of (log_at logs zone))) own
+-- of a zone of Moves, the first block that shows something else without it is found
+finds-needed : (drive : DriveState) (n : ℕ) (logs : List (List Batch)) (survey : Survey) (zone block : ℕ) (own : List KeptRecord) → Knows drive n logs survey → IsMoved logs zone → AreNewest (kept_of_zone zone (heads_of (log_at logs zone))) own
     → IsNeededAt drive.geometry.block logs zone own block → Finds drive.geometry.block n logs zone (NeedsBlock block)
 finds-needed drive n logs survey zone block own known moved newest needed = (
   moved,
@@ -109,13 +108,15 @@ finds-needed drive n logs survey zone block own known moved newest needed = (
   first-needed drive.geometry.block logs zone block own (knows-small drive n logs survey known) newest needed,
 )
 
-pub finds-half : (drive : DriveState) (n : ℕ) (logs : List (List Batch)) (survey : Survey) (zone : ℕ) (table : BlockRecords) → Knows drive n logs survey → IsMoved logs zone → AreNewest (kept_of_zone zone (heads_of (log_at logs zone))) (own_of table zone)
+-- a zone of Moves is half clean if the blocks and the size are the same without it
+finds-half : (drive : DriveState) (n : ℕ) (logs : List (List Batch)) (survey : Survey) (zone : ℕ) (table : BlockRecords) → Knows drive n logs survey → IsMoved logs zone → AreNewest (kept_of_zone zone (heads_of (log_at logs zone))) (own_of table zone)
     → FindsNeeded drive.geometry.block logs zone (own_of table zone) None → encoded_size n (without logs zone) ≡ encoded_size n logs → Finds drive.geometry.block n logs zone HalfClean
 finds-half drive n logs survey zone table known moved newest same sizes =
     let each = all-same drive.geometry.block logs zone (own_of table zone) (knows-small drive n logs survey known) newest same in
     record { victim = moved.victim; apart = moved.apart; moves = moved.moves; older = moved.older; spare = spare-all drive.geometry.block n logs zone sizes each }
 
-pub needed-not : (block_bytes n : ℕ) (logs : List (List Batch)) (zone : ℕ) → IsNeeded block_bytes n logs zone → IsHalfClean block_bytes n logs zone → ⊥
+-- a zone that is needed is not half clean
+needed-not : (block_bytes n : ℕ) (logs : List (List Batch)) (zone : ℕ) → IsNeeded block_bytes n logs zone → IsHalfClean block_bytes n logs zone → ⊥
 needed-not block_bytes n logs zone (inl never) half = never (half-moved block_bytes n logs zone half)
 needed-not block_bytes n logs zone (inr (inl needs)) half =
     let same = same-size block_bytes n (without logs zone) logs half.spare in
@@ -135,12 +136,14 @@ finding-first first now n survey table zone finding kept tells logs known holds 
 
 -- ---- sets of zones
 
+-- a number that does not compare as greater is at most the other
 pub not-above : (k q : ℕ) → is_gt (nat_cmp k q) ≡ false → k ≤ q
 not-above k q = grind (arith, nat_tests)
 
 taken-other : (old new : BTreeSet ℕ) (zone q : ℕ) → Updates nat_cmp old new zone false → q ≢ zone → IsTrue (contains nat_cmp old q) → IsTrue (contains nat_cmp new q)
 taken-other old new zone q updates apart waits = updates.2 q (at-is zone q ∙ ne_eqb zone q (λ e. apart (sym e))) ∙ waits
 
+-- a number that is not above 0 is 0
 pub no-length : (n : ℕ) → (0 < n → ⊥) → n ≡ 0
 no-length zero none = refl
 no-length (suc n) none = absurd (none (omega arith))
@@ -157,6 +160,7 @@ none-waits waiting q none waits =
 abbrev pub Sifts : DriveState → ℕ → Survey → Candidates → Candidates → Type 0
 Sifts drive n survey first now = (logs : List (List Batch)) → AreCandidates drive n logs survey first → AllWait drive n logs first → AllWait drive n logs now
 
+-- each half clean zone still waits after a zone that is not half clean is taken out
 pub sifts-more : (first now : DriveState) (n : ℕ) (survey : Survey) (begin old new : Candidates) (zone : ℕ) (finding : Finding) → KeepsZones first now → old.records ≡ begin.records → Updates nat_cmp old.waiting new.waiting zone false
     → (finding ≡ HalfClean → ⊥) → TellsFinding now n survey old.records zone finding → Sifts first n survey begin old → Sifts first n survey begin new
 sifts-more first now n survey begin old new zone finding kept same updates other tells so_far logs are wait q lt = elim (cases_eq q zone) as (λ _. IsTrue (contains nat_cmp new.waiting q) ⊎ IsNeeded first.geometry.block n logs q) [
@@ -176,6 +180,7 @@ half-there block_bytes n logs zone half = elim (cases_lt zone (length logs)) as 
   | inr ge ↦ absurd (has_batch block_bytes n logs zone half (get_or_past logs zone [] ge))
 ]
 
+-- the lowest zone that waits, if it is found half clean, is the lowest half clean zone
 pub lowest-here : (first now : DriveState) (n : ℕ) (survey : Survey) (begin old : Candidates) (zone : ℕ) (finding : Finding) → KeepsZones first now → old.records ≡ begin.records → IsLowerBound nat_cmp old.waiting zone
     → finding ≡ HalfClean → TellsFinding now n survey old.records zone finding → Sifts first n survey begin old
     → (logs : List (List Batch)) → AreCandidates first n logs survey begin → AllWait first n logs begin → FindsLowest first.geometry.block n logs (Some zone)
@@ -192,6 +197,7 @@ lowest-here first now n survey begin old zone finding kept same least is tells s
       ];
     }
 
+-- after one zone is taken out, each other half clean zone still waits
 pub others-wait : (drive : DriveState) (n : ℕ) (survey : Survey) (begin old new : Candidates) (zone : ℕ) → Updates nat_cmp old.waiting new.waiting zone false → Sifts drive n survey begin old
     → (logs : List (List Batch)) → AreCandidates drive n logs survey begin → AllWait drive n logs begin → OthersWait drive n logs new zone
 others-wait drive n survey begin old new zone updates so_far logs are wait q lt apart = elim (so_far logs are wait q lt) as (λ _. IsTrue (contains nat_cmp new.waiting q) ⊎ IsNeeded drive.geometry.block n logs q) [
@@ -199,6 +205,7 @@ others-wait drive n survey begin old new zone updates so_far logs are wait q lt 
   | inr needed ↦ inr needed
 ]
 
+-- when no zone waits, no zone is half clean
 pub lowest-none : (drive : DriveState) (n : ℕ) (survey : Survey) (begin now : Candidates) → btree_set_len now.waiting ≡ 0 → Sifts drive n survey begin now
     → (logs : List (List Batch)) → AreCandidates drive n logs survey begin → AllWait drive n logs begin → FindsLowest drive.geometry.block n logs None
 lowest-none drive n survey begin now none so_far logs are wait zone lt half = elim (so_far logs are wait zone lt) as (λ _. ⊥) [
@@ -208,6 +215,7 @@ lowest-none drive n survey begin now none so_far logs are wait zone lt half = el
 
 -- ---- a zone is examined
 
+-- the zone holds only Moves from an older zone, in all logs with these headers
 abbrev pub AllMoved : Survey → ℕ → Type 0
 AllMoved survey zone = (logs : List (List Batch)) → AreOf survey.scanned.items logs → IsMoved logs zone
 
@@ -225,18 +233,21 @@ looked drive n survey table zone block moved looks logs known holds covers =
     let is = moved logs known.heads in
     looks logs holds (knows-stand drive n logs survey known) (own-covered survey logs table zone known.heads is (covers is)).1
 
+-- a zone of Moves is found to need the block that shows something else without it
 pub examine-needs : (drive : DriveState) (n : ℕ) (survey : Survey) (table : BlockRecords) (zone block : ℕ) → AllMoved survey zone → LooksFor drive table zone (Some block) → TellsFinding drive n survey table zone (NeedsBlock block)
 examine-needs drive n survey table zone block moved looks logs known holds covers =
     let there = moved logs known.heads in
     finds-needed drive n logs survey zone block (own_of table zone) known there (own-covered survey logs table zone known.heads there (covers there)).0
     (looked drive n survey table zone (Some block) moved looks logs known holds covers)
 
+-- a zone of Moves without which the size changes is found to be needed for it
 pub examine-size : (drive : DriveState) (n : ℕ) (survey : Survey) (table : BlockRecords) (sizes : SizeCounts) (zone : ℕ) (told : Bool) → AllMoved survey zone → sizes ≡ size_counts survey.size (heads_in survey.scanned.items) → told ≡ false → TellsSize n survey sizes zone told
     → TellsFinding drive n survey table zone NeedsSize
 examine-size drive n survey table sizes zone told moved counts is tells logs known holds covers =
     let tells' = rw is at tells in
     (moved logs known.heads, tells' drive logs known counts)
 
+-- a zone of Moves that neither a block nor the size needs is found half clean
 pub examine-half : (drive : DriveState) (n : ℕ) (survey : Survey) (table : BlockRecords) (sizes : SizeCounts) (zone : ℕ) (told : Bool) → AllMoved survey zone → LooksFor drive table zone None
     → sizes ≡ size_counts survey.size (heads_in survey.scanned.items) → told ≡ true → TellsSize n survey sizes zone told → TellsFinding drive n survey table zone HalfClean
 examine-half drive n survey table sizes zone told moved looks counts is tells logs known holds covers =
@@ -244,6 +255,7 @@ examine-half drive n survey table sizes zone told moved looks counts is tells lo
     let there = moved logs known.heads in
     finds-half drive n logs survey zone table known there (own-covered survey logs table zone known.heads there (covers there)).0 (looked drive n survey table zone None moved looks logs known holds covers) (tells' drive logs known counts)
 
+-- a scanned zone that was read at its number is the one that the survey holds
 pub found-in : (items : List ScannedZone) (survey : Survey) (zone : ℕ) (found : ScannedZone) → items ≡ survey.scanned.items → zone < length items → found ≡ get_or items zone found → slice_get survey.scanned.items zone ≡ Some found
 found-in items survey zone found same lt is = subst (λ (xs : List ScannedZone). slice_get xs zone ≡ Some found) same (there items zone found lt is)
 
@@ -253,6 +265,7 @@ pub examine-one : (drive : DriveState) (n : ℕ) (survey : Survey) (table : Bloc
     → (logs : List (List Batch)) → Knows drive n logs survey → Finds drive.geometry.block n logs zone finding
 examine-one drive n survey table zone finding covers holds tells logs known = tells logs known (holds drive n logs known) (λ moved. covers)
 
+-- a fact of an Ok finding gives any fact that it implies
 pub finding-ok : {E : Type 0} (P Q : Finding → Type 0) (result : Result Finding E) → ((finding : Finding) → P finding → Q finding) → IfOk result P → IfOk result Q
 finding-ok P Q (Ok finding) f p = f finding p
 finding-ok P Q (Err e) f p = tt

@@ -14,6 +14,7 @@ size-after : (view : HeadsView) (log : List Batch) → (heads_after view log).si
 size-after view [] = sym (larger-none view.size)
 size-after view (b ∷ bs) = size-after (with_heading view b.heading) bs ∙ sym (larger-assoc view.size b.heading.size (log_greatest bs))
 
+-- the size that the headers of a log say is the greatest in its batches
 pub size-is : (log : List Batch) → (heads_of log).size ≡ log_greatest log
 size-is log = size-after no_heads log
 
@@ -44,8 +45,10 @@ after-below : (view : HeadsView) (size : ℕ) (log : List Batch) → view.highes
 after-below view size [] lt all = lt
 after-below view size (b ∷ bs) lt all = after-below (with_heading view b.heading) size bs (highest-below view.highest size b.heading.entries lt all.0) all.1
 
+-- if the greatest block of the headers is below a size, all batches are inside it
 pub highest-inside : (size : ℕ) (log : List Batch) → (heads_of log).highest < size → AllByRecursion (IsInside size) log
 highest-inside size log lt = after-named no_heads size log lt
 
+-- batches that name only blocks below a size, at least 1, have a greatest block below it
 pub inside-highest : (size : ℕ) (log : List Batch) → 1 ≤ size → AllByRecursion (IsInside size) log → (heads_of log).highest < size
 inside-highest size log some all = after-below no_heads size log (omega (arith, some)) all

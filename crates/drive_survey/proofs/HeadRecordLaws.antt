@@ -30,6 +30,7 @@ entries-after : (view : HeadsView) (log : List Batch) → (heads_after view log)
 entries-after view [] = sym (append-nil view.entries)
 entries-after view (b ∷ bs) = entries-after (with_heading view b.heading) bs ∙ append_assoc view.entries (map kept_entry b.heading.entries) (entries_of bs)
 
+-- the headers of a log keep the entries of all its batches
 pub entries-are : (log : List Batch) → (heads_of log).entries ≡ entries_of log
 entries-are log = entries-after no_heads log
 
@@ -43,6 +44,7 @@ heads-after view from (b ∷ bs) e =
     heads-after (with_heading view b.heading) (from + length es) bs next ∙ append_assoc view.heads (head ∷ []) rest
     ∙ ap (λ (n : ℕ). view.heads ++ record { sequence = b.heading.sequence; offset = view.blocks; end = n + length es } ∷ rest) (sym e)
 
+-- the headers that are kept of a log have their places counted from the zone's start
 pub heads-are : (log : List Batch) → (heads_of log).heads ≡ heads_from 0 0 log
 heads-are log = heads-after no_heads 0 log refl
 
@@ -51,6 +53,7 @@ heads-are log = heads-after no_heads 0 log refl
 kept-block : (block : ℕ) → block < 2 ^ 31 → kept_block block ≡ block
 kept-block block lt = rw (lt-ltb block (2 ^ 31) lt) refl
 
+-- a kept entry tells whether it is a trim, if its block is below 2^31
 pub trim-is : (e : Entry) → e.block < 2 ^ 31 → is_kept_trim (kept_entry e) ≡ e.trim
 trim-is e lt = rw (kept-block e.block lt) (at e.trim)
   where
@@ -58,6 +61,7 @@ trim-is e lt = rw (kept-block e.block lt) (at e.trim)
     at true = grind (arith, nat_tests)
     at false = grind (arith, nat_tests)
 
+-- a kept entry tells its block, if the block is below 2^31
 pub block-is : (e : Entry) → e.block < 2 ^ 31 → block_of_kept (kept_entry e) ≡ e.block
 block-is e lt = rw (kept-block e.block lt) (at e.trim)
   where

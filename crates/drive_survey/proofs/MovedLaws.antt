@@ -77,7 +77,8 @@ all-moves source (b ∷ bs) all = rw (all.0.0, eq-eqb b.heading.source source al
 pub source-is : (b : Batch) (bs : List Batch) → (heads_of (b ∷ bs)).source ≡ b.heading.source
 source-is b bs = source-after (with_heading no_heads b.heading) [] _ bs refl
 
-pub moves-are : (b : Batch) (bs : List Batch) → (heads_of (b ∷ bs)).are_moves ≡ all_moves b.heading.source (b ∷ bs)
+-- its headers tell whether all batches are Moves from the first one's source
+moves-are : (b : Batch) (bs : List Batch) → (heads_of (b ∷ bs)).are_moves ≡ all_moves b.heading.source (b ∷ bs)
 moves-are b bs = moves-after (with_heading no_heads b.heading) [] _ bs refl ∙ same (is_move b.heading.kind) (eqb b.heading.source b.heading.source) (all_moves b.heading.source bs)
   where
     same : (x y z : Bool) → ((x && y) && z) ≡ (x && y && z)
@@ -86,18 +87,22 @@ moves-are b bs = moves-after (with_heading no_heads b.heading) [] _ bs refl ∙ 
 
 -- ---- the first batch
 
+-- the first header of a log has the sequence of its first batch
 pub first-is : (log : List Batch) → first_head_sequence (heads_of log).heads ≡ first_sequence log
 first-is [] = refl
 first-is (b ∷ bs) = ap first_head_sequence (heads-are (b ∷ bs))
 
 -- ---- the headers of a zone
 
+-- an element that was read below the length is in the list at that index
 pub there : {X : Type 0} (xs : List X) (i : ℕ) (x : X) → i < length xs → x ≡ get_or xs i x → slice_get xs i ≡ Some x
 there xs i x lt is = slice_get_read xs (length xs) i x refl lt is
 
+-- past its end a list has no element
 pub not-there : {X : Type 0} (xs : List X) (i : ℕ) → length xs ≤ i → slice_get xs i ≡ None
 not-there xs i le = slice_get_past xs i le
 
+-- a scanned zone that is found keeps the headers of its log
 pub found-heads : (scanned : List ScannedZone) (logs : List (List Batch)) (zone : ℕ) (found : ScannedZone) → AreOf scanned logs → slice_get scanned zone ≡ Some found → found.heads ≡ heads_of (log_at logs zone)
 found-heads [] [] zone found are is = absurd (cc)
 found-heads [] (l ∷ ls) zone found are is = absurd (cc)
@@ -108,7 +113,8 @@ found-heads (s ∷ ss) (l ∷ ls) zero found are is =
     ap (λ (x : ScannedZone). x.heads) (sym one) ∙ same
 found-heads (s ∷ ss) (l ∷ ls) (suc zone) found are is = let rest : AreOf ss ls = cc in found-heads ss ls zone found rest is
 
-pub missing-log : (scanned : List ScannedZone) (logs : List (List Batch)) (zone : ℕ) → AreOf scanned logs → slice_get scanned zone ≡ None → log_at logs zone ≡ []
+-- a zone that is missing among the scanned ones has no batch
+missing-log : (scanned : List ScannedZone) (logs : List (List Batch)) (zone : ℕ) → AreOf scanned logs → slice_get scanned zone ≡ None → log_at logs zone ≡ []
 missing-log [] [] zone are there = refl
 missing-log [] (l ∷ ls) zone are is = absurd (cc)
 missing-log (s ∷ ss) [] zone are there = refl
@@ -117,6 +123,7 @@ missing-log (s ∷ ss) (l ∷ ls) (suc zone) are there = let rest : AreOf ss ls 
 
 -- ---- a zone of Moves
 
+-- a zone of Moves has a batch
 pub moved-batch : (logs : List (List Batch)) (zone : ℕ) → IsMoved logs zone → log_at logs zone ≢ []
 moved-batch logs zone is none = no_first (first_sequence (log_at logs is.victim)) (rw none at is.older)
 
@@ -126,7 +133,8 @@ pub record TellsMoved (logs : List (List Batch)) (zone : ℕ) (heads : HeadsView
   pub apart : heads.source ≢ zone
   pub older : IsBefore (first_sequence (log_at logs heads.source)) (first_sequence (log_at logs zone))
 
-pub moved-told : (logs : List (List Batch)) (zone : ℕ) (heads : HeadsView) → heads ≡ heads_of (log_at logs zone) → IsMoved logs zone → TellsMoved logs zone heads
+-- the headers of a zone of Moves tell of Moves from an older zone
+moved-told : (logs : List (List Batch)) (zone : ℕ) (heads : HeadsView) → heads ≡ heads_of (log_at logs zone) → IsMoved logs zone → TellsMoved logs zone heads
 moved-told logs zone heads e is = by (log_at logs zone) refl
   where
     by : (log : List Batch) → log_at logs zone ≡ log → TellsMoved logs zone heads
@@ -141,7 +149,8 @@ moved-told logs zone heads e is = by (log_at logs zone) refl
           older = rw source is.older;
         }
 
-pub told-moved : (logs : List (List Batch)) (zone : ℕ) (heads : HeadsView) → heads ≡ heads_of (log_at logs zone) → TellsMoved logs zone heads → IsMoved logs zone
+-- a zone whose headers tell of Moves from an older zone is a zone of Moves
+told-moved : (logs : List (List Batch)) (zone : ℕ) (heads : HeadsView) → heads ≡ heads_of (log_at logs zone) → TellsMoved logs zone heads → IsMoved logs zone
 told-moved logs zone heads e told = by (log_at logs zone) refl
   where
     by : (log : List Batch) → log_at logs zone ≡ log → IsMoved logs zone
@@ -158,15 +167,18 @@ told-moved logs zone heads e told = by (log_at logs zone) refl
 
 -- ---- the headers of a zone are forgotten
 
+-- headers without a zone's are the headers of the logs without that zone
 pub forgotten-are : (logs : List (List Batch)) (views : List HeadsView) (zone : ℕ) → views ≡ map heads_of logs → without_heads views zone ≡ map heads_of (without logs zone)
 forgotten-are logs views zone e = ap (λ (vs : List HeadsView). without_heads vs zone) e ∙ sym (map-set heads_of logs zone [])
 
+-- without a zone's headers, the greatest size is the one that the other logs encode
 pub size-forgotten : (n : ℕ) (logs : List (List Batch)) (views : List HeadsView) (zone : ℕ) → views ≡ map heads_of logs → size_or n (greatest_in (without_heads views zone)) ≡ encoded_size n (without logs zone)
 size-forgotten n logs views zone e = ap (λ (vs : List HeadsView). size_or n (greatest_in vs)) (forgotten-are logs views zone e) ∙ ap (size_or n) (greatest-heads (without logs zone))
 
 -- ---- a zone without a batch
 
-pub no-heads : (log : List Batch) → (heads_of log).heads ≡ [] → log ≡ []
+-- a log with no header has no batch
+no-heads : (log : List Batch) → (heads_of log).heads ≡ [] → log ≡ []
 no-heads [] e = refl
 no-heads (b ∷ bs) e = let bad = sym (heads-are (b ∷ bs)) ∙ e in absurd (cc)
 
@@ -176,13 +188,15 @@ no-heads (b ∷ bs) e = let bad = sym (heads-are (b ∷ bs)) ∙ e in absurd (cc
 pub not-told : (scanned : List ScannedZone) (logs : List (List Batch)) (zone : ℕ) (found : ScannedZone) → AreOf scanned logs → slice_get scanned zone ≡ Some found → (TellsMoved logs zone found.heads → ⊥) → IsMoved logs zone → ⊥
 not-told scanned logs zone found are there never is = never (moved-told logs zone found.heads (found-heads scanned logs zone found are there) is)
 
+-- a zone that is missing among the scanned ones is no zone of Moves
 pub not-found : (scanned : List ScannedZone) (logs : List (List Batch)) (zone : ℕ) → AreOf scanned logs → slice_get scanned zone ≡ None → IsMoved logs zone → ⊥
 not-found scanned logs zone are there is = moved-batch logs zone is (missing-log scanned logs zone are there)
 
 -- the first sequence of a zone, as its headers tell it
-pub first-found : (scanned : List ScannedZone) (logs : List (List Batch)) (zone : ℕ) (found : ScannedZone) → AreOf scanned logs → slice_get scanned zone ≡ Some found → first_sequence (log_at logs zone) ≡ first_head_sequence found.heads.heads
+first-found : (scanned : List ScannedZone) (logs : List (List Batch)) (zone : ℕ) (found : ScannedZone) → AreOf scanned logs → slice_get scanned zone ≡ Some found → first_sequence (log_at logs zone) ≡ first_head_sequence found.heads.heads
 first-found scanned logs zone found are there = sym (ap (λ (h : HeadsView). first_head_sequence h.heads) (found-heads scanned logs zone found are there) ∙ first-is (log_at logs zone))
 
+-- headers whose source zone is missing tell of no Moves from an older zone
 pub victim-missing : (scanned : List ScannedZone) (logs : List (List Batch)) (zone source : ℕ) (heads : HeadsView) → heads.source ≡ source → AreOf scanned logs → slice_get scanned source ≡ None → TellsMoved logs zone heads → ⊥
 victim-missing scanned logs zone source heads e are there told =
     let none : log_at logs heads.source ≡ [] = ap (log_at logs) e ∙ missing-log scanned logs source are there in
@@ -192,11 +206,13 @@ victim-missing scanned logs zone source heads e are there told =
 pub none-before : (y : Option ℕ) → IsBefore None y → ⊥
 none-before y h = h
 
-pub older-told : (scanned : List ScannedZone) (logs : List (List Batch)) (zone source : ℕ) (found victim : ScannedZone) → found.heads.source ≡ source → AreOf scanned logs → slice_get scanned zone ≡ Some found → slice_get scanned source ≡ Some victim
+-- if headers tell of Moves, the first header of their source zone is older than theirs
+older-told : (scanned : List ScannedZone) (logs : List (List Batch)) (zone source : ℕ) (found victim : ScannedZone) → found.heads.source ≡ source → AreOf scanned logs → slice_get scanned zone ≡ Some found → slice_get scanned source ≡ Some victim
     → TellsMoved logs zone found.heads → IsBefore (first_head_sequence victim.heads.heads) (first_head_sequence found.heads.heads)
 older-told scanned logs zone source found victim e are there from told =
     rw (← first-found scanned logs zone found are there, ← first-found scanned logs source victim are from, ← e) told.older
 
+-- whether Moves from another zone come from an older one is told by the first sequences
 pub tells-older : (scanned : List ScannedZone) (logs : List (List Batch)) (zone source old new : ℕ) (found victim : ScannedZone) → found.heads.source ≡ source → AreOf scanned logs → slice_get scanned zone ≡ Some found → slice_get scanned source ≡ Some victim
     → found.heads.are_moves ≡ true → source ≢ zone → Some old ≡ first_head_sequence victim.heads.heads → Some new ≡ first_head_sequence found.heads.heads → Tells (ltb old new) (IsMoved logs zone)
 tells-older scanned logs zone source old new found victim e are there from moves apart first_old first_new = by (ltb old new) refl
@@ -233,11 +249,13 @@ none-moved scanned logs limit are le none some = elim (cases_lt some.0 limit) as
 count-same : (scanned : List ScannedZone) (logs : List (List Batch)) → AreOf scanned logs → length scanned ≡ length logs
 count-same scanned logs are = sym (length-map scanned (λ (z : ScannedZone). z.heads)) ∙ ap length are ∙ length-map logs heads_of
 
+-- if a scanned zone has no header, some zone is vacant
 pub vacant-here : (scanned : List ScannedZone) (logs : List (List Batch)) (zone : ℕ) (found : ScannedZone) (heads : List Head) → AreOf scanned logs → zone < length scanned → found ≡ get_or scanned zone found → heads ≡ found.heads.heads → length heads ≡ 0 → HasVacant logs
 vacant-here scanned logs zone found heads are lt is same none =
     let log_heads : (heads_of (log_at logs zone)).heads ≡ [] = ap (λ (h : HeadsView). h.heads) (sym (found-heads scanned logs zone found are (there scanned zone found lt is))) ∙ sym same ∙ nil_from_length heads none in
     record { zone = zone; in_range = omega (arith, lt, count-same scanned logs are); vacant = no-heads (log_at logs zone) log_heads }
 
+-- none of the zones so far is vacant, nor is the next one, which has a header
 pub not-vacant : (scanned : List ScannedZone) (logs : List (List Batch)) (zone limit : ℕ) (found : ScannedZone) (heads : List Head) → AreOf scanned logs → limit < length scanned → found ≡ get_or scanned limit found → heads ≡ found.heads.heads → (length heads ≡ 0 → ⊥)
     → ((k : ℕ) → k < limit → log_at logs k ≡ [] → ⊥) → zone < limit + 1 → log_at logs zone ≡ [] → ⊥
 not-vacant scanned logs zone limit found heads are lt is same some none less empty = elim (cases_eq zone limit) as (λ _. ⊥) [
@@ -245,5 +263,6 @@ not-vacant scanned logs zone limit found heads are lt is same some none less emp
   | inr other ↦ none zone (omega (arith, less, other)) empty
 ]
 
+-- if each scanned zone has a batch, no zone is vacant
 pub none-vacant : (scanned : List ScannedZone) (logs : List (List Batch)) (limit : ℕ) → AreOf scanned logs → length scanned ≤ limit → ((k : ℕ) → k < limit → log_at logs k ≡ [] → ⊥) → HasVacant logs → ⊥
 none-vacant scanned logs limit are le none some = none some.zone (omega (arith, some.in_range, le, count-same scanned logs are)) some.vacant

@@ -29,11 +29,13 @@ pub record IsNewestList (logs : List (List Batch)) (all : List KeptRecord) : Typ
   pub from : (k : KeptRecord) → Contains all k → (r : Record) × Contains (records 0 logs) r × (kept_record r ≡ k) × IsNewestInZone logs r
   pub has : (r : Record) → Contains (records 0 logs) r → IsNewestInZone logs r → Contains all (kept_record r)
 
+-- each record as it is kept comes from one of the records
 pub map-among : (rs : List Record) (k : KeptRecord) → Contains (map kept_record rs) k → (r : Record) × Contains rs r × (kept_record r ≡ k)
 map-among [] k c = absurd (omega (arith, c.1))
 map-among (r ∷ rs) k (zero, lt, is) = (r, (0, omega arith, refl), is)
 map-among (r ∷ rs) k (suc n, lt, is) = let rest = map-among rs k (n, omega (arith, lt), is) in (rest.0, (suc rest.1.0, omega (arith, rest.1.1), rest.1.2), rest.2)
 
+-- each record is among the records as they are kept
 pub among-map : (rs : List Record) (r : Record) → Contains rs r → Contains (map kept_record rs) (kept_record r)
 among-map [] r c = absurd (omega (arith, c.1))
 among-map (x ∷ rs) r (zero, lt, is) = (0, omega arith, ap kept_record is)
@@ -123,6 +125,7 @@ has-all first (log ∷ logs) all inside apart are r c last = subst (λ (ks : Lis
     by (inr d) more =
         Contains-append_right are.0 are.1 (kept_record r) (more d (λ s e same here. last s (Contains-append_right own rest s e) same here))
 
+-- the newest records zone by zone are the newest records of all zones
 pub newest-list : (logs : List (List Batch)) (all : List KeptRecord) → AllByRecursion (AllByRecursion (IsInside (2 ^ 31))) logs → AreApart (records 0 logs) → AreNewestOfAll 0 (map heads_of logs) all → IsNewestList logs all
 newest-list logs all inside apart are = record { from = from-all 0 logs all inside are; has = has-all 0 logs all inside apart are }
 
@@ -134,9 +137,11 @@ pub record NotedSoFar (first now : BlockRecords) (scanned : List ScannedZone) (z
   pub changes : Changes notes first now done
   pub rest : (others : List KeptRecord) → AreNewestOfAll zone (heads_in (drop zone scanned)) others → AreNewestOfAll 0 (heads_in scanned) (done ++ others)
 
+-- before the first zone no record was noted
 pub noted-none : (table : BlockRecords) (scanned : List ScannedZone) → NotedSoFar table table scanned 0
 noted-none table scanned = record { done = []; changes = λ block sequence. refl; rest = λ others are. are }
 
+-- noting the newest records of the next zone adds them to what was noted
 pub noted-more : (first old new : BlockRecords) (scanned : List ScannedZone) (zone zone' number : ℕ) (found : ScannedZone) (own : List KeptRecord) → zone < length scanned → found ≡ get_or scanned zone found → zone' ≡ suc zone → number ≡ zone
     → AreNewest (kept_of_zone number found.heads) own → Changes notes old new own → NotedSoFar first old scanned zone → NotedSoFar first new scanned zone'
 noted-more first old new scanned zone zone' number found own lt is next same newest changes so_far = record {
@@ -153,6 +158,7 @@ noted-more first old new scanned zone zone' number found own lt is next same new
       subst (AreNewestOfAll 0 (heads_in scanned)) (sym (append_assoc so_far.done own others)) whole;
 }
 
+-- with no zone left, the newest records of all zones were noted
 pub noted-all : (first now : BlockRecords) (scanned : List ScannedZone) (zone : ℕ) → length scanned ≤ zone → NotedSoFar first now scanned zone → NotesNewest (heads_in scanned) first now
 noted-all first now scanned zone le so_far =
     let none : AreNewestOfAll zone (heads_in (drop zone scanned)) [] = rw (drop_all zone scanned le) refl in

@@ -26,7 +26,8 @@ contains-get [] x c = absurd (omega (arith, c.1))
 contains-get (y ∷ ys) x (zero, lt, is) = (0, ap Some is)
 contains-get (y ∷ ys) x (suc n, lt, is) = let rest = contains-get ys x (n, omega (arith, lt), is) in (suc rest.0, rest.1)
 
-pub get-contains : {X : Type 0} (xs : List X) (i : ℕ) (x : X) → slice_get xs i ≡ Some x → Contains xs x
+-- what a list has at an index is one of its elements
+get-contains : {X : Type 0} (xs : List X) (i : ℕ) (x : X) → slice_get xs i ≡ Some x → Contains xs x
 get-contains [] i x is = absurd (cc)
 get-contains (y ∷ ys) zero x is = (0, omega arith, (cc))
 get-contains (y ∷ ys) (suc i) x is = let rest = get-contains ys i x is in (suc rest.0, omega (arith, rest.1), rest.2)
@@ -338,6 +339,7 @@ put-again all found old records place is later earlier k =
       | inr ge ↦ leave-out all found taken.0 old records place taken.1 taken.2 ge (earlier taken.0 taken.1 ge) k
     ]
 
+-- an empty table keeps the newest of no records
 pub keeps-none : (records : Own) (places : Places) → records.items ≡ [] → IsEmpty places → KeepsNewest [] (record { records = records; places = places })
 keeps-none records places none empty = record {
   are = record { among = λ r c. absurd (let bad = rw none at c in omega (arith, bad.1)); latest = λ r s c d. absurd (omega (arith, d.1)); covers = λ s c. absurd (omega (arith, c.1)); in_order = λ i r is. absurd (let bad = rw none at is in cc) };
@@ -354,21 +356,25 @@ pub record TakenSoFar (first now : Newest) (rest whole : List KeptRecord) : Type
   pub split : done ++ rest ≡ whole
   pub takes : (all : List KeptRecord) → KeepsNewest all first → KeepsNewest (all ++ done) now
 
+-- at the start none of the records was taken
 pub taken-none : (first : Newest) (whole : List KeptRecord) → TakenSoFar first first whole whole
 taken-none first whole = record { done = []; split = refl; takes = λ all k. rw (append-nil all) k }
 
-pub taken-more : (first old new : Newest) (xs rest whole : List KeptRecord) → TakenSoFar first old (xs ++ rest) whole → ((all : List KeptRecord) → KeepsNewest all old → KeepsNewest (all ++ xs) new) → TakenSoFar first new rest whole
+-- taking the next records leaves only the rest to be taken
+taken-more : (first old new : Newest) (xs rest whole : List KeptRecord) → TakenSoFar first old (xs ++ rest) whole → ((all : List KeptRecord) → KeepsNewest all old → KeepsNewest (all ++ xs) new) → TakenSoFar first new rest whole
 taken-more first old new xs rest whole so_far more = record {
   done = so_far.done ++ xs;
   split = append_assoc so_far.done xs rest ∙ so_far.split;
   takes = λ all k. subst (λ (ys : List KeptRecord). KeepsNewest ys new) (append_assoc all so_far.done xs) (more (all ++ so_far.done) (so_far.takes all k));
 }
 
+-- once no record is left, the newest of all of them are kept
 pub taken-all : (first now : Newest) (whole : List KeptRecord) → TakenSoFar first now [] whole → (all : List KeptRecord) → KeepsNewest all first → KeepsNewest (all ++ whole) now
 taken-all first now whole so_far all k =
     let same : so_far.done ≡ whole = sym (append-nil so_far.done) ∙ so_far.split in
     rw (← same) (so_far.takes all k)
 
+-- an entry has at most one data block
 pub at-most-one : (trim : Bool) → one_unless trim ≤ 1
 at-most-one true = omega arith
 at-most-one false = omega arith

@@ -25,6 +25,7 @@ use Rattle.drive_survey.proofs.TakeLaws.{none-begins, short-begins, takes-all, t
 
 -- ---- faults
 
+-- a failure by one kind of fault is a failure by each kind that includes it
 pub fails-more : (P Q : MountFault → Type 0) (drive : DriveState) (fault : MountFault) → ((f : MountFault) → P f → Q f) → FailsBy P drive fault → FailsBy Q drive fault
 fails-more P Q drive fault more (inl memory) = inl memory
 fails-more P Q drive fault more (inr (inl halted)) = inr (inl halted)
@@ -32,32 +33,13 @@ fails-more P Q drive fault more (inr (inr first)) = inr (inr (more fault first))
 
 -- ---- the block
 
-pub zone-split : (drive : DriveState) (zone offset : ℕ) (reported : ReportedZone) (block : List ℕ) → IsKnown drive zone reported → offset < reported.blocks → block ≡ block_of drive zone offset
+-- the readable blocks from a place on are the block there and the blocks after it
+zone-split : (drive : DriveState) (zone offset : ℕ) (reported : ReportedZone) (block : List ℕ) → IsKnown drive zone reported → offset < reported.blocks → block ≡ block_of drive zone offset
     → drop offset (readable_at drive zone) ≡ block ∷ drop (offset + 1) (readable_at drive zone)
 zone-split drive zone offset reported block known lt is = rw is (drop_more (readable_at drive zone) offset [] (omega (arith, lt, known.blocks)))
 
 zone-full : (drive : DriveState) (zone : ℕ) (reported : ReportedZone) → IsKnown drive zone reported → is_full (content_at (contents drive.zones) zone).usage ≡ is_full (usage_of reported.state)
 zone-full drive zone reported known = rw known.usage refl
-
-no-header : (size : ℕ) (block : List ℕ) → length block ≡ size → IsNoHeader block → (heading : Heading) → IsHeaderBlock size block heading → ⊥
-no-header size block long never heading header = never heading (rw long header)
-
--- no header block is there
-pub ends-foreign : (drive : DriveState) (zone offset : ℕ) (reported : ReportedZone) (block : List ℕ) (cause : LogFault) (full zero zeros : Bool) → IsKnown drive zone reported → offset < reported.blocks → block ≡ block_of drive zone offset
-    → length block ≡ drive.geometry.block → IsNoHeader block → header_fault block ≡ Some cause
-    → full ≡ is_full (usage_of reported.state) → zero ≡ is_zero block → zeros ≡ list_all is_zero (drop (offset + 1) (readable_at drive zone))
-    → EndsZone drive zone offset (foreign_ending full cause zero zeros)
-ends-foreign drive zone offset reported block cause full zero zeros known lt is long never fault full-is zero-is zeros-is =
-    let split = zone-split drive zone offset reported block known lt is in
-    let foreign : ending_of full (block ∷ drop (offset + 1) (readable_at drive zone)) ≡ foreign_ending full cause zero zeros = rw (fault, zero-is, zeros-is) refl in
-    record {
-      no_more = rw split (none-begins drive.geometry.block block (drop (offset + 1) (readable_at drive zone)) (no-header drive.geometry.block block long never));
-      ending_is = sym (ap (ending_of (is_full (content_at (contents drive.zones) zone).usage)) split ∙ ap (λ (f : Bool). ending_of f (block ∷ drop (offset + 1) (readable_at drive zone))) (zone-full drive zone reported known ∙ sym full-is) ∙ foreign);
-    }
-
-pub ends-bad : (drive : DriveState) (zone offset : ℕ) (cause : LogFault) → EndsZone drive zone offset (failed cause) → (fault : MountFault) → fault ≡ Log zone offset cause
-    → (ending : Ending) × EndsZone drive zone offset ending × (ending_fault zone offset ending ≡ Some fault)
-ends-bad drive zone offset cause ends fault is = (failed cause, ends, rw is refl)
 
 -- ---- a header block is there
 
@@ -68,11 +50,13 @@ heading-few drive zone reported block heading known long header = at known.geome
     at (inl b) = let room = rw (long, b) at header.says.room in omega (arith, room)
     at (inr b) = let room = rw (long, b) at header.says.room in omega (arith, room)
 
+-- with one more header, the number of a zone's entries still fits 32 bits
 pub meet-few : (drive : DriveState) (zone entries blocks : ℕ) (reported : ReportedZone) (block : List ℕ) (heading : Heading) → IsKnown drive zone reported → length block ≡ drive.geometry.block → IsHeaderBlock (length block) block heading
     → blocks < reported.blocks → entries ≤ 508 * blocks → entries + length heading.entries < 2 ^ 32
 meet-few drive zone entries blocks reported block heading known long header lt few =
     omega (arith, heading-few drive zone reported block heading known long header, known-few drive zone reported known, known.geometry.capacity, known.geometry.size, lt, few)
 
+-- after one more header, a zone has at most 508 entries for each block taken
 pub met-few : (drive : DriveState) (zone : ℕ) (reported : ReportedZone) (block : List ℕ) (heading : Heading) (old new : HeadsView) (seen seen' : List ℕ) (result : Result (Option Bool) MountFault) → IsKnown drive zone reported
     → length block ≡ drive.geometry.block → IsHeaderBlock (length block) block heading → length old.entries ≤ 508 * old.blocks → MeetsHeader zone reported old seen heading result new seen' → OnOk result (length new.entries ≤ 508 * new.blocks)
 met-few drive zone reported block heading old new seen seen' (Ok None) known long header few met =
@@ -105,7 +89,8 @@ torn-tail : (drive : DriveState) (zone : ℕ) (reported : ReportedZone) (block :
     → IsTail drive.geometry.block (is_full (content_at (contents drive.zones) zone).usage) (block ∷ others)
 torn-tail drive zone reported block others heading full header few = rw full (inr (record { heading = heading; body = others; says = header.says; few = few; spelled = ap (λ (b : List ℕ). b ∷ others) header.spelled }))
 
-pub met-next : (drive : DriveState) (zone : ℕ) (reported : ReportedZone) (block : List ℕ) (heading : Heading) (old new : HeadsView) (before seen seen' : List ℕ) (next : Option Bool) → Meets drive zone reported old block heading
+-- a header that is met leads to one more batch, or to the end of the zone
+met-next : (drive : DriveState) (zone : ℕ) (reported : ReportedZone) (block : List ℕ) (heading : Heading) (old new : HeadsView) (before seen seen' : List ℕ) (next : Option Bool) → Meets drive zone reported old block heading
     → MeetsHeader zone reported old seen heading (Ok next) new seen' → Takes drive.geometry (content_at (contents drive.zones) zone) before old seen
     → TakesNext drive.geometry (content_at (contents drive.zones) zone) before old next new seen'
 met-next drive zone reported block heading old new before seen seen' None m met takes =
@@ -126,7 +111,8 @@ met-next drive zone reported block heading old new before seen seen' (Some t) m 
     sym (ap (λ (f : Bool). not f && nat_lt 0 (length (drop old.blocks (readable_at drive zone)))) full ∙ ap (λ (xs : List (List ℕ)). nat_lt 0 (length xs)) split ∙ lt-ltb 0 (length (block ∷ drop (old.blocks + 1) (readable_at drive zone))) (omega arith)) in
     rw (met.2, met.3, met.4) (takes-all drive.geometry (content_at (contents drive.zones) zone) before seen old true (small drive zone reported m.known) (rw split tail) told takes)
 
-pub met-fails : (drive new-drive : DriveState) (zone : ℕ) (reported : ReportedZone) (block : List ℕ) (heading : Heading) (old new : HeadsView) (seen seen' : List ℕ) (fault : MountFault) → Meets drive zone reported old block heading
+-- a fault at a header is the zone's first, unless memory ran out
+met-fails : (drive new-drive : DriveState) (zone : ℕ) (reported : ReportedZone) (block : List ℕ) (heading : Heading) (old new : HeadsView) (seen seen' : List ℕ) (fault : MountFault) → Meets drive zone reported old block heading
     → MeetsHeader zone reported old seen heading (Err fault) new seen'
     → FailsBy (λ f. (before : List ℕ) → Takes drive.geometry (content_at (contents drive.zones) zone) before old seen → FailsIn drive.geometry (content_at (contents drive.zones) zone) zone before f) new-drive fault
 met-fails drive new-drive zone reported block heading old new seen seen' fault m (inl memory) = inl memory
@@ -153,13 +139,14 @@ untorn-told true tail (inr none) = refl
 untorn-told false tail (inr none) = rw none refl
 
 -- the batches end in a Full zone
-pub ended-next : (drive : DriveState) (zone : ℕ) (reported : ReportedZone) (heads : HeadsView) (before seen : List ℕ) → IsKnown drive zone reported → is_full (content_at (contents drive.zones) zone).usage ≡ true
+ended-next : (drive : DriveState) (zone : ℕ) (reported : ReportedZone) (heads : HeadsView) (before seen : List ℕ) → IsKnown drive zone reported → is_full (content_at (contents drive.zones) zone).usage ≡ true
     → IsTail drive.geometry.block (is_full (content_at (contents drive.zones) zone).usage) (drop heads.blocks (readable_at drive zone))
     → Takes drive.geometry (content_at (contents drive.zones) zone) before heads seen → Scans drive.geometry (content_at (contents drive.zones) zone) before heads false seen
 ended-next drive zone reported heads before seen known full tail takes =
     takes-all drive.geometry (content_at (contents drive.zones) zone) before seen heads false (small drive zone reported known) tail (untorn-told (is_full (content_at (contents drive.zones) zone).usage) (drop heads.blocks (readable_at drive zone)) (inl full)) takes
 
-pub bad-next : (drive : DriveState) (zone : ℕ) (heads : HeadsView) (seen : List ℕ) (fault : MountFault) → ((ending : Ending) × EndsZone drive zone heads.blocks ending × (ending_fault zone heads.blocks ending ≡ Some fault))
+-- a fault at which the batches end is the first of the zone
+bad-next : (drive : DriveState) (zone : ℕ) (heads : HeadsView) (seen : List ℕ) (fault : MountFault) → ((ending : Ending) × EndsZone drive zone heads.blocks ending × (ending_fault zone heads.blocks ending ≡ Some fault))
     → (before : List ℕ) → Takes drive.geometry (content_at (contents drive.zones) zone) before heads seen → FailsIn drive.geometry (content_at (contents drive.zones) zone) zone before fault
 bad-next drive zone heads seen fault ends before takes = takes-bad drive.geometry (content_at (contents drive.zones) zone) zone before seen heads ends.0 fault ends.1.no_more ends.1.ending_is ends.2 takes
 
@@ -168,6 +155,7 @@ no-tail : (size : ℕ) (full : Bool) → IsTail size full []
 no-tail size true = refl
 no-tail size false = inl refl
 
+-- a zone whose readable blocks are all in batches is scanned, with no torn tail
 pub all-next : (drive : DriveState) (zone : ℕ) (reported : ReportedZone) (heads : HeadsView) (before seen : List ℕ) → IsKnown drive zone reported → reported.blocks ≤ heads.blocks → Takes drive.geometry (content_at (contents drive.zones) zone) before heads seen
     → Scans drive.geometry (content_at (contents drive.zones) zone) before heads false seen
 all-next drive zone reported heads before seen known le takes =
@@ -177,29 +165,34 @@ all-next drive zone reported heads before seen known le takes =
 
 -- ---- as the code has them
 
+-- a header block without a fault, read at the next place, is met there
 pub meets : (drive : DriveState) (zone offset : ℕ) (reported : ReportedZone) (heads : HeadsView) (items block : List ℕ) (heading : Heading) → IsKnown drive zone reported → heads.blocks < reported.blocks → offset ≡ heads.blocks
     → items ≡ block_of drive zone offset → length items ≡ drive.geometry.block → block ≡ items → IsHeaderBlock (length block) block heading → header_fault block ≡ None → Meets drive zone reported heads block heading
 meets drive zone offset reported heads items block heading known lt at read long same header sound =
     record { known = known; in_range = lt; block_is = same ∙ read ∙ ap (λ (n : ℕ). block_of drive zone n) at; long = ap length same ∙ long; header = header; sound = sound }
 
+-- an Ok answer at a header tells of one more batch, or of the zone's end
 pub met-ok : (drive : DriveState) (zone : ℕ) (reported : ReportedZone) (block : List ℕ) (heading : Heading) (old new : HeadsView) (seen seen' : List ℕ) (result : Result (Option Bool) MountFault) → Meets drive zone reported old block heading
     → MeetsHeader zone reported old seen heading result new seen'
     → IfOk result (λ next. (before : List ℕ) → Takes drive.geometry (content_at (contents drive.zones) zone) before old seen → TakesNext drive.geometry (content_at (contents drive.zones) zone) before old next new seen')
 met-ok drive zone reported block heading old new seen seen' (Ok next) m met = λ before takes. met-next drive zone reported block heading old new before seen seen' next m met takes
 met-ok drive zone reported block heading old new seen seen' (Err fault) m met = tt
 
+-- an Err answer at a header is the zone's first fault, unless memory ran out
 pub met-err : (drive new-drive : DriveState) (zone : ℕ) (reported : ReportedZone) (block : List ℕ) (heading : Heading) (old new : HeadsView) (seen seen' : List ℕ) (result : Result (Option Bool) MountFault) → Meets drive zone reported old block heading
     → MeetsHeader zone reported old seen heading result new seen'
     → IfErr result (FailsBy (λ f. (before : List ℕ) → Takes drive.geometry (content_at (contents drive.zones) zone) before old seen → FailsIn drive.geometry (content_at (contents drive.zones) zone) zone before f) new-drive)
 met-err drive new-drive zone reported block heading old new seen seen' (Ok next) m met = tt
 met-err drive new-drive zone reported block heading old new seen seen' (Err fault) m met = met-fails drive new-drive zone reported block heading old new seen seen' fault m met
 
-pub ends-kept : (old new : DriveState) (zone offset other : ℕ) (ending : Ending) → KeepsZones old new → offset ≡ other → EndsZone new zone offset ending → EndsZone old zone other ending
+-- batches that end after a look at the drive ended there before it, too
+ends-kept : (old new : DriveState) (zone offset other : ℕ) (ending : Ending) → KeepsZones old new → offset ≡ other → EndsZone new zone offset ending → EndsZone old zone other ending
 ends-kept old new zone offset other ending kept at ends =
     let same = kept-contents old new kept in
     let h : EndsZone new zone other ending = rw at at ends in
     record { no_more = rw (kept.geometry, same) at h.no_more; ending_is = rw (kept.geometry, same) at h.ending_is }
 
+-- a fault where the batches end, found after a look, is the zone's first, or an interruption
 pub bad-kept : (old new last : DriveState) (zone offset : ℕ) (heads : HeadsView) (seen : List ℕ) (fault : MountFault) → KeepsZones old new → offset ≡ heads.blocks
     → FailsBy (λ f. (ending : Ending) × EndsZone new zone offset ending × (ending_fault zone offset ending ≡ Some f)) last fault
     → FailsBy (λ f. (before : List ℕ) → Takes old.geometry (content_at (contents old.zones) zone) before heads seen → FailsIn old.geometry (content_at (contents old.zones) zone) zone before f) last fault
@@ -216,6 +209,7 @@ pub if-fault : {V : Type 0} (r : Result V MountFault) (fault : MountFault) (P : 
 if-fault (Ok value) fault P handed p = tt
 if-fault (Err f) fault P handed p = rw handed p
 
+-- the scan of a Full zone is complete, without a torn tail, once only zeros are left
 pub end-ok : (old new : DriveState) (zone offset : ℕ) (reported : ReportedZone) (heads : HeadsView) (before seen : List ℕ) → KeepsZones old new → IsKnown old zone reported → offset ≡ heads.blocks → is_full (usage_of reported.state) ≡ true
     → IsTail new.geometry.block (is_full (content_at (contents new.zones) zone).usage) (drop offset (readable_at new zone))
     → Takes old.geometry (content_at (contents old.zones) zone) before heads seen → Scans old.geometry (content_at (contents old.zones) zone) before heads false seen

@@ -9,9 +9,11 @@ use Rattle.drive_array.proofs.DeadLaws.{log-zone}
 
 -- ---- records outside a zone
 
+-- whether a record is in another zone
 abbrev pub is_outside : ℕ → Record → Bool
 is_outside zone r = not (eqb r.zone zone)
 
+-- the records that are in other zones
 abbrev pub outside : ℕ → List Record → List Record
 outside zone rs = filter (is_outside zone) rs
 
@@ -31,6 +33,7 @@ outside-all : (zone : ℕ) (rs : List Record) → AllByRecursion (λ (r : Record
 outside-all zone [] all = refl
 outside-all zone (r ∷ rs) all = rw (ne_eqb r.zone zone (λ e. omega (arith, all.0, e))) (ap (λ (xs : List Record). r ∷ xs) (outside-all zone rs all.1))
 
+-- the records of the logs from a zone on are in no zone below it
 pub records-from : (least first : ℕ) (logs : List (List Batch)) → least ≤ first → AllByRecursion (λ (r : Record). least ≤ r.zone) (records first logs)
 records-from least first [] le = tt
 records-from least first (log ∷ logs) le =
@@ -97,6 +100,7 @@ fewer-later : (block zone : ℕ) (rs : List Record) → NoLater (newest block (o
 fewer-later block zone [] = tt
 fewer-later block zone (r ∷ rs) = later-cond (is_outside zone r) block r rs (outside zone rs) (fewer-later block zone rs)
 
+-- a block with no record has none outside a zone either
 pub none-outside : (block zone : ℕ) (rs : List Record) → newest block rs ≡ None → newest block (outside zone rs) ≡ None
 none-outside block zone rs e = by (newest block (outside zone rs)) (rw e at (fewer-later block zone rs))
   where

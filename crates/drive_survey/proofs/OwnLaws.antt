@@ -13,11 +13,13 @@ use Rattle.drive_survey.proofs.HeadRecordLaws.{kept-is}
 use Rattle.drive_survey.proofs.NewestListLaws.{among-map}
 use Rattle.drive_survey.proofs.RecordMapLaws.{all-self, kept-among, zone-own}
 
+-- what holds of all batches holds of the batches of one zone
 pub log-inside : (P : Batch → Type 0) (logs : List (List Batch)) (zone : ℕ) → AllByRecursion (AllByRecursion P) logs → AllByRecursion P (log_at logs zone)
 log-inside P [] zone all = tt
 log-inside P (log ∷ logs) zero all = all.0
 log-inside P (log ∷ logs) (suc zone) all = log-inside P logs zone all.1
 
+-- what holds of the blocks of a zone's newest records holds of all blocks that it names
 pub own-named : (P : ℕ → Type 0) (zone : ℕ) (logs : List (List Batch)) (own : List KeptRecord) → AllByRecursion (AllByRecursion (IsInside (2 ^ 31))) logs → AreNewest (kept_of_zone zone (heads_of (log_at logs zone))) own
     → AllByRecursion (λ (k : KeptRecord). P k.block) own → AllByRecursion (λ (r : Record). r.zone ≡ zone → P r.block) (records 0 logs)
 own-named P zone logs own inside newest all = zone-own (λ (r : Record). P r.block) 0 zone zone logs (omega arith) (all-self (λ (r : Record). P r.block) zone_records each)

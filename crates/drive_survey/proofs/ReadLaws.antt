@@ -20,9 +20,11 @@ use Rattle.drive_survey.specs.Scan.{FailsBy, block_of, readable_at, mount_fault}
 
 -- ---- looks
 
+-- without a command the zones of a lawful drive are kept
 pub keeps-none : (drive : DriveState) → IsLawful drive → KeepsZones drive drive
 keeps-none drive lawful = record { geometry = refl; lawful = lawful; closing = IsClosing-refl drive.zones; refused = refl; appended = refl }
 
+-- if each of two looks keeps the zones, both together do
 pub keeps-both : (a b c : DriveState) → KeepsZones a b → KeepsZones b c → KeepsZones a c
 keeps-both a b c k l = record {
   geometry = l.geometry ∙ k.geometry;
@@ -32,12 +34,15 @@ keeps-both a b c k l = record {
   appended = l.appended ∙ k.appended;
 }
 
+-- a look at the drive does not change what its zones hold
 pub kept-contents : (old new : DriveState) → KeepsZones old new → contents new.zones ≡ contents old.zones
 kept-contents old new k = contents-closing old.zones new.zones k.closing
 
+-- a look at the drive does not change the readable blocks of a zone
 pub kept-blocks : (old new : DriveState) (zone : ℕ) → KeepsZones old new → readable_at new zone ≡ readable_at old zone
 kept-blocks old new zone k = rw (k.geometry, kept-contents old new k) refl
 
+-- a zone that is known is still known after a look at the drive
 pub kept-known : (old new : DriveState) (zone : ℕ) (reported : ReportedZone) → KeepsZones old new → IsKnown old zone reported → IsKnown new zone reported
 kept-known old new zone reported k known =
     let same = kept-contents old new k in
@@ -58,16 +63,19 @@ get_or-any [] i d e lt = absurd (omega arith)
 get_or-any (x ∷ xs) zero d e lt = refl
 get_or-any (x ∷ xs) (suc i) d e lt = get_or-any xs i d e (omega arith)
 
+-- a known zone has no more readable blocks than its capacity
 pub known-few : (drive : DriveState) (zone : ℕ) (reported : ReportedZone) → IsKnown drive zone reported → reported.blocks ≤ drive.geometry.capacity
 known-few drive zone reported known =
     let few = length-readable drive.geometry (content_at (contents drive.zones) zone) (zone-few drive zone known.lawful known.in_range) in
     omega (arith, few, known.blocks)
 
+-- a Read of one block at this address is allowed, and shows this block of the zone
 pub record ReadsBlock (drive : DriveState) (zone offset address : ℕ) : Type 0 where
   pub can : CanRead drive address 1
   pub shows : block_at drive.geometry (contents drive.zones) address ≡ block_of drive zone offset
 
-pub known-read : (drive : DriveState) (zone offset address : ℕ) (reported : ReportedZone) → IsKnown drive zone reported → offset < reported.blocks → address ≡ zone * drive.geometry.size + offset → ReadsBlock drive zone offset address
+-- each readable block of a known zone can be read at its address
+known-read : (drive : DriveState) (zone offset address : ℕ) (reported : ReportedZone) → IsKnown drive zone reported → offset < reported.blocks → address ≡ zone * drive.geometry.size + offset → ReadsBlock drive zone offset address
 known-read drive zone offset address reported known lt is =
     let g = drive.geometry in
     let zones = contents drive.zones in
@@ -95,6 +103,7 @@ pub read-shown : (drive : DriveState) (zone offset address : ℕ) (reported : Re
 read-shown drive zone offset address reported bytes known lt is shown =
     shown ∙ append-nil (block_at drive.geometry (contents drive.zones) address) ∙ (known-read drive zone offset address reported known lt is).shows
 
+-- a Read that succeeds keeps the zones, though the controller may close some
 pub read-keeps : (old new : DriveState) → Obeys {V = Unit {0}} old (Ok tt) new → IsClosing old.zones new.zones → Counts old new 0 → KeepsZones old new
 read-keeps old new obeys closing counts = record { geometry = obeys.geometry; lawful = obeys.lawful; closing = closing; refused = counts.refused; appended = omega (arith, counts.appended) }
 
@@ -104,6 +113,7 @@ pub record Halts (old new : DriveState) (fault : PortFault) : Type 0 where
   pub kept : KeepsZones old new
   pub cause : FailsBy (λ _. ⊥) new (mount_fault fault)
 
+-- a Read of a known zone's block fails only by a halt, and keeps the zones
 pub read-halts : (old new : DriveState) (zone offset address : ℕ) (reported : ReportedZone) (returned : List ℕ) (fault : PortFault) → IsKnown old zone reported → offset < reported.blocks → address ≡ zone * old.geometry.size + offset
     → ReadGives {V = Unit {0}} old address 1 (Err fault) returned new → IsClosing old.zones new.zones → Obeys {V = Unit {0}} old (Err fault) new → (CanRead old address 1 → IsNotRefused {V = Unit {0}} (Err fault)) → Halts old new fault
 read-halts old new zone offset address reported returned (port.Refused status) known lt is gives closing obeys passed = absurd (passed (known-read old zone offset address reported known lt is).can)

@@ -34,6 +34,7 @@ head-cases : (x r : Record) (rs : List Record) → Contains (x ∷ rs) r → (x 
 head-cases x r rs (zero, lt, is) = inl is
 head-cases x r rs (suc k, lt, is) = inr (k, omega (arith, lt), is)
 
+-- of records that are apart, two with one block and one sequence are the same
 pub same-record : (rs : List Record) (a b : Record) → AreApart rs → Contains rs a → Contains rs b → a.block ≡ b.block → a.sequence ≡ b.sequence → a ≡ b
 same-record [] a b apart (k, lt, is) d e f = absurd (omega (arith, lt))
 same-record (r ∷ rs) a b apart c d e f = by (head-cases r a rs c) (head-cases r b rs d) (λ x y. same-record rs a b apart.1 x y e f)
@@ -125,6 +126,7 @@ logs-once drive first (log ∷ logs) has le part = (
         let is_log = all-at (HasLog drive.geometry) (contents drive.zones) first nothing has (omega (arith, le, length-map drive.zones content_of)) in
         rw log_is (all-weaker (IsBatch drive.geometry.block) NamesOnce (zone_log drive.geometry content) (λ batch is. is.heading.distinct) is_log.front.batches)
 
+-- the logs that a survey knows have no two records with one block and one sequence
 pub knows-apart : (drive : DriveState) (n : ℕ) (logs : List (List Batch)) (survey : Survey) → Knows drive n logs survey → AreApart (records 0 logs)
 knows-apart drive n logs survey known =
     records-apart 0 logs (logs-once drive 0 logs known.all_logs (omega (arith, known.count)) (λ k. let same : 0 + k ≡ k = omega arith in rw same (known.part k))) known.sound.distinct

@@ -33,6 +33,7 @@ few-zones drive n logs survey known =
     let count : length survey.scanned.items ≡ length logs = sym (length-map survey.scanned.items (λ (z : ScannedZone). z.heads)) ∙ ap length known.heads ∙ length-map logs heads_of in
     omega (arith, count, known.count, known.zones.lawful.count, known.zones.geometry.zones.1)
 
+-- the table covers all zones of Moves, in all logs with the survey's headers
 abbrev pub CoversAll : Survey → BlockRecords → Type 0
 CoversAll survey table = length survey.scanned.items < 2 ^ 32 → (logs : List (List Batch)) → AreOf survey.scanned.items logs → CoversMoved logs survey.scanned.items table
 
@@ -40,15 +41,18 @@ CoversAll survey table = length survey.scanned.items < 2 ^ 32 → (logs : List (
 abbrev pub NotesAll : Survey → BlockRecords → BlockRecords → Type 0
 NotesAll survey old new = length survey.scanned.items < 2 ^ 32 → NotesNewest (heads_in survey.scanned.items) old new
 
+-- a table that holds more and keeps the same still covers the zones of Moves
 pub known-covers : (drive : DriveState) (n : ℕ) (logs : List (List Batch)) (survey : Survey) (old new : BlockRecords) → CoversAll survey old → HoldsMore old new → new.own ≡ old.own → Knows drive n logs survey → CoversMoved logs survey.scanned.items new
 known-covers drive n logs survey old new covers more same known zone moved found there =
     heads-more old new zone found.heads more (same-own old new zone same) (covers (few-zones drive n logs survey known) logs known.heads zone moved found there)
 
+-- a table that covers a scanned zone's headers, and then only grows, covers the zone
 pub covers-one : (survey : Survey) (zone : ℕ) (one : ScannedZone) (old new : BlockRecords) → slice_get survey.scanned.items zone ≡ Some one → CoversHeads old zone one.heads → HoldsMore old new → new.own ≡ old.own → CoversZone survey.scanned.items new zone
 covers-one survey zone one old new there covers more kept found found_is =
     let same : one ≡ found = (let e = sym there ∙ found_is in cc) in
     subst (λ (z : ScannedZone). CoversHeads new zone z.heads) same (heads-more old new zone one.heads more (same-own old new zone kept) covers)
 
+-- a table with no record that took all newest records holds the records of the logs
 pub known-holds : (drive : DriveState) (n : ℕ) (logs : List (List Batch)) (survey : Survey) (old new : BlockRecords) → HasNoRecord old → NotesAll survey old new → Knows drive n logs survey → HoldsRecords logs new
 known-holds drive n logs survey old new none noted known =
     let done = noted (few-zones drive n logs survey known) in
@@ -58,9 +62,11 @@ known-holds drive n logs survey old new none noted known =
 
 -- ---- a zone is forgotten
 
+-- a scanned zone that was read at its number is the one that the survey holds
 pub scanned-at : (items : List ScannedZone) (survey : Survey) (zone : ℕ) (found : ScannedZone) → items ≡ survey.scanned.items → zone < length items → found ≡ get_or items zone found → slice_get survey.scanned.items zone ≡ Some found
 scanned-at items survey zone found same lt is = subst (λ (xs : List ScannedZone). slice_get xs zone ≡ Some found) same (there items zone found lt is)
 
+-- a table without a zone's newest records holds the records of the logs without the zone
 pub known-forgets : (drive : DriveState) (n : ℕ) (logs : List (List Batch)) (survey : Survey) (zone : ℕ) (found : ScannedZone) (own : List KeptRecord) (old new : BlockRecords) → own ≡ own_of old zone → Changes forgets old new own
     → Knows drive n logs survey → slice_get survey.scanned.items zone ≡ Some found → CoversHeads old zone found.heads → HoldsRecords logs old → HoldsRecords (without logs zone) new
 known-forgets drive n logs survey zone found own old new listed_is forgot known there covers holds =

@@ -92,6 +92,7 @@ now-at of put old new rs block sequence first held changes was there =
 abbrev itself : KeptRecord → KeptRecord
 itself k = k
 
+-- what holds of all these records holds of one among them
 pub kept-among : (P : KeptRecord → Type 0) (ks : List KeptRecord) (k : KeptRecord) → AllByRecursion P ks → Contains ks k → P k
 kept-among P ks k all c = All-contains P ks k (All-from_recursion P ks all) c
 
@@ -120,6 +121,7 @@ noted-records logs all block held apart newest at = record {
         (from.0, from.1, ap (λ (k : KeptRecord). k.block) from.2 ∙ x.2, ap (λ (k : KeptRecord). k.sequence) from.2 ∙ x.3, from.2 ∙ one, from.3)
     other sequence found e (inr none) = absurd (let now = none.1 in cc)
 
+-- a table with no record holds the logs' records once all newest records are put in
 pub holds-noted : (logs : List (List Batch)) (old new : BlockRecords) (all : List KeptRecord) → AreApart (records 0 logs) → IsNewestList logs all → HasNoRecord old → Changes notes old new all → HoldsRecords logs new
 holds-noted logs old new all apart newest none changes block held there =
     let was = was-held notes old new all block held changes there in
@@ -130,6 +132,7 @@ holds-noted logs old new all apart newest none changes block held there =
 
 -- ---- those of a zone are taken out
 
+-- a record outside a zone is one of the records, and in another zone
 pub among-outside : (zone : ℕ) (rs : List Record) (r : Record) → Contains (outside zone rs) r → Contains rs r × (r.zone ≢ zone)
 among-outside zone [] r c = absurd (omega (arith, c.1))
 among-outside zone (x ∷ rs) r c = by (eqb x.zone zone) refl (λ d. among-outside zone rs r d) c
@@ -148,6 +151,7 @@ among-outside zone (x ∷ rs) r c = by (eqb x.zone zone) refl (λ d. among-outsi
     by true e rest d = more (rest d)
     by false e rest d = first e rest d
 
+-- a record that is in another zone is among the records outside the zone
 pub outside-among : (zone : ℕ) (rs : List Record) (r : Record) → Contains rs r → r.zone ≢ zone → Contains (outside zone rs) r
 outside-among zone [] r c apart = absurd (omega (arith, c.1))
 outside-among zone (x ∷ rs) r (zero, lt, is) apart = rw (ne_eqb x.zone zone (λ same. apart (ap (λ (y : Record). y.zone) (sym is) ∙ same))) (0, omega arith, is)
@@ -180,6 +184,7 @@ zone-own P first (suc index) zone (log ∷ logs) e all =
     (all-weaker (λ (r : Record). r.zone ≡ first) (λ (r : Record). r.zone ≡ zone → P r) (log_records first 0 log) (λ r is here. absurd (omega (arith, e, is, here))) (log-zone first 0 log))
     (zone-own P (suc first) index zone logs (omega (arith, e)) all)
 
+-- what holds of each member of a list holds of all of it
 pub all-self : {X : Type 0} (P : X → Type 0) (xs : List X) → ((x : X) → Contains xs x → P x) → AllByRecursion P xs
 all-self P [] each = tt
 all-self P (x ∷ xs) each = (each x (0, omega arith, refl), all-self P xs (λ y c. each y (in-rest x y xs c)))
@@ -243,6 +248,7 @@ forgotten-records logs zone block own first held apart newest are at = record {
         let apart_zone : r.0.zone ≢ zone = (λ here. taken sequence r.0 r.1 r.2 r.3 r.5 none.0 here) in
         (r.0, subst (λ (rs : List Record). Contains rs r.0) others (outside-among zone all_records r.0 r.1 apart_zone), r.2, r.3, r.4, less r.0 r.5)
 
+-- with a zone's newest records taken out, a table holds the records of the other logs
 pub holds-forgotten : (logs : List (List Batch)) (zone : ℕ) (own : List KeptRecord) (old new : BlockRecords) → AreApart (records 0 logs) → AreNewest (map kept_record (log_records zone 0 (log_at logs zone))) own → HoldsRecords logs old → Changes forgets old new own
     → HoldsRecords (without logs zone) new
 holds-forgotten logs zone own old new apart newest holds changes block held there =

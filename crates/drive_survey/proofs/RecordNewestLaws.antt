@@ -29,7 +29,8 @@ use Rattle.drive_survey.proofs.RecordMapLaws.{among-outside, outside-among}
 abbrev IsLatest : List Record → Record → Type 0
 IsLatest rs b = (s : Record) → Contains rs s → s.block ≡ b.block → s.sequence ≤ b.sequence
 
-pub newest-found : (block : ℕ) (rs : List Record) (r : Record) (kept : KeptRecord) → Contains rs r → r.block ≡ block → kept_record r ≡ kept
+-- a kept record that every latest record of its block agrees with is the newest
+newest-found : (block : ℕ) (rs : List Record) (r : Record) (kept : KeptRecord) → Contains rs r → r.block ≡ block → kept_record r ≡ kept
     → ((b : Record) → Contains rs b → b.block ≡ block → IsLatest rs b → r.sequence ≤ b.sequence → kept_record b ≡ kept) → Some kept ≡ option_map kept_record (newest block rs)
 newest-found block rs r kept c same is latest = by (newest block rs) (newest-is block rs)
   where
@@ -39,6 +40,7 @@ newest-found block rs r kept c same is latest = by (newest block rs) (newest-is 
         let top : IsLatest rs b = λ s d e. all-among (λ (other : Record). other.block ≡ b.block → other.sequence ≤ b.sequence) rs s live.1.greatest d e in
         ap (λ (k : KeptRecord). Some k) (sym (latest b live.1.among live.0 top (top r c (same ∙ sym live.0))))
 
+-- a block with no latest record has no newest one
 pub newest-none : (block : ℕ) (rs : List Record) → ((b : Record) → Contains rs b → b.block ≡ block → IsLatest rs b → ⊥) → None ≡ option_map kept_record (newest block rs)
 newest-none block rs none = by (newest block rs) (newest-is block rs)
   where
@@ -48,6 +50,7 @@ newest-none block rs none = by (newest block rs) (newest-is block rs)
 
 -- ---- the last of all
 
+-- the record held with the greatest sequence is the newest of its block
 pub last-newest : (logs : List (List Batch)) (table : BlockRecords) (block sequence : ℕ) (held : BTreeMap ℕ KeptRecord) (found : KeptRecord) → held_of table block ≡ Some held → get nat_cmp held sequence ≡ Some found
     → ((q : ℕ) → IsSome (get nat_cmp held q) → q ≤ sequence) → HoldsRecords logs table → Some found ≡ option_map kept_record (newest block (records 0 logs))
 last-newest logs table block sequence held found there at last holds =
@@ -62,10 +65,12 @@ last-newest logs table block sequence held found there at last holds =
         let both = sym is ∙ ap (get nat_cmp held) one ∙ at in
         cc
 
+-- a block that is held with no record has no newest one
 pub empty-newest : (logs : List (List Batch)) (table : BlockRecords) (block : ℕ) (held : BTreeMap ℕ KeptRecord) → held_of table block ≡ Some held → IsEmpty held → HoldsRecords logs table → None ≡ option_map kept_record (newest block (records 0 logs))
 empty-newest logs table block held there empty holds =
     newest-none block (records 0 logs) (λ b c same top. let is = rw empty at ((holds block held there).all_held b c same (λ s d e z. top s d e)) in cc)
 
+-- a map with no entry is empty
 pub none-empty : (held : BTreeMap ℕ KeptRecord) → (0 < length held.entries → ⊥) → IsEmpty held
 none-empty held none = by held.entries none
   where
@@ -140,6 +145,7 @@ last-is logs zone block held front sequence found ordered are apart others =
         by (inl d) = first (Contains-push_cases front e (b.sequence, kept_record b) d)
         by (inr d) = absurd (in-zone zone others.after b others.inside d outer)
 
+-- the last record held outside a zone, if any, is the block's newest without the zone
 pub outside-newest : (logs : List (List Batch)) (table : BlockRecords) (block zone : ℕ) (held : BTreeMap ℕ KeptRecord) (found : Option KeptRecord) → held_of table block ≡ Some held → IsOrdered nat_cmp held → IsLastOutside held zone found → HoldsRecords logs table
     → found ≡ option_map kept_record (newest block (records 0 (without logs zone)))
 outside-newest logs table block zone held None there ordered last holds =

@@ -21,34 +21,25 @@ Slot = Option (Option KeptRecord)
 
 -- ---- one record
 
+-- a key is at a number exactly if the two are equal
 pub at-is : (k q : ℕ) → is_at (nat_cmp k) q ≡ eqb k q
 at-is k q = grind (arith, nat_tests)
 
 -- ---- one part after the other
 
+-- putting in two lists of records, one after the other, is putting in both at once
 pub slot-append : (put : Put) (block sequence : ℕ) (slot : Slot) (xs ys : List KeptRecord) → slot_after put block sequence slot (xs ++ ys) ≡ slot_after put block sequence (slot_after put block sequence slot xs) ys
 slot-append put block sequence slot [] ys = refl
 slot-append put block sequence slot (x ∷ xs) ys =
     slot-append put block sequence (option_map (λ (found : Option KeptRecord). cond (eqb x.block block && eqb x.sequence sequence) (put x) found) slot) xs ys
 
+-- to drop n elements is to drop as many of them as the list has
 pub drop-min : {X : Type 0} (n : ℕ) (xs : List X) → drop (min n (length xs)) xs ≡ drop n xs
 drop-min {X} n xs = by (cases_lt n (length xs))
   where
     by : (n < length xs) ⊎ (length xs ≤ n) → drop (min n (length xs)) xs ≡ drop n xs
     by (inl lt) = let same : min n (length xs) ≡ n = omega arith in ap (λ (k : ℕ). drop k xs) same
     by (inr le) = drop_all (min n (length xs)) xs (omega arith) ∙ sym (drop_all n xs le)
-
--- the records of a batch are taken
-pub batch-step : (put : Put) (block sequence zone from i i' k : ℕ) (heads items : List Head) (head d : Head) (rest own others : List ℕ) (slot slot' all : Slot)
-    → items ≡ heads → i < length items → head ≡ get_or items i d → i' ≡ suc i → k ≡ min (head.end - from) (length rest) → own ≡ take k rest → others ≡ drop k rest
-    → slot' ≡ slot_after put block sequence slot (kept_entries head.sequence zone head.offset 0 own)
-    → slot_after put block sequence slot (kept_batches zone from (drop i heads) rest) ≡ all → slot_after put block sequence slot' (kept_batches zone head.end (drop i' heads) others) ≡ all
-batch-step put block sequence zone from i i' k heads items head d rest own others slot slot' all same lt is more count owned left taken before =
-    let next : drop i heads ≡ head ∷ drop (suc i) heads = rw (← same) (drop-cons items i d lt ∙ ap (λ (h : Head). h ∷ drop (suc i) items) (sym is)) in
-    let own_is : own ≡ take (head.end - from) rest = owned ∙ ap (λ (n : ℕ). take n rest) count ∙ take_min (head.end - from) rest in
-    let others_is : others ≡ drop (head.end - from) rest = left ∙ ap (λ (n : ℕ). drop n rest) count ∙ drop-min (head.end - from) rest in
-    let before' = rw next at before in
-    rw (taken, own_is, others_is, more) (sym (slot-append put block sequence slot (kept_entries head.sequence zone head.offset 0 (take (head.end - from) rest)) (kept_batches zone head.end (drop (suc i) heads) (drop (head.end - from) rest))) ∙ before')
 
 -- one of a list of records is taken
 pub each-step : (put : Put) (block sequence i i' : ℕ) (own : List KeptRecord) (d : KeptRecord) (slot slot' all : Slot) → i < length own → i' ≡ suc i → slot' ≡ slot_after put block sequence slot (get_or own i d ∷ [])
@@ -76,6 +67,7 @@ held-slot (Some held) sequence some = refl
 abbrev pub Changes : Put → BlockRecords → BlockRecords → List KeptRecord → Type 0
 Changes put old new rs = (block sequence : ℕ) → slot_of new block sequence ≡ slot_after put block sequence (slot_of old block sequence) rs
 
+-- a changed table still holds the blocks that it held before
 pub changed-more : (put : Put) (old new : BlockRecords) (rs : List KeptRecord) → Changes put old new rs → (block : ℕ) → IsSome (held_of old block) → IsSome (held_of new block)
 changed-more put old new rs changes block some =
     held-slot (held_of new block) 0 (rw (changes block 0) (slot-stays put block 0 (slot_of old block 0) rs (slot-held (held_of old block) 0 some)))

@@ -26,7 +26,7 @@ use Rattle.drive_survey.proofs.ReadLaws.{Halts, keeps-none}
 -- ---- one zone
 
 -- a zone with a descriptor that a report shows
-pub zone-descriptor : (geometry : Geometry) (number : ℕ) (zone : Zone) → IsInRange geometry → number < geometry.zones → IsLawfulZone geometry zone → IsDescriptor (descriptor_of geometry number (zone_status zone))
+zone-descriptor : (geometry : Geometry) (number : ℕ) (zone : Zone) → IsInRange geometry → number < geometry.zones → IsLawfulZone geometry zone → IsDescriptor (descriptor_of geometry number (zone_status zone))
 zone-descriptor geometry number zone range lt lawful =
     let start : number * geometry.size ≤ 65536 * 2 ^ 20 = mul-le number geometry.size 65536 (2 ^ 20) (omega (arith, lt, range.zones)) (omega (arith, range.size)) in
     record {
@@ -71,6 +71,7 @@ pub record Left (geometry : Geometry) (zones : List Zone) (reported : List Repor
   pub lawful : AllByRecursion (IsLawfulZone geometry) others
   pub rest_is : rest ≡ flat_map descriptor_bytes (matching geometry AnyState (length done) others)
 
+-- before the first descriptor is read, all zones are left
 pub left-all : (geometry : Geometry) (capacity : ℕ) (zones : List Zone) (bytes : List ℕ) → TellsZones geometry capacity zones bytes → Left geometry zones [] bytes
 left-all geometry capacity zones bytes tells = record { done = []; others = zones; all = refl; are = tt; lawful = tells.lawful; rest_is = tells.bytes_are }
 
@@ -97,6 +98,7 @@ pub record InFront (geometry : Geometry) (capacity : ℕ) (zones : List Zone) (r
   pub is : front ≡ descriptor_bytes d
   pub more : (one : ReportedZone) → IsReported geometry zone one → Left geometry zones (reported ++ one ∷ []) after
 
+-- as long as 64 bytes are left, the descriptor of the next zone is in front
 pub in-front : (geometry : Geometry) (capacity : ℕ) (zones : List Zone) (reported : List ReportedZone) (bytes rest front after : List ℕ) → TellsZones geometry capacity zones bytes → 64 ≤ length rest → front ≡ take 64 rest → after ≡ drop 64 rest
     → Left geometry zones reported rest → (d : Descriptor) × InFront geometry capacity zones reported front after d
 in-front geometry capacity zones reported bytes rest front after tells long front-at after-at left = at left.others refl
@@ -129,6 +131,7 @@ in-front geometry capacity zones reported bytes rest front after tells long fron
           },
         )
 
+-- with fewer than 64 bytes left, all zones are reported
 pub none-left : (geometry : Geometry) (zones : List Zone) (reported : List ReportedZone) (rest : List ℕ) → length rest < 64 → Left geometry zones reported rest → AreReported geometry zones reported
 none-left geometry zones reported rest short left = at left.others refl
   where
@@ -178,7 +181,8 @@ lawful-closing geometry [] (n ∷ ns) closing all = absurd closing
 lawful-closing geometry (o ∷ os) [] closing all = absurd closing
 lawful-closing geometry (o ∷ os) (n ∷ ns) closing all = (lawful-closes geometry o n closing.0 all.0, lawful-closing geometry os ns closing.1 all.1)
 
-pub tells-zones : (old new : DriveState) (dwords capacity : ℕ) (bytes rest : List ℕ) → IsInRange old.geometry → IsLawful old → dwords ≡ 16 * (1 + old.geometry.zones) → capacity ≡ old.geometry.capacity → rest ≡ drop 64 bytes
+-- the bytes after the head of a report of all zones are their descriptors
+tells-zones : (old new : DriveState) (dwords capacity : ℕ) (bytes rest : List ℕ) → IsInRange old.geometry → IsLawful old → dwords ≡ 16 * (1 + old.geometry.zones) → capacity ≡ old.geometry.capacity → rest ≡ drop 64 bytes
     → (told : Reported old new 0 AnyState false dwords bytes) → TellsZones old.geometry capacity told.zones rest
 tells-zones old new dwords capacity bytes rest range lawful is cap at told =
     let count : length told.zones ≡ old.geometry.zones = omega (arith, length-closing old.zones told.zones told.before, lawful.count) in
@@ -190,6 +194,7 @@ tells-zones old new dwords capacity bytes rest range lawful is cap at told =
       bytes_are = at ∙ ap (λ (bs : List ℕ). drop 64 bs) told.bytes_are ∙ report-rest old.geometry told.zones dwords (omega (arith, range.size)) (omega (arith, is, count));
     }
 
+-- the zones read from a report are the drive's zones at a moment of the call
 pub reports-zones : (old new : DriveState) (dwords capacity : ℕ) (bytes rest : List ℕ) (reported : List ReportedZone) → IsInRange old.geometry → IsLawful old → dwords ≡ 16 * (1 + old.geometry.zones) → capacity ≡ old.geometry.capacity → rest ≡ drop 64 bytes
     → Reported old new 0 AnyState false dwords bytes → ((geometry : Geometry) (zones : List Zone) → TellsZones geometry capacity zones rest → AreReported geometry zones reported) → ReportsZones old reported new
 reports-zones old new dwords capacity bytes rest reported range lawful is cap at told are =
@@ -198,13 +203,3 @@ reports-zones old new dwords capacity bytes rest reported range lawful is cap at
 -- a drive whose geometry is in range has an address 0
 pub can-report : (drive : DriveState) → IsInRange drive.geometry → 0 < end_of drive.geometry
 can-report drive range = let one : 1 * 1 ≤ drive.geometry.zones * drive.geometry.size = mul-le 1 1 drive.geometry.zones drive.geometry.size (omega (arith, range.zones)) (omega (arith, range.size)) in omega (arith, one)
-
-pub report-halts : (old new : DriveState) (dwords : ℕ) (returned : List ℕ) (fault : PortFault) → IsInRange old.geometry → IsLawful old → ReportGives {V = Unit {0}} old 0 AnyState false dwords (Err fault) returned new → IsClosing old.zones new.zones
-    → Obeys {V = Unit {0}} old (Err fault) new → (0 < end_of old.geometry → IsNotRefused {V = Unit {0}} (Err fault)) → Halts old new fault
-report-halts old new dwords returned (port.Refused status) range lawful gives closing obeys passed = absurd (passed (can-report old range))
-report-halts old new dwords returned port.Memory range lawful gives closing obeys passed = record { halt = tt; kept = rw gives.1.1 (keeps-none old lawful); cause = inl refl }
-report-halts old new dwords returned port.Stopped range lawful gives closing obeys passed = record {
-  halt = tt;
-  kept = record { geometry = obeys.geometry; lawful = obeys.lawful; closing = closing; refused = (obeys.counts refl).refused; appended = (obeys.counts refl).appended };
-  cause = inr (inl (refl, obeys.stops refl));
-}

@@ -15,6 +15,7 @@ TakesOn drive zone before heads seen = Takes drive.geometry (content_at (content
 takes-kept : (first now : DriveState) (zone : ℕ) (before seen : List ℕ) (heads : HeadsView) → KeepsZones first now → TakesOn first zone before heads seen → TakesOn now zone before heads seen
 takes-kept first now zone before seen heads kept takes = rw (kept.geometry, kept-contents first now kept) takes
 
+-- what is taken next of a zone is the same before and after looks at the drive
 pub step-ok : (first now : DriveState) (zone : ℕ) (before seen seen' : List ℕ) (old new : HeadsView) (next : Option Bool) → KeepsZones first now → TakesOn first zone before old seen
     → ((b : List ℕ) → TakesOn now zone b old seen → TakesNext now.geometry (content_at (contents now.zones) zone) b old next new seen')
     → TakesNext first.geometry (content_at (contents first.zones) zone) before old next new seen'
@@ -22,6 +23,7 @@ step-ok first now zone before seen seen' old new next kept takes more =
     let there = more before (takes-kept first now zone before seen old kept takes) in
     rw (kept.geometry, kept-contents first now kept) at there
 
+-- a zone's fault, met after looks at the drive, is the first that it had before them
 pub step-err : (first now last : DriveState) (zone : ℕ) (before seen : List ℕ) (old : HeadsView) (fault : MountFault) → KeepsZones first now → TakesOn first zone before old seen
     → FailsBy (λ f. (b : List ℕ) → TakesOn now zone b old seen → FailsIn now.geometry (content_at (contents now.zones) zone) zone b f) last fault
     → FailsBy (FailsIn first.geometry (content_at (contents first.zones) zone) zone before) last fault

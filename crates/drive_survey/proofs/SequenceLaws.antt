@@ -7,10 +7,12 @@ use Rattle.drive_survey.specs.Scan.{heads_in}
 
 -- ---- the greatest sequence
 
-pub greatest-append : (xs ys : List ℕ) → greatest_sequence (xs ++ ys) ≡ max (greatest_sequence xs) (greatest_sequence ys)
+-- the greatest sequence of two lists is the greater of their greatest
+greatest-append : (xs ys : List ℕ) → greatest_sequence (xs ++ ys) ≡ max (greatest_sequence xs) (greatest_sequence ys)
 greatest-append [] ys = omega arith
 greatest-append (x ∷ xs) ys = omega (arith, greatest-append xs ys)
 
+-- with the next zone's sequences taken in, the greatest of all zones is the same
 pub greatest-step : (scanned : List ScannedZone) (i now more all : ℕ) (zone : ScannedZone) → i < length scanned → zone ≡ get_or scanned i zone → more ≡ max now (greatest_sequence (head_sequences zone.heads.heads))
     → max now (greatest_sequence (sequences_in (heads_in (drop i scanned)))) ≡ all → max more (greatest_sequence (sequences_in (heads_in (drop (i + 1) scanned)))) ≡ all
 greatest-step scanned i now more all zone lt is grown before =

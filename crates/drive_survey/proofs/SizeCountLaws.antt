@@ -38,14 +38,15 @@ count-cons : {X : Type 0} (p : X → Bool) (x : X) (xs : List X) → count_by p 
 count-cons p x xs = sum_by-cons (λ z. cond {A = ℕ} (p z) 1 0) x xs
 
 -- a zone has its share of a count
-pub count-forgotten : (p : HeadsView → Bool) (views : List HeadsView) (zone : ℕ) → p no_heads ≡ false → count_by p views ≡ one_if (p (view_at views zone)) + count_by p (without_heads views zone)
+count-forgotten : (p : HeadsView → Bool) (views : List HeadsView) (zone : ℕ) → p no_heads ≡ false → count_by p views ≡ one_if (p (view_at views zone)) + count_by p (without_heads views zone)
 count-forgotten p [] zone none = rw none refl
 count-forgotten p (v ∷ vs) zero none =
     let share : one_if (p no_heads) ≡ 0 = ap one_if none in
     omega (arith, share, count-cons p v vs, count-cons p no_heads vs)
 count-forgotten p (v ∷ vs) (suc zone) none = omega (arith, count-forgotten p vs zone none, count-cons p v vs, count-cons p v (without_heads vs zone))
 
-pub count-share : (p : HeadsView → Bool) (views : List HeadsView) (zone : ℕ) (b : Bool) → p no_heads ≡ false → p (view_at views zone) ≡ b → count_by p views ≡ one_if b + count_by p (without_heads views zone)
+-- a count is the count without a zone, and one more if the zone passes the test
+count-share : (p : HeadsView → Bool) (views : List HeadsView) (zone : ℕ) (b : Bool) → p no_heads ≡ false → p (view_at views zone) ≡ b → count_by p views ≡ one_if b + count_by p (without_heads views zone)
 count-share p views zone b none is = count-forgotten p views zone none ∙ ap (λ (t : Bool). one_if t + count_by p (without_heads views zone)) is
 
 count-none : (p : HeadsView → Bool) (views : List HeadsView) (zone : ℕ) → p no_heads ≡ false → p (view_at views zone) ≡ false → count_by p views ≡ count_by p (without_heads views zone)
@@ -53,7 +54,8 @@ count-none p views zone none is = omega (arith, count-share p views zone false n
 
 -- ---- the greatest size
 
-pub greatest-forgotten : (views : List HeadsView) (zone : ℕ) → greatest_in views ≡ larger (view_at views zone).size (greatest_in (without_heads views zone))
+-- the greatest size is the greater of a zone's own and the greatest of the others
+greatest-forgotten : (views : List HeadsView) (zone : ℕ) → greatest_in views ≡ larger (view_at views zone).size (greatest_in (without_heads views zone))
 greatest-forgotten [] zone = refl
 greatest-forgotten (v ∷ vs) zero = refl
 greatest-forgotten (v ∷ vs) (suc zone) =
@@ -128,7 +130,7 @@ said-below (v ∷ vs) size k e some = by (said-below vs size) v.size refl (great
 -- ---- the size without a zone
 
 -- another zone says the greatest one
-pub size-said : (n size : ℕ) (views : List HeadsView) (zone : ℕ) → size ≡ size_or n (greatest_in views) → count_by (says_size size) (without_heads views zone) ≢ 0 → size_or n (greatest_in (without_heads views zone)) ≡ size
+size-said : (n size : ℕ) (views : List HeadsView) (zone : ℕ) → size ≡ size_or n (greatest_in views) → count_by (says_size size) (without_heads views zone) ≢ 0 → size_or n (greatest_in (without_heads views zone)) ≡ size
 size-said n size views zone is some = by (greatest_in (without_heads views zone)) refl
   where
     least : (x : Option ℕ) (k : ℕ) → k ≤ size_or n (larger x (Some k))
@@ -143,7 +145,7 @@ size-said n size views zone is some = by (greatest_in (without_heads views zone)
         omega (arith, below, all, least (view_at views zone).size k)
 
 -- others say less
-pub size-other : (n size : ℕ) (views : List HeadsView) → count_by (says_size size) views ≡ 0 → count_by says_some views ≢ 0 → size_or n (greatest_in views) ≡ size → ⊥
+size-other : (n size : ℕ) (views : List HeadsView) → count_by (says_size size) views ≡ 0 → count_by says_some views ≢ 0 → size_or n (greatest_in views) ≡ size → ⊥
 size-other n size views none some = by (greatest_in views) refl
   where
     by : (x : Option ℕ) → greatest_in views ≡ x → size_or n x ≡ size → ⊥
@@ -155,7 +157,7 @@ size-other n size views none some = by (greatest_in views) refl
         omega (arith, said', none)
 
 -- no other says one
-pub size-none : (n : ℕ) (views : List HeadsView) → count_by says_some views ≡ 0 → size_or n (greatest_in views) ≡ n
+size-none : (n : ℕ) (views : List HeadsView) → count_by says_some views ≡ 0 → size_or n (greatest_in views) ≡ n
 size-none n views none = by (greatest_in views) refl
   where
     by : (x : Option ℕ) → greatest_in views ≡ x → size_or n x ≡ n
@@ -273,6 +275,7 @@ sized-more scanned limit found lt is silent none zone less sized = elim (cases_e
   | inr apart ↦ none zone (omega (arith, less, apart)) sized
 ]
 
+-- if no scanned zone says a size, no zone does
 pub sized-none : (scanned : List ScannedZone) (limit : ℕ) → length scanned ≤ limit → ((zone : ℕ) → zone < limit → IsSized (heads_in scanned) zone → ⊥) → (zone : ℕ) → IsSized (heads_in scanned) zone → ⊥
 sized-none scanned limit le none zone sized = elim (cases_lt zone limit) as (λ _. ⊥) [
   | inl lt ↦ none zone lt sized
@@ -287,6 +290,7 @@ sized-none scanned limit le none zone sized = elim (cases_lt zone limit) as (λ 
 same-counts : (a b c d : ℕ) → a ≡ c → b ≡ d → ◌≡◌ {A = SizeCounts} (record { any = a; greatest = b }) (record { any = c; greatest = d })
 same-counts a b c d any greatest = ap (λ (n : ℕ). record { any = n; greatest = b }) any ∙ ap (λ (n : ℕ). record { any = c; greatest = n }) greatest
 
+-- forgetting a zone that says no size changes no count
 pub counts-silent : (size zone : ℕ) (scanned : List ScannedZone) (found : ScannedZone) (said : Option ℕ) (counts : SizeCounts) → slice_get scanned zone ≡ Some found → said ≡ found.heads.size → said ≡ None
     → counts ≡ size_counts size (heads_in scanned) → counts ≡ size_counts size (without_heads (heads_in scanned) zone)
 counts-silent size zone scanned found said counts there_is says none are =
@@ -295,6 +299,7 @@ counts-silent size zone scanned found said counts there_is says none are =
     are ∙ same-counts (count_by says_some views) (count_by (says_size size) views) (count_by says_some (without_heads views zone)) (count_by (says_size size) (without_heads views zone))
     (count-none says_some views zone refl (ap (λ (s : Option ℕ). is_some s) own)) (count-none (says_size size) views zone refl (ap (says_this_size size) own))
 
+-- forgetting a zone that says another size takes one from the zones that say any
 pub counts-other : (size zone k less : ℕ) (scanned : List ScannedZone) (found : ScannedZone) (said : Option ℕ) (counts : SizeCounts) → slice_get scanned zone ≡ Some found → said ≡ found.heads.size → said ≡ Some k → k ≢ size → less ≡ counts.any - 1
     → counts ≡ size_counts size (heads_in scanned) → ◌≡◌ {A = SizeCounts} (record { any = less; greatest = counts.greatest }) (size_counts size (without_heads (heads_in scanned) zone))
 counts-other size zone k less scanned found said counts there_is says some differs fewer are =
@@ -306,6 +311,7 @@ counts-other size zone k less scanned found said counts there_is says some diffe
     same-counts less counts.greatest (count_by says_some (without_heads views zone)) (count_by (says_size size) (without_heads views zone))
     (omega (arith, fewer, before, any)) (ap (λ (c : SizeCounts). c.greatest) are ∙ greatest)
 
+-- forgetting a zone that says the disk's size takes one from both counts
 pub counts-own : (size zone k less fewest : ℕ) (scanned : List ScannedZone) (found : ScannedZone) (said : Option ℕ) (counts : SizeCounts) → slice_get scanned zone ≡ Some found → said ≡ found.heads.size → said ≡ Some k → k ≡ size → less ≡ counts.any - 1 → fewest ≡ counts.greatest - 1
     → counts ≡ size_counts size (heads_in scanned) → ◌≡◌ {A = SizeCounts} (record { any = less; greatest = fewest }) (size_counts size (without_heads (heads_in scanned) zone))
 counts-own size zone k less fewest scanned found said counts there_is says some same fewer fewer' are =
@@ -325,6 +331,7 @@ CountsOf survey zone all left = all ≡ size_counts survey.size (heads_in survey
 known-size : (drive : DriveState) (n : ℕ) (logs : List (List Batch)) (survey : Survey) → Knows drive n logs survey → survey.size ≡ size_or n (greatest_in (heads_in survey.scanned.items))
 known-size drive n logs survey known = known.size_is ∙ sym (ap (size_or n) (ap greatest_in known.heads ∙ greatest-heads logs))
 
+-- if another zone says the disk's size, the size is the same without the zone
 pub keeps-said : (n zone : ℕ) (survey : Survey) (all left : SizeCounts) → CountsOf survey zone all left → left.greatest ≢ 0
     → (drive : DriveState) (logs : List (List Batch)) → Knows drive n logs survey → all ≡ size_counts survey.size (heads_in survey.scanned.items) → encoded_size n (without logs zone) ≡ encoded_size n logs
 keeps-said n zone survey all left counts some drive logs known are =
@@ -332,6 +339,7 @@ keeps-said n zone survey all left counts some drive logs known are =
     sym (size-forgotten n logs views zone known.heads)
     ∙ size-said n survey.size views zone (known-size drive n logs survey known) (λ none. some (ap (λ (c : SizeCounts). c.greatest) (counts are) ∙ none)) ∙ known.size_is
 
+-- if the other zones say only smaller sizes, the size changes without the zone
 pub keeps-other : (n zone : ℕ) (survey : Survey) (all left : SizeCounts) → CountsOf survey zone all left → left.greatest ≡ 0 → left.any ≢ 0
     → (drive : DriveState) (logs : List (List Batch)) → Knows drive n logs survey → all ≡ size_counts survey.size (heads_in survey.scanned.items) → encoded_size n (without logs zone) ≡ encoded_size n logs → ⊥
 keeps-other n zone survey all left counts none some drive logs known are same =
@@ -339,6 +347,7 @@ keeps-other n zone survey all left counts none some drive logs known are same =
     size-other n survey.size (without_heads views zone) (ap (λ (c : SizeCounts). c.greatest) (sym (counts are)) ∙ none) (λ silent. some (ap (λ (c : SizeCounts). c.any) (counts are) ∙ silent))
     (size-forgotten n logs views zone known.heads ∙ same ∙ sym known.size_is)
 
+-- if no other zone says a size, the size stays exactly if it is the given one
 pub keeps-none : (n zone : ℕ) (survey : Survey) (all left : SizeCounts) → CountsOf survey zone all left → left.any ≡ 0
     → (drive : DriveState) (logs : List (List Batch)) → Knows drive n logs survey → all ≡ size_counts survey.size (heads_in survey.scanned.items) → Tells (eqb n survey.size) (encoded_size n (without logs zone) ≡ encoded_size n logs)
 keeps-none n zone survey all left counts none drive logs known are = by (eqb n survey.size) refl

@@ -121,6 +121,7 @@ pub record HasSequences (logs : List (List Batch)) : Type 0 where
   pub numbers : AllByRecursion (λ s. s < 2 ^ 63) (sequences logs)
   pub distinct : IsDistinct nat_eq (sequences logs)
 
+-- if no batch has a fault, all sequences differ and are below 2^63
 pub sound-sequences : (logs : List (List Batch)) → HaveNoFault [] logs → HasSequences logs
 sound-sequences logs none = let h = logs-new [] logs none in record { numbers = h.below; distinct = (new-distinct [] (sequences logs) h.new).0 }
 
@@ -158,5 +159,6 @@ none-seen : (xs : List ℕ) → AllByRecursion (λ x. member [] x ≡ false) xs
 none-seen [] = tt
 none-seen (x ∷ xs) = (refl, none-seen xs)
 
+-- if all sequences differ and are below 2^63, no batch has a fault
 pub sequences-sound : (logs : List (List Batch)) → HasSequences logs → HaveNoFault [] logs
 sequences-sound logs has = none-logs [] logs has.numbers (new-all [] (sequences logs) has.distinct (none-seen (sequences logs)))

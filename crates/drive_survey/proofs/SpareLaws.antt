@@ -34,6 +34,7 @@ use Rattle.drive_survey.proofs.SurveyLaws.{known-kept}
 
 -- ---- what is known stays so
 
+-- what a survey knows of a drive is still known after a look at it
 pub knows-kept : (old new : DriveState) (n : ℕ) (logs : List (List Batch)) (survey : Survey) → KeepsZones old new → Knows old n logs survey → Knows new n logs survey
 knows-kept old new n logs survey kept known =
     let same = kept-contents old new kept in
@@ -84,6 +85,7 @@ records-stand drive first (log ∷ logs) has le part =
         rw log_is (all-weaker (StandsIn (readable drive.geometry content) [] first) (StandsAt drive) (log_records first 0 (zone_log drive.geometry content)) one
         (zone_stands drive.geometry.block first (is_full content.usage) (readable drive.geometry content) (zone_log drive.geometry content) [] is_log))
 
+-- the data of all records that a survey knows is at its place
 pub knows-stand : (drive : DriveState) (n : ℕ) (logs : List (List Batch)) (survey : Survey) → Knows drive n logs survey → AllStand drive logs
 knows-stand drive n logs survey known = records-stand drive 0 logs known.all_logs (omega (arith, known.count)) (λ k. let same : 0 + k ≡ k = omega arith in rw same (known.part k))
 
@@ -124,11 +126,13 @@ all-same block_bytes logs zone own inside newest_own all block = by (newest bloc
 
 -- ---- the array
 
+-- the array is the same without a zone if the size and each block are
 pub spare-all : (block_bytes n : ℕ) (logs : List (List Batch)) (zone : ℕ) → encoded_size n (without logs zone) ≡ encoded_size n logs → ((block : ℕ) → ShowsSame block_bytes logs zone block) → IsSpare block_bytes n logs zone
 spare-all block_bytes n logs zone same each =
     ap (λ (size : ℕ). map (λ block. shown block_bytes (newest block (records 0 (without logs zone)))) (range_with_len 0 size)) same
     ∙ map_same (λ block. shown block_bytes (newest block (records 0 (without logs zone)))) (λ block. shown block_bytes (newest block (records 0 logs))) each (range_with_len 0 (encoded_size n logs))
 
+-- if the array and the size are the same without a zone, so is each block
 pub spare-at : (block_bytes n : ℕ) (logs : List (List Batch)) (zone block : ℕ) → encoded_size n (without logs zone) ≡ encoded_size n logs → IsSpare block_bytes n logs zone → block < encoded_size n logs → ShowsSame block_bytes logs zone block
 spare-at block_bytes n logs zone block size spare lt =
     let less = without logs zone in

@@ -67,6 +67,7 @@ found-at geometry (z ∷ zs) (x ∷ xs) (suc i) r are there =
 found-usage : (geometry : Geometry) (zones : List Zone) (i : ℕ) (r : ReportedZone) → (f : Found geometry zones i r) → (content_at (contents zones) i).usage ≡ usage_of r.state
 found-usage geometry zones i r f = ap (λ (c : Content). c.usage) f.content ∙ ap usage_of (sym f.is.state)
 
+-- if all reported zones are usable, each of them is known after the report
 pub known-all : (old new : DriveState) (reported : List ReportedZone) → IsInRange old.geometry → KeepsZones old new → ReportsZones old reported new → AreReportedUsable reported → AreKnown new reported
 known-all old new reported range kept reports usable = record {
   geometry = rw kept.geometry range;
@@ -95,6 +96,7 @@ known-all old new reported range kept reports usable = record {
           shut = λ told. closing-opens reports.zones new.zones reports.after zone (ap (λ (z : Zone). is_open z.state) f.here ∙ ap is_open (sym f.is.state) ∙ told);
         }
 
+-- a zone that was not open before the report is not reported open
 pub tells-shut : (old new : DriveState) (reported : List ReportedZone) → ReportsZones old reported new → TellsShut old reported
 tells-shut old new reported reports zone r there shut =
     let f = found-at old.geometry reports.zones reported zone r reports.are there in
@@ -103,6 +105,7 @@ tells-shut old new reported reports zone r there shut =
 
 -- ---- usable zones
 
+-- zones that are reported usable were usable before the report
 pub usable-old : (old new : DriveState) (reported : List ReportedZone) → ReportsZones old reported new → AreReportedUsable reported → AreUsable (contents old.zones)
 usable-old old new reported reports usable = rw (← contents-closing old.zones reports.zones reports.before) (at reports.zones reported reports.are usable)
   where
@@ -112,6 +115,7 @@ usable-old old new reported reports usable = rw (← contents-closing old.zones 
     at (z ∷ zs) [] are all = absurd are
     at (z ∷ zs) (r ∷ rs) are all = (rw are.0.state at all.0, at zs rs are.1 all.1)
 
+-- the lowest zone reported Read Only or Offline was the lowest one before the report
 pub unusable-old : (old new : DriveState) (reported : List ReportedZone) (zone : ℕ) → ReportsZones old reported new → IsLowestReported reported zone → IsLowestUnusable (contents old.zones) zone
 unusable-old old new reported zone reports lowest =
     let same = contents-closing old.zones reports.zones reports.before in
@@ -151,6 +155,7 @@ partly-same geometry zone r is usable = at zone.state refl (is.blocks (rw is.sta
 count-both : {X Y : Type 0} (p : X → Bool) (q : Y → Bool) (x : X) (y : Y) (xs : List X) (ys : List Y) → p x ≡ q y → count_by p xs ≡ count_by q ys → count_by p (x ∷ xs) ≡ count_by q (y ∷ ys)
 count-both p q x y xs ys one rest = let here : cond {A = ℕ} (p x) 1 0 ≡ cond (q y) 1 0 = rw one refl in omega (arith, here, rest, sum_by-cons (λ z. cond {A = ℕ} (p z) 1 0) x xs, sum_by-cons (λ z. cond {A = ℕ} (q z) 1 0) y ys)
 
+-- a report of usable zones tells how many of them are partly written
 pub partly-old : (old new : DriveState) (reported : List ReportedZone) → ReportsZones old reported new → AreReportedUsable reported → count_by is_partly_reported reported ≡ count_by is_partly_written (contents old.zones)
 partly-old old new reported reports usable = at reports.zones reported reports.are usable ∙ ap (λ (cs : List Content). count_by is_partly_written cs) (contents-closing old.zones reports.zones reports.before)
   where
@@ -162,10 +167,12 @@ partly-old old new reported reports usable = at reports.zones reported reports.a
 
 -- ---- the headers
 
+-- the greatest size in the headers is the greatest in the logs
 pub greatest-heads : (logs : List (List Batch)) → greatest_in (map heads_of logs) ≡ greatest logs
 greatest-heads [] = refl
 greatest-heads (log ∷ logs) = rw (size-is log, greatest-heads logs) refl
 
+-- the size found in the headers of a scan is the one that the logs encode
 pub size-found : (geometry : Geometry) (zones : List Content) (scanned : List ScannedZone) (n size : ℕ) → ScansAll geometry zones scanned → size ≡ size_or n (greatest_in (heads_in scanned)) → size ≡ encoded_size n (zone_logs geometry zones)
 size-found geometry zones scanned n size scans is = is ∙ ap (size_or n) (ap greatest_in scans.heads ∙ greatest-heads (zone_logs geometry zones))
 
@@ -185,12 +192,15 @@ all-inside : (size : ℕ) (logs : List (List Batch)) → 1 ≤ size → AllByRec
 all-inside size [] some all = tt
 all-inside size (log ∷ logs) some all = (inside-highest size log some all.0, all-inside size logs some all.1)
 
-pub inside-found : (geometry : Geometry) (zones : List Content) (scanned : List ScannedZone) (size : ℕ) → ScansAll geometry zones scanned → AreBelow size scanned → AllByRecursion (AllByRecursion (IsInside size)) (zone_logs geometry zones)
+-- if all scanned headers name blocks below a size, so do all batches
+inside-found : (geometry : Geometry) (zones : List Content) (scanned : List ScannedZone) (size : ℕ) → ScansAll geometry zones scanned → AreBelow size scanned → AllByRecursion (AllByRecursion (IsInside size)) (zone_logs geometry zones)
 inside-found geometry zones scanned size scans below = inside-all size (zone_logs geometry zones) (rw scans.heads at (below-heads size scanned below))
 
-pub outside-found : (geometry : Geometry) (zones : List Content) (scanned : List ScannedZone) (size : ℕ) → 1 ≤ size → ScansAll geometry zones scanned → (AreBelow size scanned → ⊥) → AllByRecursion (AllByRecursion (IsInside size)) (zone_logs geometry zones) → ⊥
+-- if not all scanned headers are below a size, not all batches are inside it
+outside-found : (geometry : Geometry) (zones : List Content) (scanned : List ScannedZone) (size : ℕ) → 1 ≤ size → ScansAll geometry zones scanned → (AreBelow size scanned → ⊥) → AllByRecursion (AllByRecursion (IsInside size)) (zone_logs geometry zones) → ⊥
 outside-found geometry zones scanned size some scans never all = never (heads-below size scanned (subst (λ (hs : List HeadsView). AllByRecursion (λ (h : HeadsView). h.highest < size) hs) (sym scans.heads) (all-inside size (zone_logs geometry zones) some all)))
 
+-- scanned logs that name only blocks below their size are sound
 pub sound-found : (geometry : Geometry) (zones : List Content) (scanned : List ScannedZone) (n size : ℕ) → ScansAll geometry zones scanned → size ≡ encoded_size n (zone_logs geometry zones) → AreBelow size scanned → AreSound (2 ^ 63) n (zone_logs geometry zones)
 sound-found geometry zones scanned n size scans is below =
     let h = sound-sequences (zone_logs geometry zones) scans.none in
@@ -198,6 +208,7 @@ sound-found geometry zones scanned n size scans is below =
 
 -- ---- as the drive was before
 
+-- what a scan found after a look at the drive holds of the drive before it
 pub scans-kept : (old new : DriveState) (scanned : List ScannedZone) → KeepsZones old new → ScansAll new.geometry (contents new.zones) scanned → ScansAll old.geometry (contents old.zones) scanned
 scans-kept old new scanned kept scans = rw (kept.geometry, kept-contents old new kept) at scans
 
@@ -238,6 +249,7 @@ fails-kind geometry zones fault fails = at fails.fails.first
     at (inl is) = log-kind (seen_after [] (zone_logs geometry (take fails.zone zones))) fails.fails.log fault is
     at (inr is) = ending-kind fails.zone (log_size fails.fails.log) (ending_of (is_full (content_at zones fails.zone).usage) fails.fails.rest) fault is.2
 
+-- if the scan fails, the survey fails by the same fault
 pub scan-refused : (old middle last : DriveState) (n : ℕ) (fault : MountFault) → KeepsZones old middle → CanScan old n → FailsBy (FailsFirst middle.geometry (contents middle.zones)) last fault → FailsBy (SurveyFails old n) last fault
 scan-refused old middle last n fault kept can fails = fails-more _ _ last fault more fails
   where
@@ -246,13 +258,12 @@ scan-refused old middle last n fault kept can fails = fails-more _ _ last fault 
         let here : FailsFirst old.geometry (contents old.zones) f = rw (kept.geometry, kept-contents old middle kept) at there in
         scan-fails old n f can here (fails-kind old.geometry (contents old.zones) f here)
 
-pub none-fails : (drive last : DriveState) (n : ℕ) (fault : MountFault) → FailsBy (λ _. ⊥) last fault → FailsBy (SurveyFails drive n) last fault
-none-fails drive last n fault fails = fails-more (λ _. ⊥) (SurveyFails drive n) last fault (λ f never. absurd never) fails
-
+-- a report of a lawful drive names fewer than 2^32 zones
 pub few-zones : (old new : DriveState) (reported : List ReportedZone) → IsInRange old.geometry → IsLawful old → ReportsZones old reported new → length reported < 2 ^ 32
 few-zones old new reported range lawful reports =
     omega (arith, same-count old.geometry reports.zones reported reports.are, length-closing old.zones reports.zones reports.before, lawful.count, range.zones)
 
+-- a drive in range whose zones are usable, with two partly written at most, can be scanned
 pub can-scan : (old new : DriveState) (n : ℕ) (reported : List ReportedZone) → IsInRange old.geometry → FitsReserve old.geometry n → ReportsZones old reported new → AreReportedUsable reported → count_by is_partly_reported reported ≤ 2 → CanScan old n
 can-scan old new n reported range reserve reports usable few = record {
   geometry = range;
@@ -263,18 +274,22 @@ can-scan old new n reported range reserve reports usable few = record {
 
 -- ---- what is after the scan
 
-pub hold-logs : (old : DriveState) (scanned : List ScannedZone) → ScansAll old.geometry (contents old.zones) scanned → HoldLogs old.geometry (contents old.zones)
+-- the zones of a drive that was scanned hold logs without a fault
+hold-logs : (old : DriveState) (scanned : List ScannedZone) → ScansAll old.geometry (contents old.zones) scanned → HoldLogs old.geometry (contents old.zones)
 hold-logs old scanned scans = record { logs = scans.logs; none = scans.none }
 
+-- a drive is refused if its reserve does not allow the size that was found
 pub reserve-refused : (old last : DriveState) (n size : ℕ) (scanned : List ScannedZone) → CanScan old n → ScansAll old.geometry (contents old.zones) scanned → size ≡ drive_size old n → (FitsReserve old.geometry size → ⊥) → FailsBy (SurveyFails old n) last faults.Reserve
 reserve-refused old last n size scanned can scans is never = inr (inr (can.geometry, inr (can, hold-logs old scanned scans, λ fits. never (subst (λ (k : ℕ). FitsReserve old.geometry k) (sym is) fits))))
 
+-- a drive is refused if a batch names a block that is not below the size
 pub block-refused : (old last : DriveState) (n size : ℕ) (scanned : List ScannedZone) → CanScan old n → ScansAll old.geometry (contents old.zones) scanned → size ≡ drive_size old n → FitsReserve old.geometry size → (AreBelow size scanned → ⊥)
     → FailsBy (SurveyFails old n) last faults.BlockOutOfRange
 block-refused old last n size scanned can scans is fits never =
     let outside = outside-found old.geometry (contents old.zones) scanned size fits.0 scans never in
     inr (inr (can, hold-logs old scanned scans, subst (λ (k : ℕ). FitsReserve old.geometry k) is fits, λ all. outside (subst (λ (k : ℕ). AllByRecursion (AllByRecursion (IsInside k)) (zone_logs old.geometry (contents old.zones))) (sym is) all)))
 
+-- zones that are known are still known after a look at the drive
 pub known-kept : (old new : DriveState) (reported : List ReportedZone) → KeepsZones old new → AreKnown old reported → AreKnown new reported
 known-kept old new reported kept known = record {
   geometry = rw kept.geometry known.geometry;

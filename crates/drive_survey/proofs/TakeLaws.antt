@@ -21,6 +21,7 @@ use Rattle.drive_survey.specs.Scan.{FailsIn, Scans, Takes, ending_fault, heading
 
 -- ---- one batch more
 
+-- the headers of a log with a batch more are the log's headers and the batch's
 pub heads-more : (view : HeadsView) (log : List Batch) (batch : Batch) → heads_after view (log ++ batch ∷ []) ≡ with_heading (heads_after view log) batch.heading
 heads-more view [] batch = refl
 heads-more view (b ∷ bs) batch = heads-more (with_heading view b.heading) bs batch
@@ -29,6 +30,7 @@ seen-more : (seen : List ℕ) (log : List Batch) (batch : Batch) → seen_with s
 seen-more seen [] batch = refl
 seen-more seen (b ∷ bs) batch = seen-more (insert_key nat_cmp seen b.heading.sequence) bs batch
 
+-- the first of two faults is none only if both are none
 pub or-none : (a b : Option MountFault) → fault_or a b ≡ None → (a ≡ None) × (b ≡ None)
 or-none None b is = (refl, is)
 or-none (Some a) b is = absurd (cc)
@@ -47,6 +49,7 @@ blocks-after : (view : HeadsView) (log : List Batch) → (heads_after view log).
 blocks-after view [] = omega arith
 blocks-after view (b ∷ bs) = blocks-after (with_heading view b.heading) bs ∙ omega arith
 
+-- the headers of a log count the blocks that its batches take
 pub blocks-are : (log : List Batch) → (heads_of log).blocks ≡ log_size log
 blocks-are log = blocks-after no_heads log ∙ omega arith
 
@@ -90,9 +93,11 @@ front-more size blocks others block log heading front header enough =
 
 -- ---- the states of a scan
 
+-- at the start of a zone no header was taken
 pub takes-none : (geometry : Geometry) (content : Content) (before : List ℕ) → Takes geometry content before no_heads before
 takes-none geometry content before = record { log = []; rest = readable geometry content; front = record { spelled = refl; batches = tt }; heads_are = refl; seen_are = refl; none = refl }
 
+-- a header without a fault, with enough blocks after it, is taken as the next one
 pub takes-more : (geometry : Geometry) (content : Content) (before seen : List ℕ) (heads : HeadsView) (block : List ℕ) (others : List (List ℕ)) (heading : Heading)
     → drop heads.blocks (readable geometry content) ≡ block ∷ others → IsHeaderBlock geometry.block block heading → data_count heading.entries ≤ length others → heading_fault seen heading ≡ None
     → Takes geometry content before heads seen → Takes geometry content before (with_heading heads heading) (insert_key nat_cmp seen heading.sequence)
@@ -152,6 +157,7 @@ torn-is geometry content log rest false told small full front one is =
     at zero size all e = sym (le-ltb size all (omega (arith, e)))
     at (suc n) size all e = lt-ltb 0 (suc n) (omega arith) ∙ sym (lt-ltb size all (omega (arith, e)))
 
+-- a zone is scanned once only a tail is left after the headers that were taken
 pub takes-all : (geometry : Geometry) (content : Content) (before seen : List ℕ) (heads : HeadsView) (told : Bool) → geometry.block < 2 ^ 32
     → IsTail geometry.block (is_full content.usage) (drop heads.blocks (readable geometry content)) → told ≡ (not (is_full content.usage) && nat_lt 0 (length (drop heads.blocks (readable geometry content))))
     → Takes geometry content before heads seen → Scans geometry content before heads told seen
@@ -168,6 +174,7 @@ takes-all geometry content before seen heads told small tail is t =
       seen_are = rw one t.seen_are;
     }
 
+-- if the batches end at a fault, it is the first of the zone
 pub takes-bad : (geometry : Geometry) (content : Content) (zone : ℕ) (before seen : List ℕ) (heads : HeadsView) (ending : Ending) (fault : MountFault)
     → BeginsWithNoBatch geometry.block (drop heads.blocks (readable geometry content)) → ending ≡ ending_of (is_full content.usage) (drop heads.blocks (readable geometry content))
     → ending_fault zone heads.blocks ending ≡ Some fault
@@ -183,11 +190,13 @@ takes-bad geometry content zone before seen heads ending fault no_more is fails 
 
 -- ---- if no batch begins
 
+-- blocks whose first is no header block begin with no batch
 pub none-begins : (size : ℕ) (block : List ℕ) (others : List (List ℕ)) → ((heading : Heading) → IsHeaderBlock size block heading → ⊥) → BeginsWithNoBatch size (block ∷ others)
 none-begins size block others never batch after is spelled =
     let same : block ≡ header_block size batch.heading = ap (λ (bs : List (List ℕ)). get_or bs 0 []) spelled in
     never batch.heading (record { says = is.heading; spelled = same })
 
+-- a header block with too few blocks after it begins no batch
 pub short-begins : (size : ℕ) (block : List ℕ) (others : List (List ℕ)) (heading : Heading) → size < 2 ^ 32 → IsHeaderBlock size block heading → length others < data_count heading.entries → BeginsWithNoBatch size (block ∷ others)
 short-begins size block others heading small header few batch after is spelled =
     let same : block ≡ header_block size batch.heading = ap (λ (bs : List (List ℕ)). get_or bs 0 []) spelled in
@@ -195,6 +204,3 @@ short-begins size block others heading small header few batch after is spelled =
     let long : length others ≡ length (batch.body ++ after) = ap (λ (bs : List (List ℕ)). length (drop 1 bs)) spelled in
     let count : data_count heading.entries ≡ data_count batch.heading.entries = ap (λ (h : Heading). data_count h.entries) one in
     absurd (omega (arith, few, long, count, is.body, length-append batch.body after))
-
-pub empty-begins : (size : ℕ) → BeginsWithNoBatch size []
-empty-begins size batch after is spelled = let long : 0 ≡ length (batch_blocks size batch ++ after) = ap length spelled in absurd (omega (arith, long))

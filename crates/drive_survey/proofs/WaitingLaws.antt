@@ -49,16 +49,6 @@ use Rattle.drive_survey.proofs.RecordTableLaws.{at-is}
 
 -- ---- sets of zones
 
-added-waits : (old new : BTreeSet ℕ) (zone : ℕ) → Updates nat_cmp old new zone true → IsTrue (contains nat_cmp new zone)
-added-waits old new zone updates = updates.0 zone ∙ ap (λ (b : Bool). cond b true (contains nat_cmp old zone)) (at-is zone zone ∙ eq-eqb zone zone refl)
-
-pub added-more : (old new : BTreeSet ℕ) (zone : ℕ) → Updates nat_cmp old new zone true → IsSubset nat_cmp old new
-added-more old new zone updates q waits = updates.0 q ∙ by (is_at (nat_cmp zone) q)
-  where
-    by : (b : Bool) → IsTrue (cond b true (contains nat_cmp old q))
-    by true = refl
-    by false = waits
-
 holders-more : (logs : List (List Batch)) (old new : BTreeSet ℕ) (own : List KeptRecord) → IsSubset nat_cmp old new → HoldersWait logs old own → HoldersWait logs new own
 holders-more logs old new own more all = all-weaker (λ (k : KeptRecord). HolderWaits logs old k.block) (λ (k : KeptRecord). HolderWaits logs new k.block) own (λ k waits r is. more r.zone (waits r is)) all
 
@@ -187,6 +177,7 @@ holds-less before after old new woken gone wakes drive n logs are moved = by (sl
     by None is = absurd (not-found before.scanned.items logs gone are.known.heads is moved)
     by (Some found) is = wakes.loses.holds drive n logs before found are.known is (are.covers gone moved found is) are.records
 
+-- the candidates are still known after a half clean zone is given up
 pub given-are : (before after : Survey) (old new : Candidates) (woken : BTreeSet ℕ) (gone : ℕ) → Wakes before after old new woken gone
     → (drive : DriveState) (n : ℕ) (logs : List (List Batch)) → AreCandidates drive n logs before old → IsHalfClean drive.geometry.block n logs gone → AreCandidates drive n (without logs gone) after new
 given-are before after old new woken gone wakes drive n logs are half = record {
@@ -214,6 +205,7 @@ all-woken drive n logs before after old new woken gone wakes are moved = by (sli
         let newest_own : AreNewest (kept_of_zone gone (heads_of (log_at logs gone))) own = subst (λ (h : HeadsView). AreNewest (kept_of_zone gone h) own) (found-heads before.scanned.items logs gone found are.known.heads is) covers.0 in
         own-named P gone logs own (knows-small drive n logs before are.known) newest_own (holders-more (without logs gone) woken new.waiting own wakes.then wait)
 
+-- if all others waited, each half clean zone waits after one is given up
 pub given-wait : (before after : Survey) (old new : Candidates) (woken : BTreeSet ℕ) (gone : ℕ) → Wakes before after old new woken gone
     → (drive : DriveState) (n : ℕ) (logs : List (List Batch)) → AreCandidates drive n logs before old → IsHalfClean drive.geometry.block n logs gone → OthersWait drive n logs old gone → AllWait drive n (without logs gone) new
 given-wait before after old new woken gone wakes drive n logs are half others zone lt = elim (cases_eq zone gone) as (λ _. IsTrue (contains nat_cmp new.waiting zone) ⊎ IsNeeded b n (without logs gone) zone) [
@@ -232,10 +224,12 @@ given-wait before after old new woken gone wakes drive n logs are half others zo
     last one more = subst (λ (hs : List HeadsView). LastWaits hs new.waiting) wakes.forgets.heads
         (wakes.last (ap (λ (c : SizeCounts). c.any) (wakes.sizes are.sizes) ∙ one) (λ same. more (sym (ap (λ (c : SizeCounts). c.any) are.sizes) ∙ same)))
 
+-- two facts of an Ok answer give each fact that they imply together
 pub ok-both : {T E P Q R : Type 0} (result : Result T E) → (P → Q → R) → OnOk result P → OnOk result Q → OnOk result R
 ok-both (Ok x) f p q = f p q
 ok-both (Err e) f p q = tt
 
+-- a fact that always holds is a fact of an Ok answer
 pub ok-given : {T E P : Type 0} (result : Result T E) → P → OnOk result P
 ok-given (Ok x) p = p
 ok-given (Err e) p = tt
@@ -246,34 +240,20 @@ ok-given (Err e) p = tt
 abbrev pub WokenSoFar : BlockRecords → BTreeSet ℕ → List KeptRecord → ℕ → Type 0
 WokenSoFar table now own i = (logs : List (List Batch)) → HoldsRecords logs table → HoldsEach table own → (more : BTreeSet ℕ) → IsSubset nat_cmp now more → HoldersWait logs more (drop i own) → HoldersWait logs more own
 
+-- if the zone that shows the next record's block waits, one record less is left
 pub woken-more : (table : BlockRecords) (old new : BTreeSet ℕ) (own : List KeptRecord) (i i' : ℕ) (d : KeptRecord) → i < length own → i' ≡ suc i → IsSubset nat_cmp old new
     → ((logs : List (List Batch)) → HoldsRecords logs table → IsSome (held_of table (get_or own i d).block) → HolderWaits logs new (get_or own i d).block) → WokenSoFar table old own i → WokenSoFar table new own i'
 woken-more table old new own i i' d lt next grown tells so_far logs holds held more larger rest =
     let here : HolderWaits logs more (get_or own i d).block = λ r shows. larger r.zone (tells logs holds (all-at (λ (k : KeptRecord). IsSome (held_of table k.block)) own i d held lt) r shows) in
     so_far logs holds held more (λ q waits. larger q (grown q waits)) (rw (drop-cons own i d lt) (here, rw next at rest))
 
+-- with no record left, the zones that show the records' blocks all wait
 pub woken-all : (table : BlockRecords) (now : BTreeSet ℕ) (own : List KeptRecord) (i : ℕ) → length own ≤ i → WokenSoFar table now own i → (logs : List (List Batch)) → HoldsRecords logs table → HoldsEach table own → HoldersWait logs now own
 woken-all table now own i le so_far logs holds held = so_far logs holds held now (λ q waits. waits) (rw (drop_all i own le) tt)
 
 -- no record of the zone is kept
 pub woken-none : (waiting : BTreeSet ℕ) (own : List KeptRecord) (logs : List (List Batch)) → own ≡ [] → HoldersWait logs waiting own
 woken-none waiting own logs none = rw none tt
-
--- the zone of the newest record was added
-pub holder-waits : (table : BlockRecords) (old new : BTreeSet ℕ) (block : ℕ) (found : KeptRecord) → Updates nat_cmp old new found.zone true
-    → ((logs : List (List Batch)) → HoldsRecords logs table → IsSome (held_of table block) → Some found ≡ option_map kept_record (newest block (records 0 logs)))
-    → (logs : List (List Batch)) → HoldsRecords logs table → IsSome (held_of table block) → HolderWaits logs new block
-holder-waits table old new block found updates tells logs holds held r shows =
-    let one : Some found ≡ Some (kept_record r) = tells logs holds held ∙ ap (option_map kept_record) shows in
-    let same : found ≡ kept_record r = cc in
-    subst (λ (z : ℕ). IsTrue (contains nat_cmp new z)) (ap (λ (k : KeptRecord). k.zone) same) (added-waits old new found.zone updates)
-
-pub none-shows : (table : BlockRecords) (waiting : BTreeSet ℕ) (block : ℕ) → ((logs : List (List Batch)) → HoldsRecords logs table → IsSome (held_of table block) → None ≡ option_map kept_record (newest block (records 0 logs)))
-    → (logs : List (List Batch)) → HoldsRecords logs table → IsSome (held_of table block) → HolderWaits logs waiting block
-none-shows table waiting block tells logs holds held r shows = absurd (let bad = tells logs holds held ∙ ap (option_map kept_record) shows in cc)
-
-pub last-waits : (views : List HeadsView) (old new : BTreeSet ℕ) (zone : ℕ) → IsSized views zone → Updates nat_cmp old new zone true → LastWaits views new
-last-waits views old new zone sized updates = inr (zone, sized, added-waits old new zone updates)
 
 -- ---- all zones of Moves
 
@@ -282,9 +262,7 @@ abbrev pub MovedSoFar : List ScannedZone → BTreeSet ℕ → ℕ → Type 0
 MovedSoFar scanned zones limit =
     ((logs : List (List Batch)) → AreOf scanned logs → (zone : ℕ) → zone < limit → Tells (contains nat_cmp zones zone) (IsMoved logs zone)) × ((zone : ℕ) → limit ≤ zone → contains nat_cmp zones zone ≡ false)
 
-pub moved-none : (scanned : List ScannedZone) (zones : BTreeSet ℕ) → zones.keys ≡ [] → MovedSoFar scanned zones 0
-moved-none scanned zones none = (λ logs are zone lt. absurd (omega (arith, lt)), λ zone le. rw none refl)
-
+-- with the next zone added if it holds Moves, the set has all zones of Moves so far
 pub moved-more : (scanned : List ScannedZone) (old new : BTreeSet ℕ) (limit limit' : ℕ) → limit' ≡ suc limit
     → (contains nat_cmp old limit ≡ false → (logs : List (List Batch)) → AreOf scanned logs → Tells (contains nat_cmp new limit) (IsMoved logs limit))
     → ((q : ℕ) → q ≢ limit → contains nat_cmp new q ≡ contains nat_cmp old q) → MovedSoFar scanned old limit → MovedSoFar scanned new limit'
@@ -295,12 +273,6 @@ moved-more scanned old new limit limit' next own others so_far = (below, λ zone
       | inl here ↦ rw here (own (so_far.1 limit (omega arith)) logs are)
       | inr apart ↦ rw (others zone apart) (so_far.0 logs are zone (omega (arith, lt, next, apart)))
     ]
-
-pub moved-all : (scanned : List ScannedZone) (zones : BTreeSet ℕ) (limit : ℕ) → length scanned ≤ limit → MovedSoFar scanned zones limit → (logs : List (List Batch)) → AreOf scanned logs → (zone : ℕ) → Tells (contains nat_cmp zones zone) (IsMoved logs zone)
-moved-all scanned zones limit le so_far logs are zone = elim (cases_lt zone limit) as (λ _. Tells (contains nat_cmp zones zone) (IsMoved logs zone)) [
-  | inl lt ↦ so_far.0 logs are zone lt
-  | inr ge ↦ rw (so_far.1 zone ge) (not-found scanned logs zone are (not-there scanned zone (omega (arith, le, ge))))
-]
 
 -- a set of them has each half clean zone
 pub all-wait : (zones : BTreeSet ℕ) (block_bytes n : ℕ) (logs : List (List Batch)) (zone : ℕ) → Tells (contains nat_cmp zones zone) (IsMoved logs zone) → IsTrue (contains nat_cmp zones zone) ⊎ IsNeeded block_bytes n logs zone

@@ -20,10 +20,12 @@ use Rattle.drive_survey.specs.Reported.{IsKnown, KeepsZones}
 use Rattle.drive_survey.specs.Scan.{block_of, readable_at}
 use Rattle.drive_survey.proofs.ReadLaws.{kept-blocks}
 
-pub zeros-next : (blocks : List (List ℕ)) (i : ℕ) (block : List ℕ) → i < length blocks → block ≡ get_or blocks i [] → list_all is_zero (drop i blocks) ≡ (is_zero block && list_all is_zero (drop (i + 1) blocks))
+-- blocks from an index on are zeros exactly if the first is and the rest are
+zeros-next : (blocks : List (List ℕ)) (i : ℕ) (block : List ℕ) → i < length blocks → block ≡ get_or blocks i [] → list_all is_zero (drop i blocks) ≡ (is_zero block && list_all is_zero (drop (i + 1) blocks))
 zeros-next blocks i block lt is = rw (drop_more blocks i [] lt, is) refl
 
-pub zeros-all : (blocks : List (List ℕ)) (i : ℕ) → length blocks ≤ i → true ≡ list_all is_zero (drop i blocks)
+-- the blocks past the end, of which there are none, are all zeros
+zeros-all : (blocks : List (List ℕ)) (i : ℕ) → length blocks ≤ i → true ≡ list_all is_zero (drop i blocks)
 zeros-all blocks i le = rw (drop_all i blocks le) refl
 
 -- one block more is looked at
@@ -34,6 +36,7 @@ zero-step first now zone from offset reported bytes block is known kept lt read 
     let there : bytes ≡ get_or (readable_at first zone) offset [] = same ∙ read ∙ ap (λ (bs : List (List ℕ)). get_or bs offset []) (kept-blocks first now zone kept) in
     rw nought (sym (zeros-next (readable_at first zone) offset bytes (omega (arith, lt, known.blocks)) there) ∙ so_far)
 
+-- when no block is left, all blocks that were looked at were zeros
 pub zero-end : (first : DriveState) (zone from offset : ℕ) (reported : ReportedZone) → IsKnown first zone reported → reported.blocks ≤ offset → list_all is_zero (drop offset (readable_at first zone)) ≡ list_all is_zero (drop from (readable_at first zone))
     → true ≡ list_all is_zero (drop from (readable_at first zone))
 zero-end first zone from offset reported known le so_far = zeros-all (readable_at first zone) offset (omega (arith, le, known.blocks)) ∙ so_far

@@ -71,13 +71,17 @@ fn examine_by<D: Device>(
     zone: u32,
     buffers: &mut Buffers,
 ) -> Result<Finding, MountFault>
+    // The report is true of all zones, and the candidates fit the survey.
     requires zones { AreKnown (D.drive device.old) survey.now.zones.items }
     requires sizes { candidates.now.sizes ≡ size_counts survey.now.size (heads_in survey.now.scanned.items) }
     requires few { AreFew survey.now.scanned.items candidates.now.records }
+    // Done, the finding is right, if the table holds the records of all blocks that the zone names.
     ensures ok { IfOk result (TellsFinding (D.drive device.old) survey.now.given survey.now
         candidates.now.records zone) }
+    // It fails only if the drive stops or memory runs out. Whatever it answers, zones hold what they held.
     ensures err { IfErr result (IsInterruption (D.drive device.new)) }
     ensures kept { KeepsZones (D.drive device.old) (D.drive device.new) }
+    // It takes two commands at most for each entry of the zone.
     ensures completed { (D.drive device.new).completed
         ≤ (D.drive device.old).completed + 2 * length (entries_at survey.now.scanned.items zone) }
 {
@@ -102,9 +106,13 @@ pub fn examine_zone<D: Device>(
     zone: u32,
 ) -> Result<Finding, MountFault>
     requires zones { AreKnown (D.drive device.old) survey.now.zones.items }
+    // Done, the finding is right for the batches whose headers the survey keeps.
     ensures ok { IfOk result (FindsOf (D.drive device.old) survey.now.given survey.now zone) }
+    // It fails only if the drive stops or memory runs out.
     ensures err { IfErr result (IsInterruption (D.drive device.new)) }
+    // Whatever it answers, no command was refused, and the zones hold what they held.
     ensures kept { KeepsZones (D.drive device.old) (D.drive device.new) }
+    // It takes two commands at most for each entry of the zone.
     ensures completed { (D.drive device.new).completed
         ≤ (D.drive device.old).completed + 2 * length (entries_at survey.now.scanned.items zone) }
 {
@@ -155,10 +163,12 @@ impl Candidates {
     /// All zones of Moves from an older zone wait.
     fn new(alloc: Global, survey: &Survey) -> Result<Candidates, AllocError>
         requires few { length survey.now.scanned.items < 2 ^ 32 }
+        // Done, records and counts are right for the survey, and each half clean zone waits.
         ensures are { IfOk result (λ candidates. (drive : DriveState) (n : ℕ) (logs : List (List Batch))
             → Knows drive n logs survey.now → AreCandidates drive n logs survey.now candidates) }
         ensures wait { IfOk result (λ candidates. (drive : DriveState) (n : ℕ) (logs : List (List Batch))
             → Knows drive n logs survey.now → AllWait drive n logs candidates) }
+        // At most one record is kept for each entry of a zone.
         ensures own { IfOk result (λ candidates. AreFew survey.now.scanned.items candidates.records) }
     {
         let records = BlockRecords::of_moved(alloc, survey)?;
@@ -178,16 +188,20 @@ fn next_half_clean<D: Device>(
     survey: &Survey,
     candidates: &mut Candidates,
 ) -> Result<Option<u32>, MountFault>
+    // The report is true of all zones, and the candidates fit the survey.
     requires zones { AreKnown (D.drive device.old) survey.now.zones.items }
     requires sizes { candidates.old.sizes ≡ size_counts survey.now.size (heads_in survey.now.scanned.items) }
     requires few { AreFew survey.now.scanned.items candidates.old.records }
+    // Done, it is the lowest half clean zone or none, provided that each of them waited. The others wait still.
     ensures ok { IfOk result (FindsLowestWaiting (D.drive device.old) survey.now.given survey.now candidates.old) }
     ensures others { IfOk result (λ found. IfSome found
         (LeavesWaiting (D.drive device.old) survey.now.given survey.now candidates.old candidates.new)) }
+    // It fails only if the drive stops or memory runs out. Records and counts stay, and zones hold what they held.
+    ensures err { IfErr result (IsInterruption (D.drive device.new)) }
     ensures tables { (candidates.new.records ≡ candidates.old.records)
         × (candidates.new.sizes ≡ candidates.old.sizes) }
-    ensures err { IfErr result (IsInterruption (D.drive device.new)) }
     ensures kept { KeepsZones (D.drive device.old) (D.drive device.new) }
+    // It takes two commands at most for each entry of the drive.
     ensures completed { (D.drive device.new).completed
         ≤ (D.drive device.old).completed + 2 * entries_kept survey.now.scanned.items }
 {
@@ -285,6 +299,7 @@ fn give_up(
     zone: u32,
 ) -> Result<(), AllocError>
     requires few { length survey.old.scanned.items < 2 ^ 32 }
+    // Done, the candidates are right for the batches without the zone. Each zone that is half clean now waits.
     ensures few { OnOk result (AreFew survey.old.scanned.items candidates.old.records
         → AreFew survey.new.scanned.items candidates.new.records) }
     ensures are { OnOk result ((drive : DriveState) (n : ℕ) (logs : List (List Batch))
@@ -293,6 +308,7 @@ fn give_up(
     ensures wait { OnOk result ((drive : DriveState) (n : ℕ) (logs : List (List Batch))
         → AreCandidates drive n logs survey.old candidates.old → IsHalfClean drive.geometry.block n logs zone
         → OthersWait drive n logs candidates.old zone → AllWait drive n (without logs zone) candidates.new) }
+    // Done, the headers of the zone are forgotten. The rest of the survey is the same, whatever it answers.
     ensures heads { OnOk result (heads_in survey.new.scanned.items ≡ without_heads
         (heads_in survey.old.scanned.items) zone) }
     ensures tails { tails_in survey.new.scanned.items ≡ tails_in survey.old.scanned.items }
@@ -313,13 +329,16 @@ fn clear_moved<D: Device>(
     survey: &mut Survey,
 ) -> Result<Vec<u32>, MountFault>
     requires known { Knows (D.drive device.old) survey.old.given (drive_logs (D.drive device.old)) survey.old }
+    // Done, no zone is half clean once these are emptied, and the survey knows the drive without their batches.
     ensures clearing { IfOk result (λ resets. IsClearing (D.drive device.old).geometry.block survey.old.given
         (drive_logs (D.drive device.old)) resets.items) }
     ensures known { IfOk result (λ resets. Knows (D.drive device.new) survey.old.given
         (cleared (drive_logs (D.drive device.old)) resets.items) survey.new) }
-    ensures zones { survey.new.zones ≡ survey.old.zones }
+    // It fails only if the drive stops or memory runs out. The report is the same, and zones hold what they held.
     ensures err { IfErr result (IsInterruption (D.drive device.new)) }
+    ensures zones { survey.new.zones ≡ survey.old.zones }
     ensures kept { KeepsZones (D.drive device.old) (D.drive device.new) }
+    // It searches once for each zone that it finds, and once more, by two commands at most for each entry.
     ensures completed { IfOk result (λ resets. (D.drive device.new).completed
         ≤ (D.drive device.old).completed + 2 * ((length resets.items + 1) * entries_kept survey.old.scanned.items)) }
 {
@@ -346,17 +365,21 @@ pub fn clear_zones<D: Device>(
     survey: &mut Survey,
 ) -> Result<Vec<u32>, MountFault>
     requires known { Knows (D.drive device.old) survey.old.given (drive_logs (D.drive device.old)) survey.old }
+    // Done, no zone is half clean once these are emptied, and the survey knows the drive without their batches.
     ensures clearing { IfOk result (λ resets. IsClearing (D.drive device.old).geometry.block survey.old.given
         (drive_logs (D.drive device.old)) resets.items) }
     ensures known { IfOk result (λ resets. Knows (D.drive device.new) survey.old.given
         (cleared (drive_logs (D.drive device.old)) resets.items) survey.new) }
-    ensures zones { survey.new.zones ≡ survey.old.zones }
+    // It fails if no zone is vacant or half clean. Else it fails only if the drive stops or memory runs out.
     ensures spare { OnOk result (HasSpare (D.drive device.old).geometry.block survey.old.given
         (drive_logs (D.drive device.old))) }
     ensures err { IfErr result (FailsBy (λ fault. (fault ≡ NoSpare)
         × (HasSpare (D.drive device.old).geometry.block survey.old.given (drive_logs (D.drive device.old)) → ⊥))
         (D.drive device.new)) }
+    // Whatever it answers, the report is the same, no command was refused, and the zones hold what they held.
+    ensures zones { survey.new.zones ≡ survey.old.zones }
     ensures kept { KeepsZones (D.drive device.old) (D.drive device.new) }
+    // Unless it was interrupted, each of its searches took two commands at most for each entry.
     ensures completed { SearchesBy survey.old.scanned.items result (D.drive device.old) (D.drive device.new) }
 {
     let resets = clear_moved(alloc, device, survey)?;

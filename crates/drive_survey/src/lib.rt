@@ -6,7 +6,7 @@
 //! survey.size;                                           // how many logical blocks the drive has
 //! survey.scanned[2].heads.heads();                       // the headers of the batches of zone 2
 //! survey.scanned[2].is_torn;                             // whether a stopped Append left a tail there
-//! clear_zones(alloc, &mut device, &mut survey, 9)?;      // the zones that a stopped clean left half clean
+//! clear_zones(alloc, &mut device, &mut survey)?;         // the zones that a stopped clean left half clean
 //! ```
 //!
 //! # What is promised

@@ -84,8 +84,11 @@ pub fn report_zones<D: Device>(
 ) -> Result<Vec<ReportedZone>, MountFault>
     requires geometry { IsInRange (D.drive device.old).geometry }
     requires lawful { IsLawful (D.drive device.old) }
+    // Done, all zones were reported in their states at one moment of the call.
     ensures ok { IfOk result (λ reported. ReportsZones (D.drive device.old) reported.items (D.drive device.new)) }
+    // It fails only if the drive stops or memory runs out.
     ensures err { IfErr result (IsInterruption (D.drive device.new)) }
+    // Whatever it answers, it took one command at most, and the zones hold what they held.
     ensures kept { KeepsZones (D.drive device.old) (D.drive device.new) }
     ensures completed { (D.drive device.new).completed ≤ (D.drive device.old).completed + 1 }
 {

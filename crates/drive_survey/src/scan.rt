@@ -65,10 +65,13 @@ pub fn read_block<D: Device>(
     offset: u32,
     block: &mut Vec<u8>,
 ) -> Result<(), MountFault>
+    // The zone is as reported, and has this block.
     requires zone { IsKnown (D.drive device.old) zone.number zone.reported }
     requires in_range { offset < zone.reported.blocks }
+    // Done, the buffer is the block, in its full length.
     ensures ok { OnOk result (block.new.items ≡ block_of (D.drive device.old) zone.number offset) }
     ensures long { OnOk result (length block.new.items ≡ (D.drive device.old).geometry.block) }
+    // It fails only if the drive stops or memory runs out. One command at most is sent. Zones hold what they held.
     ensures err { IfErr result (IsInterruption (D.drive device.new)) }
     ensures kept { KeepsZones (D.drive device.old) (D.drive device.new) }
     ensures completed { (D.drive device.new).completed ≤ (D.drive device.old).completed + 1 }
@@ -89,7 +92,9 @@ fn is_zero_from<D: Device>(
 ) -> Result<bool, MountFault>
     requires zone { IsKnown (D.drive device.old) zone.number zone.reported }
     ensures ok { IfOk result (λ b. b ≡ list_all is_zero (drop from (readable_at (D.drive device.old) zone.number))) }
+    // It fails only if the drive stops or memory runs out.
     ensures err { IfErr result (IsInterruption (D.drive device.new)) }
+    // Whatever it answers, it takes one Read at most for each of these blocks, and zones hold what they held.
     ensures kept { KeepsZones (D.drive device.old) (D.drive device.new) }
     ensures completed { (D.drive device.new).completed
         ≤ (D.drive device.old).completed + (zone.reported.blocks - from) }
@@ -111,19 +116,23 @@ fn end_at<D: Device>(
     cause: LogFault,
     block: &mut Vec<u8>,
 ) -> Result<(), MountFault>
+    // The zone is as reported. The buffer is this block of it, which is no header block, for this cause.
     requires zone { IsKnown (D.drive device.old) zone.number zone.reported }
     requires in_range { offset < zone.reported.blocks }
     requires block { (block.old.items ≡ block_of (D.drive device.old) zone.number offset)
         × (length block.old.items ≡ (D.drive device.old).geometry.block) }
     requires cause { header_fault block.old.items ≡ Some cause }
     requires none { IsNoHeader block.old.items }
+    // Done, the zone is Full, and from the block on it has only zeros.
     ensures ok { OnOk result ((is_full (usage_of zone.reported.state) ≡ true)
         × IsTail (D.drive device.old).geometry.block
         (is_full (content_at (contents (D.drive device.old).zones) zone.number).usage)
         (drop offset (readable_at (D.drive device.old) zone.number))) }
+    // A fault says for which cause the batches end there, unless the drive stops or memory runs out.
     ensures err { IfErr result (FailsBy (λ fault. (ending : Ending)
         × EndsZone (D.drive device.old) zone.number offset ending
         × (ending_fault zone.number offset ending ≡ Some fault)) (D.drive device.new)) }
+    // Whatever it answers, zones hold what they held. Each later block takes one Read at most.
     ensures kept { KeepsZones (D.drive device.old) (D.drive device.new) }
     ensures completed { (D.drive device.new).completed + offset + 1
         ≤ (D.drive device.old).completed + zone.reported.blocks }
@@ -146,11 +155,14 @@ fn take_header(
     seen: &mut BTreeSet<u64>,
     header: &HeaderView<'_>,
 ) -> Result<(), MountFault>
+    // The entries and blocks of the zone can still be counted in 32 bits.
     requires few { length heads.old.entries + length header.now.entries < 2 ^ 32 }
     requires short { heads.old.blocks + 1 + data_count header.now.entries < 2 ^ 32 }
+    // Done, the header is added, and its sequence is among the ones that were met.
     ensures ok { OnOk result ((heading_fault seen.old.keys header.now ≡ None)
         × (heads.new ≡ with_heading heads.old header.now)
         × (seen.new.keys ≡ insert_key nat_cmp seen.old.keys header.now.sequence)) }
+    // It fails only for the header's sequence, or if memory runs out.
     ensures err { IfErr result (λ fault. (fault ≡ MountFault.OutOfMemory)
         ⊎ (heading_fault seen.old.keys header.now ≡ Some fault)) }
 {
@@ -197,21 +209,26 @@ fn next_head<D: Device>(
     seen: &mut BTreeSet<u64>,
     block: &mut Vec<u8>,
 ) -> Result<Option<bool>, MountFault>
+    // The zone is as reported. Blocks of it are left, and the taken ones have at most 508 entries each.
     requires zone { IsKnown (D.drive device.old) zone.number zone.reported }
     requires in_range { heads.old.blocks < zone.reported.blocks }
     requires few { length heads.old.entries ≤ 508 * heads.old.blocks }
+    // Done, one more header is taken; or all are, and it is known whether a torn tail follows.
     ensures few { OnOk result (length heads.new.entries ≤ 508 * heads.new.blocks) }
     ensures ok { IfOk result (λ next. (before : List ℕ)
         → Takes (D.drive device.old).geometry (content_at (contents (D.drive device.old).zones) zone.number)
         before heads.old seen.old.keys
         → TakesNext (D.drive device.old).geometry (content_at (contents (D.drive device.old).zones) zone.number)
         before heads.old next heads.new seen.new.keys) }
+    // A fault is the first one of the zone, unless the drive stops or memory runs out.
     ensures err { IfErr result (FailsBy (λ fault. (before : List ℕ)
         → Takes (D.drive device.old).geometry (content_at (contents (D.drive device.old).zones) zone.number)
         before heads.old seen.old.keys
         → FailsIn (D.drive device.old).geometry (content_at (contents (D.drive device.old).zones) zone.number)
         zone.number before fault) (D.drive device.new)) }
+    // Whatever it answers, no command was refused, and the zones hold what they held.
     ensures kept { KeepsZones (D.drive device.old) (D.drive device.new) }
+    // A batch takes one Read, and an end or a fault at most one for each block that is left.
     ensures reads { ReadsNext zone.reported heads.old result heads.new (D.drive device.old) (D.drive device.new) }
 {
     let offset = heads.blocks();
@@ -235,13 +252,17 @@ pub fn scan_zone<D: Device>(
     block: &mut Vec<u8>,
 ) -> Result<ScannedZone, MountFault>
     requires zone { IsKnown (D.drive device.old) zone.number zone.reported }
+    // Done, the zone holds a log without a fault. Its headers are kept, and whether a torn tail follows.
     ensures ok { IfOk result (λ scanned. Scans (D.drive device.old).geometry
         (content_at (contents (D.drive device.old).zones) zone.number) seen.old.keys scanned.heads scanned.is_torn
         seen.new.keys) }
+    // A fault is the first one of the zone, unless the drive stops or memory runs out.
     ensures err { IfErr result (FailsBy (FailsIn (D.drive device.old).geometry
         (content_at (contents (D.drive device.old).zones) zone.number) zone.number seen.old.keys)
         (D.drive device.new)) }
+    // Whatever it answers, no command was refused, and the zones hold what they held.
     ensures kept { KeepsZones (D.drive device.old) (D.drive device.new) }
+    // Each batch takes one Read, and each block after them one at most. There are never more Reads than blocks.
     ensures reads { IfOk result (λ scanned. ReadsOfZone zone.reported scanned.heads (D.drive device.old)
         (D.drive device.new)) }
     ensures completed { (D.drive device.new).completed ≤ (D.drive device.old).completed + zone.reported.blocks }
@@ -265,11 +286,15 @@ pub fn scan_zones<D: Device>(
     zones: &[ReportedZone],
 ) -> Result<Vec<ScannedZone>, MountFault>
     requires zones { AreKnown (D.drive device.old) zones.now }
+    // Done, all zones hold logs without a fault. Their headers are kept, and which ones have a torn tail.
     ensures ok { IfOk result (λ scanned. ScansAll (D.drive device.old).geometry
         (contents (D.drive device.old).zones) scanned.items) }
+    // A fault is the first one of the drive, unless it stops or memory runs out.
     ensures err { IfErr result (FailsBy (FailsFirst (D.drive device.old).geometry
         (contents (D.drive device.old).zones)) (D.drive device.new)) }
+    // Whatever it answers, no command was refused, and the zones hold what they held.
     ensures kept { KeepsZones (D.drive device.old) (D.drive device.new) }
+    // Each batch takes one Read, and each block after a log one at most. There are never more Reads than blocks.
     ensures reads { IfOk result (λ scanned. ReadsOfZones zones.now scanned.items (D.drive device.old)
         (D.drive device.new)) }
     ensures completed { (D.drive device.new).completed ≤ (D.drive device.old).completed + blocks_reported zones.now }

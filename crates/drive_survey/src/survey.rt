@@ -109,9 +109,12 @@ fn usable_zones<D: Device>(
     device: &mut D,
     given: u64,
 ) -> Result<Vec<ReportedZone>, MountFault>
+    // Done, the headers of the drive can be read, and the report is true of all its zones.
     ensures ok { IfOk result (λ zones. CanScan (D.drive device.old) given × AreKnown (D.drive device.new) zones.items
         × TellsShut (D.drive device.old) zones.items) }
+    // A fault is the first that a survey meets, unless the drive stops or memory runs out.
     ensures err { IfErr result (FailsBy (SurveyFails (D.drive device.old) given) (D.drive device.new)) }
+    // Whatever it answers, zones hold what they held. At most a report is sent, if geometry and number are in range.
     ensures kept { KeepsZones (D.drive device.old) (D.drive device.new) }
     ensures unsent { (MayAsk (D.drive device.old) given → ⊥) → D.drive device.new ≡ D.drive device.old }
     ensures completed { (D.drive device.new).completed ≤ (D.drive device.old).completed + 1 }
@@ -141,10 +144,14 @@ pub fn survey_drive<D: Device>(
     device: &mut D,
     given: u64,
 ) -> Result<Survey, MountFault>
+    // Done, the batches are sound, and the reserve allows the size that they say. All headers are kept.
     ensures ok { IfOk result (Surveys (D.drive device.old) (D.drive device.new) given) }
+    // A fault is the first that a survey meets, unless the drive stops or memory runs out.
     ensures err { IfErr result (FailsBy (SurveyFails (D.drive device.old) given) (D.drive device.new)) }
+    // Whatever it answers, zones hold what they held. Nothing is sent if the geometry or the number is out of range.
     ensures kept { KeepsZones (D.drive device.old) (D.drive device.new) }
     ensures unsent { (MayAsk (D.drive device.old) given → ⊥) → D.drive device.new ≡ D.drive device.old }
+    // Each batch takes one Read. In all there is one report, and there are no more Reads than readable blocks.
     ensures reads { IfOk result (ReadsOnce (D.drive device.old) (D.drive device.new)) }
     ensures completed { (D.drive device.new).completed
         ≤ (D.drive device.old).completed + 1 + readable_count (D.drive device.old) }

@@ -70,6 +70,7 @@ module _ (xs ys : List ℕ) (i j : ℕ) (leads : LeadsBack xs ys) (i_in : i < le
     ]
   ]
 
+  -- a list still leads back if two elements and, in the other list, their indexes are swapped
   pub leads_back-swap : LeadsBack (swap xs i j) (swap ys (get_or xs i 0) (get_or xs j 0))
   leads_back-swap = record {
     below = λ k h. let h' : k < length xs = omega (arith, length-swap xs i j) in omega (arith, below-swap k h', length-swap ys (get_or xs i 0) (get_or xs j 0));
@@ -79,6 +80,7 @@ module _ (xs ys : List ℕ) (i j : ℕ) (leads : LeadsBack xs ys) (i_in : i < le
 -- ---- a zone moved
 
 module _ (counts zones positions : List ℕ) (ordered : IsOrdered counts zones) (inverse : AreInverse zones positions) (zone : ℕ) (zone_in : zone < length counts) where
+  -- the position of the zone
   abbrev pub place : ℕ
   place = get_or positions zone 0
 
@@ -98,9 +100,11 @@ module _ (counts zones positions : List ℕ) (ordered : IsOrdered counts zones) 
   count_there = ap (λ z. get_or counts z 0) zone_there
 
   module _ (at : ℕ) (at_in : at < length zones) where
+    -- the zones, after this one and the zone at another position are swapped
     abbrev pub zones_after : List ℕ
     zones_after = swap zones place at
 
+    -- the positions of the zones after that swap
     abbrev pub positions_after : List ℕ
     positions_after = swap positions zone (get_or zones at 0)
 
@@ -154,12 +158,14 @@ module _ (counts zones positions : List ℕ) (ordered : IsOrdered counts zones) 
   -- ---- one more: at the end of its run
 
   module _ (end : ℕ) (first : IsFirstAbove counts zones (get_or counts zone 0) end) where
+    -- the position of the zone is before the end of its run
     pub below-end : place < end
     below-end = elim (cases_lt place end) as (λ _. place < end) [
       | inl h ↦ h
       | inr past ↦ absurd (omega (arith, first.above place past place_in, count_there))
     ]
 
+    -- the zones stay in order if a zone counts one more and moves to its run's end
     pub put-add : IsOrdered (set counts zone (get_or counts zone 0 + 1)) (swap zones place (end - 1)) × AreInverse (swap zones place (end - 1)) (swap positions zone (get_or zones (end - 1) 0))
     put-add =
         let h = below-end in
@@ -175,9 +181,11 @@ module _ (counts zones positions : List ℕ) (ordered : IsOrdered counts zones) 
       | inr h ↦ h
     ]
 
+    -- the run of the zone starts within the list
     pub start-in : start < length zones
     start-in = omega (arith, from-start, place_in)
 
+    -- the zones stay in order if a zone counts one less and moves to its run's start
     pub put-remove : IsOrdered (set counts zone (get_or counts zone 0 - 1)) (swap zones place start) × AreInverse (swap zones place start) (swap positions zone (get_or zones start 0))
     put-remove = (ordered-put start start-in (get_or counts zone 0 - 1) (omega (arith, first.above start (omega arith) start-in, ordered.rises start place from-start place_in, count_there)) (λ k lt. first.at_most k lt) (λ k gt k_in. omega (arith, first.above k (omega arith) k_in)), inverse-put start start-in)
 
@@ -190,6 +198,7 @@ module _ (counts zones positions : List ℕ) (among : List Bool) (ordered : IsOr
   named-there : (zone : ℕ) → zone < length among → IsNamed among zone → IsNamed among (get_or zones (get_or positions zone 0) 0)
   named-there zone h named = subst (IsNamed among) (sym (inverse.from_zone.back zone (in_positions zone h))) named
 
+  -- if no zone in the order is named, no zone is
   pub none-least : NoneNamedBefore zones among (length zones) → NoneNamed among (length among)
   none-least none zone h named = none (get_or positions zone 0) (inverse.from_zone.below zone (in_positions zone h)) (named-there zone h named)
 
@@ -218,5 +227,6 @@ module _ (counts zones positions : List ℕ) (among : List Bool) (ordered : IsOr
     zone_in : get_or zones lowest 0 < length among
     zone_in = omega (arith, ordered.below lowest 0 (omega (arith, is_lowest.before, run.within)))
 
+    -- in the run of the first named zone, the named zone with the lowest number is least
     pub is-least : IsLeast counts among (length among) (get_or zones lowest 0)
     is-least = record { below = zone_in; is_named = is_lowest.is_named; least = least; lowest = λ zone lt named. lower zone (omega (arith, zone_in)) lt named }

@@ -95,9 +95,11 @@ module _ (page : ℕ → Option (List Place)) (size zone from : ℕ) (blocks : L
         ]
       ])
 
+  -- if no listed block from a bound on is in the zone, no block from it on is
   pub none-listed : (n : ℕ) → NoneLies page size zone blocks first (length blocks) → NoBlockLies page size zone from n
   none-listed n none = λ block above below. passed (length blocks) block none above (λ k end within same. omega (arith, end, within)) _ refl
 
+  -- in a sorted list, the first block in the zone is the first of all in the zone
   pub first-listed : (position : ℕ) → IsNonDecreasing blocks → IsFirstThere page size zone blocks first position → IsFirstBlock page size zone from (get_or blocks position 0)
   first-listed position ascends there = record {
     after = is_first.above position there.after there.within;

@@ -39,9 +39,9 @@ blocks_in zone_size zone first (place ∷ all) =
     if lies_in zone_size zone place then first ∷ blocks_in zone_size zone (first + 1) all else blocks_in zone_size zone (first + 1) all
 
 -- the blocks from one on that are in a zone
-abbrev pub records_of : MapView → ℕ → ℕ → List ℕ
-records_of map zone from = blocks_in map.zone_size zone from (drop from map.places)
+abbrev pub blocks_in_zone : MapView → ℕ → ℕ → List ℕ
+blocks_in_zone map zone from = blocks_in map.zone_size zone from (drop from map.places)
 
 -- the first of them, with its place
 abbrev pub first_record : MapView → ℕ → ℕ → Option (ℕ × Place)
-first_record map zone from = option_map (λ block. (block, slice_index_or map.places block places.None)) (slice_get (records_of map zone from) 0)
+first_record map zone from = option_map (λ block. (block, slice_index_or map.places block places.None)) (slice_get (blocks_in_zone map zone from) 0)

@@ -2,7 +2,7 @@ ghost use Rattle.std.specs.Prelude.{◌≡◌, ◌≢◌, ◌<◌, ◌≤◌, �
 ghost use Rattle.std.specs.Prelude.{slice_index_or, slice_set, replicate, false, IfSome, OnOk, OnErr};
 ghost use Rattle.logical_map.specs.Counts.{lowered, raised};
 ghost use Rattle.logical_map.specs.Lists.{FindsBlock, FindsThere, NoneLies};
-ghost use Rattle.logical_map.specs.Live.{first_record, lies_in, live, records_of, zone_below, zone_in, zone_of};
+ghost use Rattle.logical_map.specs.Live.{blocks_in_zone, first_record, lies_in, live, zone_below, zone_in, zone_of};
 ghost use Rattle.logical_map.specs.Pages.{page_of, place_in, place_of};
 ghost use Rattle.logical_map.specs.Places.{ArePlacedReady, MapGrows, IsReady, Reserves, place_address};
 ghost use Rattle.logical_map.specs.declared.place.Place.TheVariants as places;
@@ -131,7 +131,7 @@ impl Map {
         Ok(())
     }
 
-    /// Makes room to note `count` blocks more in a zone, so that `records_of` finds the blocks that are moved
+    /// Makes room to note `count` blocks more in a zone, so that `first_record` finds the blocks that are moved
     /// there without a walk over the map. A zone past the end of the drive needs none. Blocks that have a place
     /// are ready to be placed again.
     pub fn reserve_in(&mut self, zone: u32, count: u32) -> Result<(), AllocError>
@@ -193,7 +193,7 @@ impl Map {
     /// The first of the blocks from `from` on that are in a zone, with its place. What it costs depends on
     /// the blocks that were moved into the zone since none lay there, if room was made for all of them; else
     /// it walks over the blocks of the map.
-    pub fn records_of(&mut self, zone: u32, from: u32) -> Option<(u32, Place)>
+    pub fn first_record(&mut self, zone: u32, from: u32) -> Option<(u32, Place)>
         requires { zone < self.old.zones }
         ensures first { result ≡ first_record self.old zone from }
         ensures kept { self.new ≡ self.old }
@@ -205,7 +205,7 @@ impl Map {
     /// The first of the blocks from `from` on that are in a zone.
     fn first_in(&mut self, zone: u32, from: u32) -> Option<u32>
         requires { zone < self.old.zones }
-        ensures first { result ≡ slice_get (records_of self.old zone from) 0 }
+        ensures first { result ≡ slice_get (blocks_in_zone self.old zone from) 0 }
         ensures kept { self.new ≡ self.old }
     {
         if self.live(zone) == 0 {

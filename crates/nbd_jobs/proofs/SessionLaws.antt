@@ -9,6 +9,7 @@ use Rattle.nbd_jobs.specs.declared.fault.NbdFault.{NbdFault}
 use Rattle.nbd_jobs.specs.declared.fault.NbdFault.TheVariants.{File, Image, Memory, Mount, NoSize, Reserve, Session}
 use Rattle.nbd_jobs.specs.declared.job.NbdJob.{NbdJob}
 
+-- a session that was served is one of the drive, whatever ended it
 pub session-served : (read_only : Bool) (blocks : Option ℕ) (bytes : Streams) (old : DriveState) (ended : Result (Unit {0}) SessionFault) (new : DriveState)
     → ServesSession read_only blocks bytes old ended new → ServesDrive read_only blocks bytes old (session_end ended) new
 session-served read_only blocks bytes old (Ok done) new s = s

@@ -51,6 +51,7 @@ durable middle (Ok done) wanted (Ok d) new s none array found = s.3 array found 
 durable middle (Ok done) wanted (Err (Disk fault)) new s none array found = absurd (refused wanted fault none)
 durable middle (Ok done) wanted (Err Medium) new s none array found = absurd (omega (arith, none))
 
+-- after a forced request that succeeded, a loss of power does not change the array
 pub forced-durable : ForcedIsDurable
 forced-durable old new request wanted bytes reply shown a forced said =
     durable a.middle a.answer.result wanted a.result new (rw forced at a.forces) (is_success (code_of wanted a.result) request.cookie _ shown (sym a.reply_is ∙ said))

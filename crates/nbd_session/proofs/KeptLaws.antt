@@ -46,6 +46,7 @@ stops_kept Holds k count Output bytes old new s = answer_kept Holds k old.phase 
 stops_kept Holds k count Unsent bytes old new s = answer_kept Holds k old.phase old.store s.answers.message s.answers.reply _ s.answers.answers
 stops_kept Holds k count TooMany bytes old new s = same_kept Holds k old.store new s.1.new_is
 
+-- what each answer keeps of a store, a session keeps, however it ends
 pub session_kept : (Holds : StoreView → StoreView → Type 0) → IsKept Holds → (bytes : Streams) (old : Session) (result : Result (Unit {0}) SessionFault) (new : StoreView) → Serves bytes old result new → Holds old.store new
 session_kept Holds k bytes old (Ok done) new s = each_kept Holds k s.served.dialogues old _ s.served.answered
 session_kept Holds k bytes old (Err fault) new s =

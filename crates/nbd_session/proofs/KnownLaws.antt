@@ -49,6 +49,7 @@ fewer-end old middle new a n k buffer more first within short none read = record
   consumes = subst (λ bytes. Consumes old new bytes) (append-nil (take a buffer)) (Consumes-trans old middle new (take a buffer) [] first (rw none at read));
 }
 
+-- what is so anyway is so after a fault
 pub on_err : {T E : Type 0} (r : Result T E) (P : Type 0) → P → OnErr r P
 on_err (Ok x) P p = tt
 on_err (Err e) P p = p

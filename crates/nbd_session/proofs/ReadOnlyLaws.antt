@@ -79,5 +79,6 @@ array_kept = record {
   rests = rests_stays;
 }
 
+-- a session of a read-only store keeps its array, and the store stays read only
 pub read_only-kept : ReadOnlyKeepsArray
 read_only-kept = session_kept Stays array_kept

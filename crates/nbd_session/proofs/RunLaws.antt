@@ -17,6 +17,7 @@ pub record ServedCount (bytes : Streams) (old new : Session) (count : ℕ) : Typ
   pub served : Served bytes old new
   pub count_is : length served.dialogues ≡ count
 
+-- at the start no message is answered, and nothing is read or written
 pub served_none : (left contents : Option (List ℕ)) (s : Session) → ServedCount (streams left left contents contents) s s 0
 served_none left contents s = record {
   served = record { dialogues = []; read = Consumes-nil left; written = Appends-nil contents; answered = refl };
@@ -31,6 +32,7 @@ joined : (f : Dialogue → List ℕ) (ds : List Dialogue) (d : Dialogue) → fla
 joined f [] d = append-nil (f d)
 joined f (x ∷ xs) d = rw (joined f xs d) (sym (append_assoc (f x) (flat_map f xs) (f d)))
 
+-- once the next message is answered, the count of answered messages is one higher
 pub served_more : (input middle rest written between contents : Option (List ℕ)) (old mid new : Session) (n : ℕ)
     → ServedCount (streams input middle written between) old mid n → AnswersOne (streams middle rest between contents) mid new → ServedCount (streams input rest written contents) old new (n + 1)
 served_more input middle rest written between contents old mid new n s x =
@@ -55,6 +57,7 @@ served_kept input middle rest written between contents old new s l c = record {
   answered = s.answered;
 }
 
+-- if the bytes and the store are the same as before, nothing was done
 pub nothing_done : (left contents : Option (List ℕ)) (old : Session) → DoesNothing (streams left left contents contents) old old.store
 nothing_done left contents old = record { read = Keeps-refl left; written = Keeps-refl contents; new_is = refl }
 

@@ -64,5 +64,6 @@ drive_kept = record {
   rests = rests_keeps;
 }
 
+-- a session keeps the drive of its disk, however it ends
 pub session_keeps : (bytes : Streams) (old : Session) (result : Result (Unit {0}) SessionFault) (new : StoreView) → Serves bytes old result new → KeepsServed old.store.disk new.disk
 session_keeps = session_kept KeepsStore drive_kept

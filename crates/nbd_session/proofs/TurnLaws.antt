@@ -86,6 +86,7 @@ stopped Output input middle rest written contents head count A P old phase new f
 
 -- ---- a request that is refused beforehand
 
+-- if all went well, a reply that only tells the error answers a refused request
 pub refused-ok : {T E : Type 0} (r : Result T E) (bytes : Streams) (count : ℕ) (store : StoreView) (request : Request) (wanted : Result Asked ErrorCode) (error : ErrorCode) → wanted ≡ Err error
     → OnOk r (Replies bytes count (λ after reply. reply ≡ simple_reply_bytes error request.cookie))
     → OnOk r (Replies bytes count (λ after reply. AnswersAsked store request wanted after reply store))
@@ -93,6 +94,7 @@ refused-ok (Ok x) bytes count store request wanted error e p =
     rw e (replies-so bytes count (λ after reply. reply ≡ simple_reply_bytes error request.cookie) (λ after reply. AnswersAsked store request (Err error) after reply store) (λ after reply same. (same, refl)) p)
 refused-ok (Err x) bytes count store request wanted error e p = tt
 
+-- if a fault stops that reply, it stops the answer to the refused request
 pub refused-err : {T : Type 0} (r : Result T SessionFault) (bytes : Streams) (count : ℕ) (store : StoreView) (request : Request) (wanted : Result Asked ErrorCode) (error : ErrorCode) → wanted ≡ Err error
     → IfErr r (λ fault. ReplyStops fault bytes count (λ after reply. reply ≡ simple_reply_bytes error request.cookie) ⊤)
     → IfErr r (λ fault. ReplyStops fault bytes count (λ after reply. AnswersAsked store request wanted after reply store) (store ≡ store))
@@ -102,6 +104,7 @@ refused-err (Err fault) bytes count store request wanted error e p =
 
 -- ---- what follows a head is dropped
 
+-- dropping the bytes after a head and writing the wanted reply gives that reply
 pub dropped-ok : (input rest written contents : Option (List ℕ)) (n count : ℕ) (reply wanted : List ℕ) → Drops input rest n → n ≡ count → reply ≡ wanted → Appends written contents reply
     → Replies (streams input rest written contents) count (λ after said. said ≡ wanted)
 dropped-ok input rest written contents n count reply wanted dropped same is sent = record {
@@ -113,6 +116,7 @@ dropped-ok input rest written contents n count reply wanted dropped same is sent
   answer = is;
 }
 
+-- dropping the bytes after a head and writing a beginning of the reply gives it in part
 pub dropped-front : (input rest written contents : Option (List ℕ)) (n count : ℕ) (reply wanted : List ℕ) → Drops input rest n → n ≡ count → reply ≡ wanted → AppendsFront written contents reply
     → RepliesInPart (streams input rest written contents) count (λ after said. said ≡ wanted)
 dropped-front input rest written contents n count reply wanted dropped same is sent = record {
@@ -155,6 +159,7 @@ request-exchanged input middle rest written between contents old answered new re
   answers = request-answered old answered new request head is goes_on rests r.after r.reply r.count_is r.answer;
 }
 
+-- if what follows the head of a request is not answered, the session stops
 pub request-stopped : (fault : SessionFault) (input middle rest written contents : Option (List ℕ)) (old new : StoreView) (request : Request) (head : List ℕ) → Consumes input middle head → (head ≡ request_bytes request) × FitsRequest request → is_disconnect request ≡ false
     → ReplyStops fault (streams middle rest written contents) (data_length request) (λ after reply. AnswersAsked old request (asked_of_store old request) after reply new) (new ≡ old)
     → StopsSession fault (streams input rest written contents) (session phases.Transmission old) new
@@ -196,6 +201,7 @@ option-cut : (no_zeroes : Bool) (option : OptionHead) (head : List ℕ) → (hea
 option-cut no_zeroes option head is front fewer =
     inr (record { head = option; fits = is.1; front = front; bytes_are = ap (λ (h : List ℕ). h ++ front) is.0; fewer = fewer })
 
+-- if the head of an option is read and what follows is answered, the message is answered
 pub option-exchanged : (input middle rest written contents : Option (List ℕ)) (old : StoreView) (no_zeroes : Bool) (option : OptionHead) (kind : Option OptionKind) (head : List ℕ) → Consumes input middle head → kind ≡ option_of option.option → (head ≡ option_head_bytes option) × FitsHead option
     → Replies (streams middle rest written contents) option.length (λ after reply. reply ≡ answer_bytes (export_of old) no_zeroes option.option (option_answer kind option.length))
     → AnswersOne (streams input rest written contents) (session (phases.Options no_zeroes) old) (session (phase_after no_zeroes kind) old)
@@ -203,6 +209,7 @@ option-exchanged input middle rest written contents old no_zeroes option kind he
     exchanged input middle rest written contents head option.length (λ after reply. reply ≡ answer_bytes (export_of old) no_zeroes option.option (option_answer kind option.length)) (session (phases.Options no_zeroes) old) (session (phase_after no_zeroes kind) old)
     first (option-answered old no_zeroes option kind head kind_is is) r
 
+-- if what follows the head of an option is not answered, the session stops
 pub option-stopped : (fault : SessionFault) (input middle rest written contents : Option (List ℕ)) (old : StoreView) (no_zeroes : Bool) (option : OptionHead) (kind : Option OptionKind) (head : List ℕ) → Consumes input middle head → kind ≡ option_of option.option → (head ≡ option_head_bytes option) × FitsHead option
     → ReplyStops fault (streams middle rest written contents) option.length (λ after reply. reply ≡ answer_bytes (export_of old) no_zeroes option.option (option_answer kind option.length)) ⊤
     → StopsSession fault (streams input rest written contents) (session (phases.Options no_zeroes) old) old

@@ -8,12 +8,15 @@ use Rattle.nbd_wire.specs.declared.option_head.OptionHead.{OptionHead}
 use Rattle.nbd_wire.specs.declared.request.Request.{Request}
 use Rattle.nbd_wire.proofs.NumberLaws.{big_from-after}
 
+-- the number of an option is read back from its encoded head
 pub option-read : (h : OptionHead) → FitsHead h → big_from 8 4 (option_head_bytes h) ≡ h.option
 option-read h fits = big_from-after (codes "IHAVEOPT") (big_bytes 4 h.length) 4 h.option fits.option
 
+-- the length of an option is read back from its encoded head
 pub length-read : (h : OptionHead) → FitsHead h → big_from 12 4 (option_head_bytes h) ≡ h.length
 length-read h fits = big_from-after (codes "IHAVEOPT" ++ big_bytes 4 h.option) [] 4 h.length fits.length
 
+-- each field of a request is read from its place in these bytes
 pub record IsRead (r : Request) (bytes : List ℕ) : Type 0 where
   pub flags : big_from 4 2 bytes ≡ r.flags
   pub code : big_from 6 2 bytes ≡ r.code
@@ -21,6 +24,7 @@ pub record IsRead (r : Request) (bytes : List ℕ) : Type 0 where
   pub offset : big_from 16 8 bytes ≡ r.offset
   pub length : big_from 24 4 bytes ≡ r.length
 
+-- every field of a request that fits is read back from its encoding
 pub request-read : (r : Request) → FitsRequest r → IsRead r (request_bytes r)
 request-read r fits =
     let magic = big_bytes 4 0x25609513 in

@@ -28,7 +28,7 @@ use Rattle.drive_survey.specs.declared.scan.ScannedZone.{ScannedZone}
 use Rattle.drive_survey.specs.Heads.{HeadsView, heads_of, no_heads}
 use Rattle.remount.specs.Kept.{AreVacantEmpty, KeepsMountable}
 use Rattle.drive_survey.specs.Known.{HasVacant, Knows}
-use Rattle.remount.specs.Mount.{AreWhole, IsCleared, IsOnlyTorn, IsPlan}
+use Rattle.remount.specs.Mount.{AreWhole, IsCleared, IsOnlyTorn, IsRepairPlan}
 use Rattle.remount.specs.Moving.{AreSettled, EmptiesTorn, IsAtMove, IsMovePlan, IsMoving, KeepsShut, SettlesOthers, move_count, moves_before, source_of}
 use Rattle.drive_survey.specs.Reported.{KeepsZones}
 use Rattle.drive_survey.specs.Scan.{AreKnown}
@@ -48,7 +48,8 @@ empty-content geometry states.ReadOnly blocks lawful e = absurd (cc)
 empty-content geometry states.Full blocks lawful e = absurd (cc)
 empty-content geometry states.Offline blocks lawful e = absurd (cc)
 
-pub reported-emptied : (drive : DriveState) (reported : List ReportedZone) (zone : ℕ) (r : ReportedZone) → AreKnown drive reported → slice_get reported zone ≡ Some r → r.state ≡ states.Empty → content_at (contents drive.zones) zone ≡ emptied
+-- a zone that was reported Empty holds nothing
+reported-emptied : (drive : DriveState) (reported : List ReportedZone) (zone : ℕ) (r : ReportedZone) → AreKnown drive reported → slice_get reported zone ≡ Some r → r.state ≡ states.Empty → content_at (contents drive.zones) zone ≡ emptied
 reported-emptied drive reported zone r known is state =
     let k = known.each zone r is in
     let z = zone_at drive.zones zone in
@@ -58,7 +59,7 @@ reported-emptied drive reported zone r known is state =
     content ∙ empty-content drive.geometry z.state z.blocks lawful usage
 
 -- no zone but the torn one has a torn tail
-pub tails-only : (drive : DriveState) (reported : List ReportedZone) (torn zone : ℕ) → AreKnown drive reported → AreVacantEmpty reported (drive_logs drive) → IsOnlyTorn (drive_logs drive) (zone_tails (contents drive.zones)) torn
+tails-only : (drive : DriveState) (reported : List ReportedZone) (torn zone : ℕ) → AreKnown drive reported → AreVacantEmpty reported (drive_logs drive) → IsOnlyTorn (drive_logs drive) (zone_tails (contents drive.zones)) torn
     → get_or (zone_tails (contents drive.zones)) zone false ≡ true → zone ≡ torn
 tails-only drive reported torn zone known vacant only tail = at (cases_lt zone (length drive.zones))
   where
@@ -84,6 +85,7 @@ settled-alone drive torn zone settled ne = at (cases_lt zone (length drive.zones
 
 -- ---- before the first Move
 
+-- on a cleared drive with settled zones the repair into an empty zone begins, with no Move yet
 pub begins : (n : ℕ) (drive : DriveState) (survey : Survey) (torn into : ℕ) → IsMountable drive n → NoneBelow drive.geometry.block n (drive_logs drive) (length drive.zones) → Knows drive n (drive_logs drive) survey → AreVacantEmpty survey.zones.items (drive_logs drive)
     → IsOnlyTorn (drive_logs drive) (zone_tails (contents drive.zones)) torn → AreSettled drive torn (length drive.zones) → content_at (contents drive.zones) into ≡ emptied → into < length drive.zones → (drive.geometry.open < 2 → IsShut drive.zones torn)
     → IsMoving n drive drive torn into []
@@ -107,7 +109,8 @@ begins n drive survey torn into mountable none_left known vacant only settled th
       shut = shut;
     }
 
-pub plan-kept : (n : ℕ) (old new : DriveState) (survey : Survey) (repair : Repair) (into : ℕ) (plan : MovePlan) → KeepsShut old new → IsMovePlan old n survey repair into plan → IsMovePlan new n survey repair into plan
+-- a plan of Moves stays one if the contents stay and no zone is opened
+plan-kept : (n : ℕ) (old new : DriveState) (survey : Survey) (repair : Repair) (into : ℕ) (plan : MovePlan) → KeepsShut old new → IsMovePlan old n survey repair into plan → IsMovePlan new n survey repair into plan
 plan-kept n old new survey repair into plan k p = record {
   torn = p.torn;
   into_is = p.into_is;
@@ -127,7 +130,8 @@ pub record IsPrepared (n : ℕ) (drive : DriveState) (survey : Survey) (torn int
   pub there : content_at (contents drive.zones) into ≡ emptied
   pub in_range : into < length drive.zones
 
-pub prepared-kept : (n : ℕ) (old new : DriveState) (survey : Survey) (torn into : ℕ) → KeepsShut old new → IsPrepared n old survey torn into → IsPrepared n new survey torn into
+-- a drive stays prepared for the Moves if the contents stay and no zone is opened
+prepared-kept : (n : ℕ) (old new : DriveState) (survey : Survey) (torn into : ℕ) → KeepsShut old new → IsPrepared n old survey torn into → IsPrepared n new survey torn into
 prepared-kept n old new survey torn into k p =
     let same = k.contents_are in
     let count = shut-count old new same in
@@ -142,7 +146,8 @@ prepared-kept n old new survey torn into k p =
       in_range = omega (arith, p.in_range, count);
     }
 
-pub at-first : (n : ℕ) (drive : DriveState) (survey : Survey) (repair : Repair) (into : ℕ) (plan : MovePlan) → IsPrepared n drive survey repair.zone into → IsMovePlan drive n survey repair into plan → (drive.geometry.open < 2 → IsShut drive.zones plan.torn) → IsAtMove n drive drive repair.tables plan 0 no_heads
+-- a prepared drive with planned Moves is before the first one, with no header yet
+at-first : (n : ℕ) (drive : DriveState) (survey : Survey) (repair : Repair) (into : ℕ) (plan : MovePlan) → IsPrepared n drive survey repair.zone into → IsMovePlan drive n survey repair into plan → (drive.geometry.open < 2 → IsShut drive.zones plan.torn) → IsAtMove n drive drive repair.tables plan 0 no_heads
 at-first n drive survey repair into plan p is shut = record {
   can = is.can;
   known = is.known;
@@ -153,6 +158,7 @@ at-first n drive survey repair into plan p is shut = record {
 
 -- ---- after it
 
+-- after the repair a zone is vacant: the torn one, which was emptied
 pub repaired-vacant : (n : ℕ) (start new : DriveState) (plan : MovePlan) (made : List Batch) → EmptiesTorn n start new plan made → plan.torn < length start.zones → HasVacant (drive_logs new)
 repaired-vacant n start new plan made e lt =
     let logs = logs-emptied n start new plan made e in
@@ -164,6 +170,7 @@ repaired-vacant n start new plan made e lt =
       vacant = rw logs (get_or-set_same (set (drive_logs start) plan.into made) plan.torn [] [] (omega (arith, put, long, lt)));
     }
 
+-- after the repair no zone has a torn tail, if only the torn one had one
 pub repaired-whole : (n : ℕ) (start new : DriveState) (survey : Survey) (plan : MovePlan) (made : List Batch) → EmptiesTorn n start new plan made → Knows start n (drive_logs start) survey → AreVacantEmpty survey.zones.items (drive_logs start) → IsOnlyTorn (drive_logs start) (zone_tails (contents start.zones)) plan.torn
     → AreWhole (contents new.zones)
 repaired-whole n start new survey plan made e known vacant only zone = rw (tails-emptied n start new plan made e) (at (cases_eq zone plan.torn) (cases_eq zone plan.into))
@@ -200,6 +207,7 @@ has-empty n drive survey mountable none_left known vacant none =
 
 -- ---- step by step
 
+-- a drive without half clean zones still has none if its logs stay
 pub cleared-kept : (n : ℕ) (old new : DriveState) → IsLawful old → KeepsMountable n old new → drive_logs new ≡ drive_logs old → NoneBelow old.geometry.block n (drive_logs old) (length old.zones) → NoneBelow new.geometry.block n (drive_logs new) (length new.zones)
 cleared-kept n old new was k logs none zone lt half =
     none zone (omega (arith, lt, was.count, k.lawful.count, ap (λ (g : Geometry). g.zones) k.geometry)) (subst (λ (g : Geometry). IsHalfClean g.block n (drive_logs old) zone) k.geometry (subst (λ (l : List (List Batch)). IsHalfClean new.geometry.block n l zone) logs half))
@@ -213,7 +221,8 @@ pub record IsFinished (n : ℕ) (drive : DriveState) (survey : Survey) (torn : �
   pub only : IsOnlyTorn (drive_logs drive) (zone_tails (contents drive.zones)) torn
   pub settled : AreSettled drive torn (length drive.zones)
 
-pub is-finished : (old new : DriveState) (before survey : Survey) (repair : Repair) → IsCleared old before.given before → IsPlan old.geometry before.given (drive_logs old) (zone_tails (contents old.zones)) repair → KeepsMountable before.given old new
+-- finishing the other zones of a cleared drive leaves none but the torn zone opened or Closed
+pub is-finished : (old new : DriveState) (before survey : Survey) (repair : Repair) → IsCleared old before.given before → IsRepairPlan old.geometry before.given (drive_logs old) (zone_tails (contents old.zones)) repair → KeepsMountable before.given old new
     → SettlesOthers old new repair.zone → IsCleared new before.given survey → IsFinished before.given new survey repair.zone
 is-finished old new before survey repair was plan kept left cleared =
     let torn = repair.zone in
@@ -226,6 +235,7 @@ is-finished old new before survey repair was plan kept left cleared =
       settled = left.settled;
     }
 
+-- a finished drive is prepared for Moves into a zone that was reported Empty
 pub is-prepared : (n : ℕ) (drive : DriveState) (survey : Survey) (torn into : ℕ) (zones : List ReportedZone) → IsFinished n drive survey torn → zones ≡ survey.zones.items → (into < length zones) × ((r : ReportedZone) → slice_get zones into ≡ Some r → r.state ≡ states.Empty) → IsPrepared n drive survey torn into
 is-prepared n drive survey torn into zones f is found =
     let below : into < length survey.zones.items = omega (arith, found.0, ap length is) in
@@ -248,6 +258,7 @@ pub record IsStarted (n : ℕ) (drive start : DriveState) (survey : Survey) (rep
   pub at : IsAtMove n start start repair.tables plan 0 no_heads
   pub torn : plan.torn ≡ repair.zone
 
+-- the Moves begin on a prepared drive once they are planned and Close was sent
 pub is-started : (n : ℕ) (drive middle start : DriveState) (survey : Survey) (repair : Repair) (into : ℕ) (plan : MovePlan) → IsPrepared n drive survey repair.zone into → KeepsZones drive middle → IsMovePlan drive survey.given survey repair into plan → KeepsShut middle start
     → (middle.geometry.open < 2 → IsShut start.zones plan.torn) → IsStarted n drive start survey repair into plan
 is-started n drive middle start survey repair into plan p looked is closed shut =
@@ -261,10 +272,12 @@ is-started n drive middle start survey repair into plan p looked is closed shut 
       torn = is.torn;
     }
 
+-- a survey has scanned as many zones as were reported
 pub survey-count : (n : ℕ) (drive : DriveState) (survey : Survey) → Knows drive n (drive_logs drive) survey → length survey.scanned.items ≡ length survey.zones.items
 survey-count n drive survey known =
     omega (arith, ap length known.heads, length-map survey.scanned.items (λ (z : ScannedZone). z.heads), length-map (drive_logs drive) heads_of, known.count, known.zones.count)
 
+-- once all Moves are made, they take at least one block
 pub heads-some : (n : ℕ) (start now : DriveState) (tables : TablesView) (plan : MovePlan) (heads : HeadsView) → IsAtMove n start now tables plan (move_count plan) heads → 1 ≤ heads.blocks
 heads-some n start now tables plan heads a =
     let source = source_of start tables plan.torn in

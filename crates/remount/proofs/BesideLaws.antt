@@ -20,7 +20,7 @@ use Rattle.remount.specs.declared.repair.Repair.{Repair}
 use Rattle.remount.specs.declared.repair.moves.MovePlan.{MovePlan}
 use Rattle.drive_survey.specs.declared.survey.Survey.{Survey}
 use Rattle.remount.specs.Kept.{KeepsMountable}
-use Rattle.remount.specs.Mount.{FinishesByNeed, FinishesBeside, LeavesBeside, Plans, TookMoves}
+use Rattle.remount.specs.Mount.{FinishesByNeed, FinishesBeside, LeavesBeside, PlansRepair, TookMoves}
 use Rattle.remount.specs.Moving.{CanRepairBy, EmptiesTorn, KeepsShut, SettlesOthers, Source, move_count, moves_before, usage_with}
 use Rattle.remount.specs.Resets.{CanBeFilled, FinishesNeeded, KeepsGoing, KeepsWritten, OpensNoZone, finished_if_active}
 use Rattle.remount.specs.TornRepair.{RepairsBeside}
@@ -45,9 +45,6 @@ has-batch drive zone some = elim (cases_lt zone (length drive.zones)) as (λ _. 
   | inr past ↦ absurd (some (get_or_past (drive_logs drive) zone [] (omega (arith, past, logs-count drive))))
 ]
 
-same-log : (a b : DriveState) (zone : ℕ) → drive_logs a ≡ drive_logs b → log_at (drive_logs a) zone ≡ log_at (drive_logs b) zone
-same-log a b zone same = ap (λ (ls : List (List Batch)). log_at ls zone) same
-
 -- ---- the repair of a torn zone
 
 usage-full : (capacity size : ℕ) → usage_with capacity size ≡ full → size ≡ capacity
@@ -61,6 +58,7 @@ usage-full capacity (suc size) is = at (eqb (suc size) capacity) refl is
 made-some : (made : List Batch) → 1 ≤ log_size made → made ≢ []
 made-some made some none = absurd (let zero_size : log_size made ≡ 0 = rw none refl in omega (arith, some, zero_size))
 
+-- a repair finishes the other active zones, and puts its Moves into the zone of the plan
 pub beside-into : (n : ℕ) (old one start new : DriveState) (survey : Survey) (source : Source) (plan : MovePlan) (torn into : ℕ) → IsPrepared n start survey torn into → plan.torn ≡ torn → plan.into ≡ into → KeepsMountable n old one → SettlesOthers old one torn → KeepsShut one start
     → CanRepairBy start.geometry n (drive_logs start) source plan → EmptiesTorn n start new plan (moves_before source plan (move_count plan)) → (b : RepairsBeside old new torn) × (b.into ≡ plan.into)
 beside-into n old one start new survey source plan torn into p torn_is into_is kept settles shut can e = subst (λ (t : ℕ). (b : RepairsBeside old new t) × (b.into ≡ plan.into)) torn_is (
@@ -128,6 +126,7 @@ beside-into n old one start new survey source plan torn into p torn_is into_is k
         put (l ∷ ls) (suc i) zero is = is
         put (l ∷ ls) (suc i) (suc k) is = put ls i k is
 
+-- a repair finishes the other active zones, and opens none except for the zone of its Moves
 pub beside-repaired : (n : ℕ) (old one start new : DriveState) (survey : Survey) (source : Source) (plan : MovePlan) (torn into : ℕ) → IsPrepared n start survey torn into → plan.torn ≡ torn → plan.into ≡ into → KeepsMountable n old one → SettlesOthers old one torn → KeepsShut one start
     → CanRepairBy start.geometry n (drive_logs start) source plan → EmptiesTorn n start new plan (moves_before source plan (move_count plan)) → RepairsBeside old new torn
 beside-repaired n old one start new survey source plan torn into p torn_is into_is kept settles shut can e = (beside-into n old one start new survey source plan torn into p torn_is into_is kept settles shut can e).0
@@ -163,7 +162,8 @@ moves-need middle third new torn b third_is new_is needed is = at (cases_lt midd
         let same : content_at (contents new.zones) b.into ≡ content_at (contents third.zones) b.into = needed.going b.into goes in
         absurd (omega (arith, room, b.filled (ap (λ (c : Content). c.usage) (sym same) ∙ is)))
 
-pub carried-zones : (old middle third new : DriveState) (n : ℕ) (resets : List ℕ) (plan : Option Repair) (survey : Survey) → Empties old middle n resets survey → Plans old.geometry n (cleared (drive_logs old) resets) (zone_tails (contents old.zones)) plan
+-- emptying, repairing and finishing zones in turn finishes and opens them only by need
+pub carried-zones : (old middle third new : DriveState) (n : ℕ) (resets : List ℕ) (plan : Option Repair) (survey : Survey) → Empties old middle n resets survey → PlansRepair old.geometry n (cleared (drive_logs old) resets) (zone_tails (contents old.zones)) plan
     → KeepsWritten old middle → OpensNoZone old middle → LeavesBeside middle plan third → third.geometry ≡ middle.geometry → new.geometry ≡ middle.geometry → drive_logs new ≡ drive_logs third → FinishesNeeded third new → FinishesByNeed old resets new
 carried-zones old middle third new n resets None survey is none written opens same third_is new_is logs needed = record {
   others = carried-others old middle third new n resets None survey is none written (λ e. same) needed.going;

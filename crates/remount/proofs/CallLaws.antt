@@ -42,6 +42,7 @@ use Rattle.drive_survey.proofs.ReadLaws.{kept-contents}
 
 -- ---- lists
 
+-- an element after a write is the written value at its index, or an old element elsewhere
 pub get-set : {X : Type 0} (xs : List X) (i j : ℕ) (v x : X) → slice_get (set xs i v) j ≡ Some x → ((j ≡ i) × (x ≡ v)) ⊎ ((j ≢ i) × (slice_get xs j ≡ Some x))
 get-set [] i j v x is = absurd (cc)
 get-set (y ∷ ys) zero zero v x is = let same : Some v ≡ Some x = is in inl (refl, cc)
@@ -52,11 +53,13 @@ get-set {X} (y ∷ ys) (suc i) (suc j) v x is = elim (get-set ys i j v x is) as 
   | inr there ↦ inr ((λ e. there.0 (omega arith)), there.1)
 ]
 
+-- a list has an element at each index below its length
 pub in-get : {X : Type 0} (xs : List X) (i : ℕ) (d : X) → i < length xs → (x : X) × (slice_get xs i ≡ Some x)
 in-get xs i d lt = (get_or xs i d, slice_get-get_or xs i d lt)
 
 -- ---- the same drive, as a mount sees it
 
+-- two steps that each keep a drive mountable, with its array, keep it so together
 pub mountable-both : (n : ℕ) (a b c : DriveState) → KeepsMountable n a b → KeepsMountable n b c → KeepsMountable n a c
 mountable-both n a b c k l = record {
   geometry = l.geometry ∙ k.geometry;
@@ -66,6 +69,7 @@ mountable-both n a b c k l = record {
   array = λ m. l.array (k.mountable m) ∙ k.array m;
 }
 
+-- a lawful drive with the same contents, and no refused command, stays mountable with its array
 pub mountable-same : (n : ℕ) (old new : DriveState) → SameContents old new → IsLawful new → new.refused ≡ old.refused → KeepsMountable n old new
 mountable-same n old new same lawful refused = record {
   geometry = same.geometry;
@@ -75,21 +79,23 @@ mountable-same n old new same lawful refused = record {
   array = λ m. spelled_same old new n same;
 }
 
+-- if contents stay and no zone is opened, a drive stays mountable with its array
 pub shut-mountable : (n : ℕ) (old new : DriveState) → KeepsShut old new → KeepsMountable n old new
 shut-mountable n old new k = mountable-same n old new (record { geometry = k.geometry; contents = k.contents_are }) k.lawful k.refused
 
+-- if only the controller closed zones, the contents stay and no zone is opened
 pub zones-shut : (old new : DriveState) → KeepsZones old new → KeepsShut old new
 zones-shut old new k = record { geometry = k.geometry; contents_are = kept-contents old new k; lawful = k.lawful; refused = k.refused; opens = closing-opens old.zones new.zones k.closing }
 
-pub shut-none : (drive : DriveState) → IsLawful drive → KeepsShut drive drive
-shut-none drive lawful = record { geometry = refl; contents_are = refl; lawful = lawful; refused = refl; opens = λ zone h. h }
-
+-- two steps that keep the contents and open no zone do so together
 pub shut-both : (a b c : DriveState) → KeepsShut a b → KeepsShut b c → KeepsShut a c
 shut-both a b c k l = record { geometry = l.geometry ∙ k.geometry; contents_are = l.contents_are ∙ k.contents_are; lawful = l.lawful; refused = l.refused ∙ k.refused; opens = λ zone h. l.opens zone (k.opens zone h) }
 
+-- drives with the same contents have the same number of zones
 pub shut-count : (old new : DriveState) → contents new.zones ≡ contents old.zones → length new.zones ≡ length old.zones
 shut-count old new same = omega (arith, ap length same, length-map new.zones content_of, length-map old.zones content_of)
 
+-- what is known of a zone stays known if contents stay and no zone is opened
 pub shut-known : (old new : DriveState) (zone : ℕ) (reported : ReportedZone) → KeepsShut old new → IsKnown old zone reported → IsKnown new zone reported
 shut-known old new zone reported k known =
     let same = k.contents_are in
@@ -103,7 +109,8 @@ shut-known old new zone reported k known =
       shut = λ h. k.opens zone (known.shut h);
     }
 
-pub shut-all : (old new : DriveState) (reported : List ReportedZone) → KeepsShut old new → AreKnown old reported → AreKnown new reported
+-- what is known of all zones stays known if contents stay and no zone is opened
+shut-all : (old new : DriveState) (reported : List ReportedZone) → KeepsShut old new → AreKnown old reported → AreKnown new reported
 shut-all old new reported k known = record {
   geometry = rw k.geometry known.geometry;
   lawful = k.lawful;
@@ -111,9 +118,11 @@ shut-all old new reported k known = record {
   each = λ zone r is. shut-known old new zone r k (known.each zone r is);
 }
 
+-- if the contents stay, so do the logs
 pub shut-logs : (old new : DriveState) → KeepsShut old new → drive_logs new ≡ drive_logs old
 shut-logs old new k = rw (k.geometry, k.contents_are) refl
 
+-- what a survey knows still holds if contents stay and no zone is opened
 pub shut-knows : (n : ℕ) (old new : DriveState) (survey : Survey) → KeepsShut old new → Knows old n (drive_logs old) survey → Knows new n (drive_logs new) survey
 shut-knows n old new survey k known =
     rw (shut-logs old new k) (record {
@@ -129,27 +138,18 @@ shut-knows n old new survey k known =
       tails = rw k.contents_are known.tails;
     })
 
--- the array is the logs'
-pub spelled-logs : (n : ℕ) (old new : DriveState) → new.geometry ≡ old.geometry → drive_logs new ≡ drive_logs old → spelled new n ≡ spelled old n
-unfolding spelled_array
-spelled-logs n old new geometry logs = rw (logs, geometry) refl
-
 -- ---- halts
 
+-- a fault is a halt, and interrupts a mount
 pub record Halted (new : DriveState) (fault : PortFault) : Type 0 where
   pub halt : IsHalt fault
   pub cause : FailsBy (λ _. ⊥) new (mount_fault fault)
 
+-- a command that failed, but was not refused, has halted
 pub has-halted : {V : Type 0} (old new : DriveState) (fault : PortFault) → IsNotRefused {V = V} (Err fault) → Obeys {V = V} old (Err fault) new → Halted new fault
 has-halted {V} old new (port.Refused status) passed obeys = absurd passed
 has-halted {V} old new port.Memory passed obeys = record { halt = tt; cause = inl refl }
 has-halted {V} old new port.Stopped passed obeys = record { halt = tt; cause = inr (inl (refl, obeys.stops refl)) }
-
--- a zone that can be used is in range
-pub active-in : (zones : List Content) (zone : ℕ) → is_active_usage (content_at zones zone).usage ≡ true → zone < length zones
-active-in [] zone is = absurd (cc)
-active-in (c ∷ cs) zero is = omega arith
-active-in (c ∷ cs) (suc zone) is = let lt = active-in cs zone is in omega (arith, lt)
 
 -- where a zone starts
 pub record StartsAt (drive : DriveState) (zone start : ℕ) : Type 0 where
@@ -157,6 +157,7 @@ pub record StartsAt (drive : DriveState) (zone start : ℕ) : Type 0 where
   pub aligned : start % drive.geometry.size ≡ 0
   pub below : start < drive.geometry.zones * drive.geometry.size
 
+-- a zone starts at its number times the zone size
 pub starts-at : (drive : DriveState) (zone start : ℕ) → IsInRange drive.geometry → IsLawful drive → zone < length drive.zones → start ≡ zone * drive.geometry.size → StartsAt drive zone start
 starts-at drive zone start range lawful lt is =
     let at = zone-start zone drive.geometry.size range.size.0 in
@@ -164,6 +165,7 @@ starts-at drive zone start range lawful lt is =
 
 -- ---- a Finish
 
+-- a zone that is usable can be reset by the address where it starts
 pub can-reset : (drive : DriveState) (zone start : ℕ) → StartsAt drive zone start → is_usable (content_at (contents drive.zones) zone).usage ≡ true → CanReset drive start
 can-reset drive zone start at usable = record {
   aligned = at.aligned;
@@ -171,6 +173,7 @@ can-reset drive zone start at usable = record {
   usable = rw (at.index, ← ap (λ (c : Content). c.usage) (content_at-contents drive.zones zone)) usable;
 }
 
+-- an active zone can be written and used
 pub active-writable : (content : Content) → is_active_usage content.usage ≡ true → (is_writable content.usage ≡ true) × (is_usable content.usage ≡ true)
 active-writable content is = at content.usage is
   where
@@ -180,46 +183,9 @@ active-writable content is = at content.usage is
     at full h = absurd (cc)
     at Rattle.drive_port.specs.Contents.unusable h = absurd (cc)
 
-pub active-usable : (content : Content) → is_active_usage content.usage ≡ true → is_usable content.usage ≡ true
-active-usable content is = (active-writable content is).1
-
-finish-mountable : (n : ℕ) (old new : DriveState) (zone : ℕ) → IsLawful old → AllByRecursion (HasLog old.geometry) (contents old.zones) → is_active_usage (content_at (contents old.zones) zone).usage ≡ true → has_torn_tail (content_at (contents old.zones) zone) ≡ false
-    → new.geometry ≡ old.geometry → IsLawful new → new.refused ≡ old.refused → Finishes (contents old.zones) (contents new.zones) zone → KeepsMountable n old new
-finish-mountable n old new zone was logs active whole geometry lawful refused finishes =
-    let zones = contents old.zones in
-    let g = old.geometry in
-    let writable = (active-writable (content_at zones zone) active).0 in
-    let same = finish_logs g zones (contents new.zones) zone was.geometry.block (all-at (HasLog g) zones zone nothing logs finishes.in_range) writable whole finishes in
-    let logs_are : drive_logs new ≡ drive_logs old = rw geometry same.logs in
-    record {
-      geometry = geometry;
-      lawful = lawful;
-      refused = refused;
-      mountable = λ m. record { lawful = lawful; holds = rw geometry (finish_mounts g zones (contents new.zones) n zone was.geometry.block m.holds writable whole finishes) };
-      array = λ m. spelled-logs n old new geometry logs_are;
-    }
-
 -- ---- what is known after it
 
-length-full : (geometry : Geometry) (content : Content) → length content.blocks ≤ geometry.capacity → length (readable geometry (finished content)) ≡ geometry.capacity
-length-full geometry content le = omega (arith, le, length-append content.blocks (replicate (geometry.capacity - length content.blocks) (zero_block geometry.block)), length-replicate (geometry.capacity - length content.blocks) (zero_block geometry.block))
-
-full-known : (old new : DriveState) (zone : ℕ) → IsInRange old.geometry → IsLawful old → IsLawful new → new.geometry ≡ old.geometry → Finishes (contents old.zones) (contents new.zones) zone
-    → IsKnown new zone (record { state = states.Full; blocks = old.geometry.capacity })
-full-known old new zone range was lawful geometry finishes =
-    let zones = contents old.zones in
-    let lt : zone < length old.zones = omega (arith, finishes.in_range, length-map old.zones content_of) in
-    let there : content_at (contents new.zones) zone ≡ finished (content_at zones zone) = rw finishes.zones (get_or-set_same zones zone (finished (content_at zones zone)) nothing finishes.in_range) in
-    record {
-      geometry = rw geometry range;
-      lawful = lawful;
-      in_range = omega (arith, lt, was.count, lawful.count, ap (λ (g : Geometry). g.zones) geometry);
-      usage = ap (λ (c : Content). c.usage) there;
-      usable = refl;
-      blocks = rw (geometry, there) (sym (length-full old.geometry (content_at zones zone) (zone-few old zone was lt)));
-      shut = λ h. settled-shut new.zones zone (inr (ap (λ (c : Content). c.usage) there));
-    }
-
+-- a zone stays known if it holds what it held and was not opened
 pub other-known : (old new : DriveState) (zone : ℕ) (reported : ReportedZone) → IsLawful old → IsLawful new → new.geometry ≡ old.geometry → content_at (contents new.zones) zone ≡ content_at (contents old.zones) zone → (IsShut old.zones zone → IsShut new.zones zone)
     → IsKnown old zone reported → IsKnown new zone reported
 other-known old new zone reported was lawful geometry same opens known = record {
@@ -233,7 +199,7 @@ other-known old new zone reported was lawful geometry same opens known = record 
 }
 
 -- a vacant zone is not active
-pub vacant-inactive : (drive : DriveState) (reported : List ReportedZone) (zone : ℕ) → AreKnown drive reported → AreVacantEmpty reported (drive_logs drive) → zone < length drive.zones → is_active_usage (content_at (contents drive.zones) zone).usage ≡ true → log_at (drive_logs drive) zone ≡ [] → ⊥
+vacant-inactive : (drive : DriveState) (reported : List ReportedZone) (zone : ℕ) → AreKnown drive reported → AreVacantEmpty reported (drive_logs drive) → zone < length drive.zones → is_active_usage (content_at (contents drive.zones) zone).usage ≡ true → log_at (drive_logs drive) zone ≡ [] → ⊥
 vacant-inactive drive reported zone known vacant lt active none =
     let there = in-get reported zone (record { state = states.Empty; blocks = 0 }) (omega (arith, lt, known.count)) in
     let e : there.0.state ≡ states.Empty = vacant zone there.0 there.1 none in
@@ -241,6 +207,7 @@ vacant-inactive drive reported zone known vacant lt active none =
     let bad : false ≡ true = rw (usage, e) at active in
     absurd (cc)
 
+-- a Finish of an active zone without a torn tail keeps all logs and tails
 pub finished-zone : (n : ℕ) (old new : DriveState) (before after : Survey) (zone : ℕ) → Knows old n (drive_logs old) before → is_active_usage (content_at (contents old.zones) zone).usage ≡ true → has_torn_tail (content_at (contents old.zones) zone) ≡ false
     → FinishesOne old new before after zone → FinishesZone n old new before after zone
 finished-zone n old new before after zone known active whole one =
@@ -282,9 +249,11 @@ finished-zone n old new before after zone known active whole one =
 
 -- ---- a zone is settled
 
+-- a zone that is the torn one, or is not active, is settled without a command
 pub settles-same : (n : ℕ) (drive : DriveState) (survey : Survey) (torn zone : ℕ) → Knows drive n (drive_logs drive) survey → (zone ≢ torn → is_active_usage (content_at (contents drive.zones) zone).usage ≡ false) → SettlesZone n drive drive survey survey torn zone
 settles-same n drive survey torn zone known settled = record { known = known; logs = refl; tails = refl; vacant = λ v. v; settled = settled; own = λ ne. rw (settled ne) refl; others = λ other ne. refl; opens = λ other h. h; count = refl }
 
+-- a zone is settled once it was finished
 pub settles-finished : (n : ℕ) (old new : DriveState) (before after : Survey) (torn zone : ℕ) → Knows old n (drive_logs old) before → FinishesZone n old new before after zone → SettlesZone n old new before after torn zone
 settles-finished n old new before after torn zone known f = record {
   known = f.known;
@@ -328,9 +297,11 @@ pub record Settles (n torn : ℕ) (start now : DriveState) (before after : Surve
   pub kept : KeepsMountable n start now
   pub count : length after.zones.items ≡ length before.zones.items
 
+-- a surveyed drive with one torn zone is settled below zone 0, before any command
 pub settles-none : (n torn : ℕ) (start : DriveState) (before : Survey) → Knows start n (drive_logs start) before → AreVacantEmpty before.zones.items (drive_logs start) → IsOnlyTorn (drive_logs start) (zone_tails (contents start.zones)) torn → Settles n torn start start before before 0
 settles-none n torn start before known vacant only = record { known = known; logs = refl; tails = refl; vacant = vacant; settled = λ zone lt ne. absurd (omega arith); done = λ zone lt ne. absurd (omega arith); rest = λ zone le. refl; opens = λ zone h. h; only = only; kept = mountable-same n start start (record { geometry = refl; contents = refl }) known.zones.lawful refl; count = refl }
 
+-- once the next zone is settled, too, one zone more is done
 pub settles-more : (n torn : ℕ) (start now next : DriveState) (before middle after : Survey) (limit : ℕ) → Settles n torn start now before middle limit → SettlesZone n now next middle after torn limit → KeepsMountable n now next → Settles n torn start next before after (limit + 1)
 settles-more n torn start now next before middle after limit s z kept = record {
   known = z.known;
@@ -377,6 +348,7 @@ pub record CanSendClose (drive : DriveState) (zone start : ℕ) : Type 0 where
   pub at : StartsAt drive zone start
   pub can : CanClose drive start
 
+-- a zone that was reported open can be sent Close by the address where it starts
 pub can-close : (drive : DriveState) (zone start : ℕ) (reported : ReportedZone) → IsKnown drive zone reported → is_open reported.state ≡ true → start ≡ zone * drive.geometry.size → CanSendClose drive zone start
 can-close drive zone start reported known opened is =
     let at = starts-at drive zone start known.geometry known.lawful known.in_range is in
@@ -387,14 +359,17 @@ can-close drive zone start reported known opened is =
       can = record { aligned = at.aligned; in_range = at.below; active = rw at.index (active-state (zone_at drive.zones zone).state (rw usage (open-active reported.state opened))) };
     }
 
+-- a Close that halts keeps the contents and opens no zone
 pub close-halts : (old new : DriveState) (start : ℕ) (fault : PortFault) → SameContents old new → CloseLeaves {V = Unit {0}} old start (Err fault) new → Obeys {V = Unit {0}} old (Err fault) new → IsNotRefused {V = Unit {0}} (Err fault) → KeepsShut old new
 close-halts old new start (port.Refused status) same leaves obeys passed = absurd passed
 close-halts old new start port.Memory same leaves obeys passed = record { geometry = same.geometry; contents_are = same.contents; lawful = obeys.lawful; refused = ap (λ (d : DriveState). d.refused) leaves; opens = close-opens {V = Unit {0}} old new start (Err port.Memory) leaves }
 close-halts old new start port.Stopped same leaves obeys passed = record { geometry = same.geometry; contents_are = same.contents; lawful = obeys.lawful; refused = (obeys.counts refl).refused; opens = close-opens {V = Unit {0}} old new start (Err port.Stopped) leaves }
 
+-- a Close that succeeds keeps the contents and opens no zone
 pub close-done : (old new : DriveState) (start : ℕ) → SameContents old new → CloseLeaves {V = Unit {0}} old start (Ok tt) new → Obeys {V = Unit {0}} old (Ok tt) new → ClosedZone old new start → KeepsShut old new
 close-done old new start same leaves obeys done = record { geometry = same.geometry; contents_are = same.contents; lawful = obeys.lawful; refused = done.counts.refused; opens = close-opens {V = Unit {0}} old new start (Ok tt) leaves }
 
+-- after a Close that succeeds its zone is not open
 pub close-shuts : (old new : DriveState) (zone start : ℕ) → StartsAt old zone start → zone < length old.zones → CloseLeaves {V = Unit {0}} old start (Ok tt) new → IsShut new.zones zone
 close-shuts old new zone start at lt leaves =
     let index = start / old.geometry.size in
@@ -402,12 +377,9 @@ close-shuts old new zone start at lt leaves =
     let there : IsShut (set old.zones index made) index = rw (get_or-set_same old.zones index made nowhere (omega (arith, at.index, lt))) refl in
     subst (IsShut new.zones) at.index (closing-opens (set old.zones index made) new.zones leaves index there)
 
--- it was not reported open
-pub reported-shut : (drive : DriveState) (zone : ℕ) (reported : ReportedZone) → IsKnown drive zone reported → is_open reported.state ≡ false → IsShut drive.zones zone
-reported-shut drive zone reported known h = known.shut h
-
 -- ---- a zone's report
 
+-- a zone state is active just where its usage is
 pub active-usage : (state : ZoneState) → is_active state ≡ is_active_usage (usage_of state)
 active-usage states.Empty = refl
 active-usage states.ImplicitlyOpened = refl
@@ -417,11 +389,13 @@ active-usage states.Full = refl
 active-usage states.ReadOnly = refl
 active-usage states.Offline = refl
 
+-- a zone is active just where it was reported so
 pub reported-active : (drive : DriveState) (reported : List ReportedZone) (zone : ℕ) (r : ReportedZone) → AreKnown drive reported → slice_get reported zone ≡ Some r → is_active_usage (content_at (contents drive.zones) zone).usage ≡ is_active_usage (usage_of r.state)
 reported-active drive reported zone r known is = ap is_active_usage (known.each zone r is).usage
 
 -- ---- answers
 
+-- if success gives two facts, it gives what follows from both
 pub on-two : {P Q R : Type 0} {V : Type 0} (result : Result V MountFault) → (P → Q → R) → OnOk result P → OnOk result Q → OnOk result R
 on-two (Ok value) step p q = step p q
 on-two (Err fault) step p q = tt
@@ -431,6 +405,7 @@ pub on-either : {P Q R : Type 0} {V : Type 0} (result : Result V MountFault) →
 on-either (Ok value) done failed p q = done p
 on-either (Err fault) done failed p q = failed q
 
+-- if success gives a fact, it gives what follows from the fact
 pub on-ok : {P Q : Type 0} {V : Type 0} (result : Result V MountFault) → (P → Q) → OnOk result P → OnOk result Q
 on-ok (Ok value) step p = step p
 on-ok (Err fault) step p = tt

@@ -26,7 +26,8 @@ use Rattle.remount.proofs.SetAllLaws.{cleared-set_all, get-set_all, get_or-set_a
 
 -- ---- logs and tails
 
-pub logs-set_all : (geometry : Geometry) (zones : List Content) (is : List ℕ) → zone_logs geometry (set_all zones is emptied) ≡ set_all (zone_logs geometry zones) is []
+-- emptied zones have no batch, and the logs of all others stay
+logs-set_all : (geometry : Geometry) (zones : List Content) (is : List ℕ) → zone_logs geometry (set_all zones is emptied) ≡ set_all (zone_logs geometry zones) is []
 unfolding zone_log
 logs-set_all geometry zones is = map-set_all (zone_log geometry) zones is emptied
 
@@ -39,16 +40,19 @@ drive-logs-reset old new before after zones resets = rw (resets.geometry, resets
 
 -- ---- which zones may be reset
 
+-- zones that are vacant may be reset, one after the other
 pub vacant-may : (block_bytes n : ℕ) (logs : List (List Batch)) (zones : List ℕ) → AllByRecursion (λ zone. (zone < length logs) × IsVacant logs zone) zones → MayReset block_bytes n logs zones
 vacant-may block_bytes n logs [] all = tt
 vacant-may block_bytes n logs (z ∷ zs) all =
     (all.0.0, inl all.0.1, subst (λ (ls : List (List Batch)). MayReset block_bytes n ls zs) (sym (without-vacant logs z all.0.1)) (vacant-may block_bytes n logs zs all.1))
 
-pub clearing-may : (block_bytes n : ℕ) (logs : List (List Batch)) (zones : List ℕ) → IsClearing block_bytes n logs zones → MayReset block_bytes n logs zones
+-- the zones of a clearing may be reset, one after the other
+clearing-may : (block_bytes n : ℕ) (logs : List (List Batch)) (zones : List ℕ) → IsClearing block_bytes n logs zones → MayReset block_bytes n logs zones
 clearing-may block_bytes n logs [] is = tt
 clearing-may block_bytes n logs (z ∷ zs) is = (is.0.in_range, inr is.0, clearing-may block_bytes n (without logs z) zs is.1)
 
-pub vacant-stay : (logs : List (List Batch)) (zones : List ℕ) → AllByRecursion (λ zone. (zone < length logs) × IsVacant logs zone) zones → set_all logs zones [] ≡ logs
+-- emptying vacant zones leaves all logs unchanged
+vacant-stay : (logs : List (List Batch)) (zones : List ℕ) → AllByRecursion (λ zone. (zone < length logs) × IsVacant logs zone) zones → set_all logs zones [] ≡ logs
 vacant-stay logs [] all = refl
 vacant-stay logs (z ∷ zs) all = ap (λ (ls : List (List Batch)). set_all ls zs []) (without-vacant logs z all.0.1) ∙ vacant-stay logs zs all.1
 
@@ -68,26 +72,13 @@ pub record ResetsSome (first now : DriveState) (before survey : Survey) (n : ℕ
   pub given : survey.given ≡ before.given
   pub may : MayReset first.geometry.block n (drive_logs now) rest
 
-pub resets-none : (drive : DriveState) (survey : Survey) (n : ℕ) (zones : List ℕ) → AreKnown drive survey.zones.items → MayReset drive.geometry.block n (drive_logs drive) zones → ResetsSome drive drive survey survey n zones zones
-resets-none drive survey n zones known may = record {
-  keeps = keeps-mountable-none n drive known.lawful;
-  geometry = refl;
-  contents_are = refl;
-  opens = λ zone h. h;
-  known = known;
-  reported = refl;
-  heads = refl;
-  tails = refl;
-  size = refl;
-  given = refl;
-  may = may;
-}
-
+-- a Reset of the next zone, also one that halts, keeps the drive mountable
 pub some-keeps : (first now new : DriveState) (before survey : Survey) (n zone : ℕ) (zones rest : List ℕ) → ResetsSome first now before survey n zones (zone ∷ rest) → MayChange (λ a b. Resets a b zone) now new → KeepsMountable n first new
 some-keeps first now new before survey n zone zones rest some change =
     let may : IsVacant (drive_logs now) zone ⊎ IsLowest now.geometry.block n (drive_logs now) zone = subst (λ (g : Geometry). IsVacant (drive_logs now) zone ⊎ IsLowest g.block n (drive_logs now) zone) (sym some.geometry) some.may.1 in
     keeps-mountable-both n first now new some.keeps (reset-keeps n now new zone may change)
 
+-- once the next zone is reset, one zone fewer is left
 pub resets-more : (first now new : DriveState) (before survey after : Survey) (n zone : ℕ) (zones rest : List ℕ) → ResetsSome first now before survey n zones (zone ∷ rest) → MayChange (λ a b. Resets a b zone) now new → ResetsAll now new survey after (zone ∷ [])
     → ResetsSome first new before after n zones rest
 resets-more first now new before survey after n zone zones rest some change one = record {
@@ -104,19 +95,6 @@ resets-more first now new before survey after n zone zones rest some change one 
   may = subst (λ (ls : List (List Batch)). MayReset first.geometry.block n ls rest) (sym (drive-logs-reset now new survey after (zone ∷ []) one)) some.may.2;
 }
 
-pub resets-end : (first now : DriveState) (before survey : Survey) (n : ℕ) (zones : List ℕ) → ResetsSome first now before survey n zones [] → ResetsAll first now before survey zones
-resets-end first now before survey n zones some = record {
-  geometry = some.geometry;
-  contents_are = some.contents_are;
-  opens = some.opens;
-  known = some.known;
-  reported = some.reported;
-  heads = some.heads;
-  tails = some.tails;
-  size = some.size;
-  given = some.given;
-}
-
 -- ---- vacant zones, and then half clean ones
 
 -- what is known before
@@ -125,13 +103,16 @@ pub record CanEmpty (drive : DriveState) (n : ℕ) (survey : Survey) (vacant hal
   pub to_empty : AreToEmpty (drive_logs drive) survey vacant
   pub clearing : IsClearing drive.geometry.block n (drive_logs drive) half_clean
 
-pub logs-middle : (old middle : DriveState) (before survey : Survey) (n : ℕ) (vacant half_clean : List ℕ) → CanEmpty old n before vacant half_clean → ResetsAll old middle before survey vacant → drive_logs middle ≡ drive_logs old
+-- resetting the vacant zones leaves all logs unchanged
+logs-middle : (old middle : DriveState) (before survey : Survey) (n : ℕ) (vacant half_clean : List ℕ) → CanEmpty old n before vacant half_clean → ResetsAll old middle before survey vacant → drive_logs middle ≡ drive_logs old
 logs-middle old middle before survey n vacant half_clean can one = drive-logs-reset old middle before survey vacant one ∙ vacant-stay (drive_logs old) vacant can.to_empty.vacant
 
+-- once the vacant zones are reset, the half clean ones may be reset
 pub may-clear : (old middle : DriveState) (before survey : Survey) (n : ℕ) (vacant half_clean : List ℕ) → CanEmpty old n before vacant half_clean → ResetsAll old middle before survey vacant → MayReset middle.geometry.block n (drive_logs middle) half_clean
 may-clear old middle before survey n vacant half_clean can one =
     rw (logs-middle old middle before survey n vacant half_clean can one, one.geometry) (clearing-may old.geometry.block n (drive_logs old) half_clean can.clearing)
 
+-- after the Resets of vacant and half clean zones the logs are the cleared ones
 pub logs-cleared : (old middle new : DriveState) (before survey after : Survey) (n : ℕ) (vacant half_clean : List ℕ) → CanEmpty old n before vacant half_clean → ResetsAll old middle before survey vacant → ResetsAll middle new survey after half_clean
     → drive_logs new ≡ cleared (drive_logs old) half_clean
 logs-cleared old middle new before survey after n vacant half_clean can one two =
@@ -151,6 +132,7 @@ resets-both old middle new before survey after vacant half_clean one two = recor
   given = two.given ∙ one.given;
 }
 
+-- after the Resets the survey knows a mountable drive by all of its logs
 pub knows-cleared : (old middle new : DriveState) (before survey after : Survey) (n : ℕ) (vacant half_clean : List ℕ) → CanEmpty old n before vacant half_clean → ResetsAll old middle before survey vacant → ResetsAll middle new survey after half_clean
     → IsMountable new n → Knows new n (drive_logs new) after
 knows-cleared old middle new before survey after n vacant half_clean can one two mountable =
@@ -176,6 +158,7 @@ knows-cleared old middle new before survey after n vacant half_clean can one two
 among : (xs ys : List ℕ) (k : ℕ) → Contains xs k → Contains (xs ++ ys) k
 among xs ys k c = Contains-append_left xs ys k c
 
+-- after the Resets each vacant zone is noted as Empty
 pub vacant-emptied : (old middle new : DriveState) (before survey after : Survey) (n : ℕ) (vacant half_clean : List ℕ) → CanEmpty old n before vacant half_clean → ResetsAll old middle before survey vacant → ResetsAll middle new survey after half_clean
     → AreVacantEmpty after.zones.items (drive_logs new)
 vacant-emptied old middle new before survey after n vacant half_clean can one two zone r there none =
@@ -193,6 +176,7 @@ vacant-emptied old middle new before survey after n vacant half_clean can one tw
           | inr c ↦ absurd (out.0 (among vacant half_clean zone c))
         ]
 
+-- the Resets change no torn tail of a zone that still has a batch
 pub tails-emptied : (old middle new : DriveState) (before survey after : Survey) (vacant half_clean : List ℕ) → ResetsAll old middle before survey vacant → ResetsAll middle new survey after half_clean
     → (zone : ℕ) → log_at (drive_logs new) zone ≢ [] → get_or (zone_tails (contents new.zones)) zone false ≡ get_or (zone_tails (contents old.zones)) zone false
 tails-emptied old middle new before survey after vacant half_clean one two zone some =
@@ -204,6 +188,7 @@ tails-emptied old middle new before survey after vacant half_clean one two zone 
       | inr same ↦ ap (λ (ts : List Bool). get_or ts zone false) tails ∙ same
     ]
 
+-- each zone that still has a batch after the Resets holds what it held
 pub written-stay : (old middle new : DriveState) (before survey after : Survey) (vacant half_clean : List ℕ) → ResetsAll old middle before survey vacant → ResetsAll middle new survey after half_clean → KeepsWritten old new
 written-stay old middle new before survey after vacant half_clean one two zone some =
     let all = resets-both old middle new before survey after vacant half_clean one two in
@@ -213,6 +198,7 @@ written-stay old middle new before survey after vacant half_clean one two zone s
       | inr stays ↦ ap (λ (cs : List Content). content_at cs zone) all.contents_are ∙ stays
     ]
 
+-- if success gives a fact, it gives what follows from the fact
 pub if-ok : {P Q : Type 0} (result : Result (Unit {0}) MountFault) → (P → Q) → OnOk result P → OnOk result Q
 if-ok (Ok done) f is = f is
 if-ok (Err fault) f is = tt

@@ -33,6 +33,7 @@ use Rattle.remount.proofs.KeepLaws.{CanFinishZone, finish-keeps, keeps-mountable
 
 -- ---- tests
 
+-- if a conjunction is true, so are both of its parts
 pub and-both : (a b : Bool) → (a && b) ≡ true → (a ≡ true) × (b ≡ true)
 and-both true b is = (refl, is)
 and-both false b is = absurd (cc)
@@ -126,6 +127,7 @@ pub record FinishesSome (first now : DriveState) (before survey : Survey) (n zon
   pub done : (k : ℕ) → k < zone → CanBeFilled now k
   pub needed : FinishesNeeded first now
 
+-- on a drive without torn zones none is finished before the first test
 pub finishes-none : (drive : DriveState) (survey : Survey) (n : ℕ) → IsUntorn drive n survey → FinishesSome drive drive survey survey n 0
 finishes-none drive survey n can = record {
   keeps = keeps-mountable-none n drive can.mountable.lawful;
@@ -146,6 +148,7 @@ some-at first now before survey n below zone can some lt =
     let heads : heads_in survey.scanned.items ≡ map heads_of (drive_logs first) = rw some.scanned can.known.heads in
     surveyed-at now (drive_logs first) survey zone some.known heads long lt
 
+-- the survey keeps its number of zones while zones are finished
 pub same-long : (first now : DriveState) (before survey : Survey) (n zone : ℕ) → IsUntorn first n before → FinishesSome first now before survey n zone → length survey.zones.items ≡ length before.zones.items
 same-long first now before survey n zone can some =
     omega (arith, can.known.count, can.known.zones.count, some.known.count, ap length some.logs, length-map (contents now.zones) (zone_log now.geometry), length-map now.zones content_of)
@@ -166,6 +169,7 @@ can-finish first now before survey n zone can some lt tested =
       whole = tails-false now zone (λ k. ap (λ (ts : List Bool). get_or ts k false) some.tails ∙ can.whole k);
     }
 
+-- a Finish of a zone that has to be finished, also one that halts, keeps the drive mountable
 pub finish-if-keeps : (first now new : DriveState) (before survey : Survey) (n zone : ℕ) → IsUntorn first n before → FinishesSome first now before survey n zone → zone < length survey.zones.items
     → MayChange (λ a b. Finishes a b zone × IsTested now.geometry.capacity (batch_most now.geometry) survey zone true) now new → KeepsMountable n first new
 finish-if-keeps first now new before survey n zone can some lt change =
@@ -219,6 +223,7 @@ goes-on first now before survey n zone can some lt tested partly =
     let few = most-few no_heads (batch_most now.geometry) (log_at (drive_logs first) zone) (not-below (batch_most now.geometry) heads.most neither.1) in
     (omega (arith, room, part.blocks), rw some.logs few)
 
+-- one zone more is done once it was tested, and finished if that was due
 pub finishes-more : (first now new : DriveState) (before survey after : Survey) (n zone : ℕ) → IsUntorn first n before → FinishesSome first now before survey n zone → zone < length survey.zones.items → KeepsMountable n first new
     → FinishesIf now new survey after zone → FinishesSome first new before after n (zone + 1)
 finishes-more first now new before survey after n zone can some lt keeps (inl is) = rw (is.1, is.2) (record {
@@ -301,7 +306,8 @@ finishes-more first now new before survey after n zone can some lt keeps (inr is
 
 -- ---- all of them
 
-pub finish-knows : (first now : DriveState) (before survey : Survey) (n zone : ℕ) → IsUntorn first n before → FinishesSome first now before survey n zone → Knows now n (drive_logs now) survey
+-- the survey knows the drive while zones are finished
+finish-knows : (first now : DriveState) (before survey : Survey) (n zone : ℕ) → IsUntorn first n before → FinishesSome first now before survey n zone → Knows now n (drive_logs now) survey
 finish-knows first now before survey n zone can some =
     let was = can.known in
     let logs = some.logs in
@@ -318,6 +324,7 @@ finish-knows first now before survey n zone can some =
       tails = rw (some.scanned, some.tails) was.tails;
     }
 
+-- once all zones are done, the drive is repaired
 pub finish-repaired : (first now : DriveState) (before survey : Survey) (n zone : ℕ) → IsUntorn first n before → FinishesSome first now before survey n zone → length survey.zones.items ≤ zone → IsRepaired now n survey
 finish-repaired first now before survey n zone can some all = record {
   known = finish-knows first now before survey n zone can some;
@@ -337,6 +344,7 @@ finish-repaired first now before survey n zone can some all = record {
 
 -- ---- the test of one zone
 
+-- a test of the report and headers of a zone is the test of the surveyed zone
 pub tested-is : (survey : Survey) (zone capacity capacity' most most' : ℕ) (r : ReportedZone) (z : ScannedZone) (b : Bool) → zone < length survey.zones.items → length survey.scanned.items ≡ length survey.zones.items → capacity ≡ capacity' → most ≡ most'
     → r ≡ get_or survey.zones.items zone r → z ≡ get_or survey.scanned.items zone z → b ≡ is_to_finish capacity most r z.heads → IsTested capacity' most' survey zone b
 tested-is survey zone capacity capacity' most most' r z b lt long same same' r-is z-is test r' heads there there' =
@@ -347,6 +355,7 @@ tested-is survey zone capacity capacity' most most' r z b lt long same same' r-i
     let second : z.heads ≡ heads = sym three ∙ two in
     rw (← same, ← same', ← first, ← second) (sym test)
 
+-- a fact that holds may be added to what a Finish changes
 pub may-finish : (old new : DriveState) (zone : ℕ) (P : Type 0) → P → MayChange (λ a b. Finishes a b zone) old new → MayChange (λ a b. Finishes a b zone × P) old new
 may-finish old new zone P p change = record {
   geometry = change.geometry;

@@ -18,9 +18,11 @@ use Rattle.remount.specs.Resets.{MayChange}
 
 -- ---- one command after the other
 
+-- an unchanged lawful drive stays mountable with its array
 pub keeps-mountable-none : (n : ℕ) (drive : DriveState) → IsLawful drive → KeepsMountable n drive drive
 keeps-mountable-none n drive lawful = record { geometry = refl; lawful = lawful; refused = refl; mountable = λ is. is; array = λ is. refl }
 
+-- two steps that each keep a drive mountable, with its array, keep it so together
 pub keeps-mountable-both : (n : ℕ) (a b c : DriveState) → KeepsMountable n a b → KeepsMountable n b c → KeepsMountable n a c
 keeps-mountable-both n a b c p q = record {
   geometry = q.geometry ∙ p.geometry;
@@ -49,6 +51,7 @@ reset-mounts : (n : ℕ) (old new : DriveState) (zone : ℕ) → IsVacant (drive
 reset-mounts n old new zone (inl vacant) resets is = vacant_resets old.geometry (contents old.zones) (contents new.zones) n zone is.holds vacant resets
 reset-mounts n old new zone (inr lowest) resets is = lowest_resets old.geometry (contents old.zones) (contents new.zones) n zone is.holds lowest resets
 
+-- taking away the log of a vacant zone leaves all logs unchanged
 pub without-vacant : (logs : List (List Batch)) (zone : ℕ) → IsVacant logs zone → without logs zone ≡ logs
 without-vacant logs zone vacant = rw vacant at (set-get_or logs zone [])
 
@@ -56,6 +59,7 @@ spare-array : (block_bytes n : ℕ) (logs : List (List Batch)) (zone : ℕ) → 
 spare-array block_bytes n logs zone (inl vacant) = ap (array_of block_bytes n) (without-vacant logs zone vacant)
 spare-array block_bytes n logs zone (inr lowest) = lowest.half_clean.spare
 
+-- a Reset of a vacant zone, or of the lowest half clean one, keeps the drive mountable
 pub reset-keeps : (n : ℕ) (old new : DriveState) (zone : ℕ) → IsVacant (drive_logs old) zone ⊎ IsLowest old.geometry.block n (drive_logs old) zone → MayChange (λ a b. Resets a b zone) old new → KeepsMountable n old new
 reset-keeps n old new zone may change = record {
   geometry = change.geometry;
@@ -85,6 +89,7 @@ finish-array n old new zone geometry can finishes is =
     let kept = finish_logs old.geometry (contents old.zones) (contents new.zones) zone can.small has can.writable can.whole finishes in
     logs-array n old new geometry (ap (array_of old.geometry.block n) kept.logs)
 
+-- a Finish of a writable zone without a torn tail keeps the drive mountable
 pub finish-keeps : (n : ℕ) (old new : DriveState) (zone : ℕ) (Changes : List Content → List Content → Type 0) → ((a b : List Content) → Changes a b → Finishes a b zone × CanFinishZone old zone) → MayChange Changes old new → KeepsMountable n old new
 finish-keeps n old new zone Changes can change = record {
   geometry = change.geometry;

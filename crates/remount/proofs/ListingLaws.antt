@@ -30,9 +30,11 @@ ListsSoFar zone view old now before i =
     → AreEndsInOrder before (drop i view.heads)
     × (all_listed views now ++ kept_batches zone before (drop i view.heads) (drop before view.entries) ≡ all_listed views old ++ kept_of_zone zone view)
 
+-- at the start no batch of a zone is listed, and all are left
 pub lists-none : (zone : ℕ) (view : HeadsView) (old : List ListedBatch) → ListsSoFar zone view old old 0 0
 lists-none zone view old views is order = (order, refl)
 
+-- once the next batch of a zone is listed, one batch fewer is left
 pub lists-more : (zone : ℕ) (view : HeadsView) (items : List Head) (first old new : List ListedBatch) (before before' i i' : ℕ) (head d : Head) (batch : ListedBatch) → items ≡ view.heads → i < length items → head ≡ get_or items i d
     → i' ≡ suc i → before' ≡ head.end → batch ≡ record { head = head; zone = zone; before = before } → new ≡ old ++ batch ∷ [] → ListsSoFar zone view first old before i → ListsSoFar zone view first new before' i'
 lists-more zone view items first old new before before' i i' head d batch same lt is more end batch_is pushed so_far views at order = rw (more, end) (split.1, whole)
@@ -64,6 +66,7 @@ lists-more zone view items first old new before before' i i' head d batch same l
     whole : all_listed views new ++ rest ≡ all_listed views first ++ kept_of_zone zone view
     whole = ap (λ (rs : List KeptRecord). rs ++ rest) all ∙ append_assoc (all_listed views old) own rest ∙ onward
 
+-- once all batches of a zone are listed, its records follow the records listed before
 pub lists-zone : (zone : ℕ) (view : HeadsView) (first now : List ListedBatch) (before i : ℕ) → length view.heads ≤ i → ListsSoFar zone view first now before i
     → (views : List HeadsView) → heads_at views zone ≡ view → AreEndsInOrder 0 view.heads → all_listed views now ≡ all_listed views first ++ kept_of_zone zone view
 lists-zone zone view first now before i end so_far views at order =
@@ -91,9 +94,11 @@ order-found (z ∷ zs) (suc zone) found is order = order-found zs zone found is 
 abbrev pub ListsZones : List HeadsView → List ListedBatch → ℕ → Type 0
 ListsZones views batches zone = AreInOrder views → all_listed views batches ++ kept_records zone (drop zone views) ≡ kept_records 0 views
 
+-- an empty list has the batches of the zones before the first one
 pub zones-none : (views : List HeadsView) (batches : List ListedBatch) → batches ≡ [] → ListsZones views batches 0
 zones-none views batches none order = rw none refl
 
+-- once the batches of a zone are added, the zones before the next one are listed
 pub zones-more : (scanned : List ScannedZone) (zone zone' : ℕ) (found : ScannedZone) (old new : List ListedBatch) → zone < length scanned → found ≡ get_or scanned zone found → zone' ≡ suc zone
     → ((views : List HeadsView) → heads_at views zone ≡ found.heads → AreEndsInOrder 0 found.heads.heads → all_listed views new ≡ all_listed views old ++ kept_of_zone zone found.heads)
     → ListsZones (heads_in scanned) old zone → ListsZones (heads_in scanned) new zone'
@@ -104,6 +109,7 @@ zones-more scanned zone zone' found old new lt here more listed so_far order =
     let was = rw (drop-found scanned zone found is) at (so_far order) in
     rw more (ap (λ (rs : List KeptRecord). rs ++ kept_records (suc zone) (drop (suc zone) views)) all ∙ append_assoc (all_listed views old) (kept_of_zone zone found.heads) (kept_records (suc zone) (drop (suc zone) views)) ∙ was)
 
+-- past the last zone the records of all zones are listed
 pub zones-all : (scanned : List ScannedZone) (batches : List ListedBatch) (zone : ℕ) → length scanned ≤ zone → ListsZones (heads_in scanned) batches zone → ListsAll (heads_in scanned) batches
 zones-all scanned batches zone end so_far order =
     let views = heads_in scanned in

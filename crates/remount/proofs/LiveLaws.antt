@@ -39,7 +39,7 @@ abbrev none_reported : ReportedZone
 none_reported = record { state = states.Empty; blocks = 0 }
 
 -- a log takes no more than its zone's capacity
-pub drive-few : (drive : DriveState) (n : ℕ) (logs : List (List Batch)) (survey : Survey) (zone : ℕ) → Knows drive n logs survey → zone < length drive.zones → log_size (log_at (drive_logs drive) zone) ≤ drive.geometry.capacity
+drive-few : (drive : DriveState) (n : ℕ) (logs : List (List Batch)) (survey : Survey) (zone : ℕ) → Knows drive n logs survey → zone < length drive.zones → log_size (log_at (drive_logs drive) zone) ≤ drive.geometry.capacity
 unfolding zone_log
 drive-few drive n logs survey zone known lt =
     let g = drive.geometry in
@@ -142,10 +142,12 @@ total-told : (f : Place → ℕ) (size zone : ℕ) (g : ℕ → Place) (q : ℕ 
 total-told f size zone g q [] same = refl
 total-told f size zone g q (x ∷ xs) same = omega (arith, same x, total-told f size zone g q xs same, sum_by-cons (λ (y : ℕ). cond {A = ℕ} (q y) 1 0) x xs)
 
+-- how many live records a zone has, and how many with data, counted by places
 pub record CountsLive (drive : DriveState) (n : ℕ) (logs : List (List Batch)) (zone : ℕ) : Type 0 where
   pub count : total (λ b. 1) (blocks_in drive.geometry.size zone 0 (map_of drive.geometry.size n logs)) ≡ live_records (encoded_size n logs) logs zone
   pub with_data : total (λ b. data_blocks (get_or (map_of drive.geometry.size n logs) b places.None)) (blocks_in drive.geometry.size zone 0 (map_of drive.geometry.size n logs)) ≡ live_data (encoded_size n logs) logs zone
 
+-- the map of a known drive counts a zone's live records, and the ones with data
 pub counts-live : (drive : DriveState) (n : ℕ) (logs : List (List Batch)) (survey : Survey) (zone : ℕ) → Knows drive n logs survey → CountsLive drive n logs zone
 counts-live drive n logs survey zone known =
     let size = drive.geometry.size in
@@ -163,9 +165,11 @@ counts-live drive n logs survey zone known =
 
 -- ---- a block's place
 
+-- in the map a block below the size has the place of its newest record
 pub place-at : (size n block : ℕ) (logs : List (List Batch)) → block < encoded_size n logs → get_or (map_of size n logs) block places.None ≡ place size (newest block (records 0 logs))
 place-at size n block logs lt = get_or-map-range_with_len (λ (l : ℕ). place size (newest l (records 0 logs))) 0 (encoded_size n logs) block block places.None lt (omega arith)
 
+-- the map has a place for each block below the size
 pub map-length : (size n : ℕ) (logs : List (List Batch)) → length (map_of size n logs) ≡ encoded_size n logs
 map-length size n logs = omega (arith, length-map (range_with_len 0 (encoded_size n logs)) (λ block. place size (newest block (records 0 logs))), length-range_with_len 0 (encoded_size n logs))
 
@@ -184,6 +188,7 @@ lies-there drive n logs survey zone block known is =
     let size = drive.geometry.size in
     lies-kept size zone (newest block rs) (newest-within size block rs (newest block rs) (known-below drive n logs survey known) (newest-is block rs)) ∙ lies-any zone (newest block rs) is
 
+-- the newest record of a block is in the zone where its place is
 pub there-lies : (drive : DriveState) (n : ℕ) (logs : List (List Batch)) (survey : Survey) (zone block : ℕ) → Knows drive n logs survey → lies_in drive.geometry.size zone (place drive.geometry.size (newest block (records 0 logs))) ≡ true → LiesIn zone (newest block (records 0 logs))
 there-lies drive n logs survey zone block known is =
     let rs = records 0 logs in
@@ -214,6 +219,7 @@ is-said drive zone r is stands = at r.content refl
           block = rw (e, is) (omega arith, omega (arith, there.0));
         }
 
+-- the newest record of a block says what is read at its place
 pub newest-said : (drive : DriveState) (n : ℕ) (survey : Survey) (zone block : ℕ) (r : Record) → Knows drive n (drive_logs drive) survey → newest block (records 0 (drive_logs drive)) ≡ Some r → r.zone ≡ zone → IsSaid drive zone r
 newest-said drive n survey zone block r known e is =
     let rs = records 0 (drive_logs drive) in

@@ -26,6 +26,7 @@ use Rattle.remount.proofs.MovePlanLaws.{all-named, few-named, heads-more, move-r
 
 -- ---- what building it needs
 
+-- what building the Move with a number needs
 pub record CanBuild (n : ℕ) (start now : DriveState) (tables : TablesView) (plan : MovePlan) (k : ℕ) : Type 0 where
   pub known : IsKnown now plan.torn plan.reported
   pub most : 1 ≤ plan.most
@@ -33,6 +34,7 @@ pub record CanBuild (n : ℕ) (start now : DriveState) (tables : TablesView) (pl
   pub places : AllByRecursion (IsReadableAt tables (plan.torn * now.geometry.size) plan.reported.blocks) (named_by plan k)
   pub heading : IsHeading now.geometry.block (move_by (source_of now tables plan.torn) plan k).heading
 
+-- a Move that is still to be made can be built
 pub can-build : (n : ℕ) (start now : DriveState) (tables : TablesView) (plan : MovePlan) (k : ℕ) (heads : HeadsView) → IsAtMove n start now tables plan k heads → k < move_count plan → CanBuild n start now tables plan k
 can-build n start now tables plan k heads a lt =
     let m = a.moving in
@@ -47,6 +49,7 @@ can-build n start now tables plan k heads a lt =
 
 -- ---- it is built
 
+-- a Move is built, and the drive can take it
 pub record MoveReady (n : ℕ) (start now : DriveState) (tables : TablesView) (plan : MovePlan) (k : ℕ) (heads : HeadsView) (builder : BuilderView) : Type 0 where
   pub at : IsAtMove n start now tables plan k heads
   pub is : built now.geometry.block builder ≡ move_by (source_of start tables plan.torn) plan k
@@ -54,6 +57,7 @@ pub record MoveReady (n : ℕ) (start now : DriveState) (tables : TablesView) (p
   pub large : 512 ≤ now.geometry.block
   pub can : CanTake now plan.into builder
 
+-- once a Move is built, the drive can take it
 pub move-ready : (n : ℕ) (start old now : DriveState) (tables : TablesView) (plan : MovePlan) (k : ℕ) (heads : HeadsView) (builder : BuilderView) → IsAtMove n start old tables plan k heads → k < move_count plan → KeepsZones old now
     → IsBuiltAs old.geometry.block (move_by (source_of old tables plan.torn) plan k) builder → MoveReady n start now tables plan k heads builder
 move-ready n start old now tables plan k heads builder a lt kept b =
@@ -94,14 +98,17 @@ blocks-before source plan (suc k) =
     let b = move_by source plan k in
     omega (arith, blocks-before source plan k, ap (λ (h : HeadsView). h.blocks) (heads-more (moves_before source plan k) b), log_size-append (moves_before source plan k) b)
 
+-- k Moves take at least k blocks
 pub count-before : (source : Source) (plan : MovePlan) (k : ℕ) → k ≤ log_size (moves_before source plan k)
 count-before source plan zero = omega arith
 count-before source plan (suc k) = omega (arith, count-before source plan k, log_size-append (moves_before source plan k) (move_by source plan k))
 
+-- with this batch the counts of entries and blocks stay below 2 ^ 32
 pub record CanPush (heads : HeadsView) (builder : BuilderView) : Type 0 where
   pub few : length heads.entries + length builder.heading.entries < 2 ^ 32
   pub short : heads.blocks + 1 + data_count builder.heading.entries < 2 ^ 32
 
+-- the header of a Move that is ready can be added to the headers before it
 pub can-push : (n : ℕ) (start now : DriveState) (tables : TablesView) (plan : MovePlan) (k : ℕ) (heads : HeadsView) (builder : BuilderView) → MoveReady n start now tables plan k heads builder → k < move_count plan → CanPush heads builder
 can-push n start now tables plan k heads builder r lt =
     let source = source_of start tables plan.torn in
@@ -117,13 +124,16 @@ can-push n start now tables plan k heads builder r lt =
       short = omega (arith, blocks-before source plan k, room, range.capacity, range.size);
     })
 
+-- a batch is built whole, with a heading that its header block can hold
 pub record PushReady (block : ℕ) (builder : BuilderView) : Type 0 where
   pub large : 512 ≤ block
   pub heading : IsHeading block builder.heading
   pub whole : IsBuilt block builder
 
+-- a batch that the drive can take is built as adding its header needs
 pub push-ready : (now : DriveState) (zone : ℕ) (builder : BuilderView) (block : ℕ) → block ≡ now.geometry.block → 512 ≤ now.geometry.block → CanTake now zone builder → PushReady block builder
 push-ready now zone builder block is large can = rw is (record { large = large; heading = can.heading; whole = can.whole })
 
+-- a Move has room for at least one record
 pub at-most : (n : ℕ) (start now : DriveState) (tables : TablesView) (plan : MovePlan) (k : ℕ) (heads : HeadsView) → IsAtMove n start now tables plan k heads → 1 ≤ plan.most
 at-most n start now tables plan k heads a = omega (arith, a.can.most, positive-most start.geometry a.moving.range)

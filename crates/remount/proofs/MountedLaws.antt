@@ -262,6 +262,7 @@ agrees-with drive n next survey map host second knows repaired below few_sequenc
       open_zones = all-partly (TellsOpen drive.zones) survey.zones.items (length drive.zones) host second (λ from f found. partly-opens drive survey.zones.items from (length drive.zones) f knows.zones found) first after;
     }
 
+-- the tables that a mount makes of a repaired drive agree with it
 pub mounted-agrees : (drive : DriveState) (geometry : Geometry) (n next : ℕ) (survey : Survey) (tables : TablesView) (roles : RolesView) → drive.geometry ≡ geometry → Knows drive n (drive_logs drive) survey → IsRepaired drive n survey
     → AllByRecursion (λ sequence. sequence < next) (sequences (drive_logs drive)) → next ≤ 2 ^ 63 → IsPlaced geometry n (drive_logs drive) tables → MountsRoles survey.zones.items geometry.zones roles
     → Agrees (mounted drive (tables_with tables.map roles next tables.given))
@@ -273,6 +274,7 @@ mounted-agrees drive geometry n next survey tables roles same knows repaired bel
     subst (λ (given : ℕ). Agrees (mounted drive (tables_with tables.map roles next given))) (sym here.given)
     (subst (λ (rs : RolesView). Agrees (mounted drive (tables_with tables.map rs next n))) (sym m.is) agrees)
 
+-- by its roles a repaired drive fills partly written zones with room, and has an empty one
 pub roles-mounted : (drive : DriveState) (geometry : Geometry) (n : ℕ) (survey : Survey) (roles : RolesView) → drive.geometry ≡ geometry → Knows drive n (drive_logs drive) survey → IsRepaired drive n survey
     → MountsRoles survey.zones.items geometry.zones roles → AreMountedRoles geometry.capacity (contents drive.zones) roles
 roles-mounted drive geometry n survey roles same knows repaired mounts =

@@ -21,6 +21,7 @@ use Rattle.drive_array.proofs.AllLaws.{count-cons}
 
 -- ---- states
 
+-- a zone that was reported partly written is active and has a block
 pub partly-active : (r : ReportedZone) → is_partly_reported r ≡ true → (is_active_usage (usage_of r.state) ≡ true) × (r.blocks ≢ 0)
 partly-active r partly =
     let parts = and_parts (is_active_usage (usage_of r.state)) (not (eqb r.blocks 0)) partly in
@@ -35,6 +36,7 @@ active-not_empty states.ReadOnly e = refl
 active-not_empty states.Full e = refl
 active-not_empty states.Offline e = refl
 
+-- a state that tests as Empty is Empty
 pub state-empty : (s : ZoneState) → is_state s states.Empty ≡ true → s ≡ states.Empty
 state-empty states.Empty e = refl
 state-empty states.ImplicitlyOpened e = absurd (cc)
@@ -44,6 +46,7 @@ state-empty states.ReadOnly e = absurd (cc)
 state-empty states.Full e = absurd (cc)
 state-empty states.Offline e = absurd (cc)
 
+-- a state whose usage is empty is Empty
 pub usage-empty : (s : ZoneState) → usage_of s ≡ empty → s ≡ states.Empty
 usage-empty states.Empty e = refl
 usage-empty states.ImplicitlyOpened e = absurd (cc)
@@ -55,13 +58,16 @@ usage-empty states.Offline e = absurd (cc)
 
 -- ---- the zones that were reported Empty
 
+-- a zone is marked as empty just where it was reported Empty
 pub empties-at : (reported : List ReportedZone) (zones zone : ℕ) (r : ReportedZone) → zone < zones → slice_get reported zone ≡ Some r → get_or (empties reported zones) zone false ≡ is_state r.state states.Empty
 empties-at reported zones zone r lt there =
     get_or-map-range_with_len (λ z. is_empty_reported (slice_get reported z)) 0 zones zone zone false lt (omega arith) ∙ ap is_empty_reported there
 
+-- there is a mark for each zone
 pub length-empties : (reported : List ReportedZone) (zones : ℕ) → length (empties reported zones) ≡ zones
 length-empties reported zones = length-map-range_with_len (λ z. is_empty_reported (slice_get reported z)) 0 zones
 
+-- a zone that is marked as empty is one of the zones
 pub empties-past : (reported : List ReportedZone) (zones zone : ℕ) → get_or (empties reported zones) zone false ≡ true → zone < zones
 empties-past reported zones zone is = by (cases_lt zone zones)
   where
@@ -85,6 +91,7 @@ all-partly P reported zones None (Some n) holds first second = absurd (cc)
 all-partly P reported zones (Some h) None holds first second = (holds 0 h first, tt)
 all-partly P reported zones (Some h) (Some n) holds first second = (holds 0 h first, (holds (h.zone + 1) n second, tt))
 
+-- the zones that are being filled differ, and none of them is marked as empty
 pub apart-mounted : (reported : List ReportedZone) (zones : ℕ) (host next : Option Filling) → FindsPartly reported 0 zones host → FindsNext reported zones host next → AreApart (mounted_as (empties reported zones) host next)
 apart-mounted reported zones None None first second = record { occupied = tt; differ = tt }
 apart-mounted reported zones None (Some n) first second = absurd (cc)
@@ -94,6 +101,7 @@ apart-mounted reported zones (Some h) (Some n) first second = record {
   differ = λ same. omega (arith, same, second.after);
 }
 
+-- a next zone comes only with a host zone, and has the greater number
 pub order-mounted : (reported : List ReportedZone) (zones : ℕ) (host next : Option Filling) → FindsPartly reported 0 zones host → FindsNext reported zones host next → AreInOrder host (option_map Next next)
 order-mounted reported zones None None first second = tt
 order-mounted reported zones None (Some n) first second = absurd (cc)
@@ -108,6 +116,7 @@ count-here p x xs is = let one : cond {A = ℕ} (p x) 1 0 ≡ 1 = rw is refl in 
 count-more : {X : Type 0} (p : X → Bool) (x : X) (xs : List X) → count_by p xs ≤ count_by p (x ∷ xs)
 count-more p x xs = omega (arith, count-cons p x xs)
 
+-- a list with an element that passes a test counts at least one
 pub count-one : {X : Type 0} (p : X → Bool) (xs : List X) (d : X) (i : ℕ) → i < length xs → p (get_or xs i d) ≡ true → 1 ≤ count_by p xs
 count-one p [] d i lt is = absurd (omega (arith, lt))
 count-one p (x ∷ xs) d zero lt is = omega (arith, count-here p x xs is)
@@ -119,6 +128,7 @@ count-two p (x ∷ xs) d i zero lt within is also = absurd (omega (arith, lt))
 count-two p (x ∷ xs) d zero (suc j) lt within is also = omega (arith, count-here p x xs is, count-one p xs d j (omega (arith, within)) also)
 count-two p (x ∷ xs) d (suc i) (suc j) lt within is also = omega (arith, count-more p x xs, count-two p xs d i j (omega (arith, lt)) (omega (arith, within)) is also)
 
+-- a list with three elements that pass a test counts at least three
 pub count-three : {X : Type 0} (p : X → Bool) (xs : List X) (d : X) (i j k : ℕ) → i < j → j < k → k < length xs → p (get_or xs i d) ≡ true → p (get_or xs j d) ≡ true → p (get_or xs k d) ≡ true → 3 ≤ count_by p xs
 count-three p [] d i j k lt after within is also last = absurd (omega (arith, within))
 count-three p (x ∷ xs) d i j zero lt after within is also last = absurd (omega (arith, after))
@@ -128,7 +138,7 @@ count-three p (x ∷ xs) d (suc i) (suc j) (suc k) lt after within is also last 
 
 -- ---- no other zone is partly written
 
--- three zones are not
+-- no three zones are all reported partly written
 abbrev pub AreFew : List ReportedZone → ℕ → Type 0
 AreFew reported zones = (i j k : ℕ) → i < j → j < k → k < zones → is_partly_at reported i ≡ true → is_partly_at reported j ≡ true → is_partly_at reported k ≡ true → ⊥
 
@@ -146,6 +156,7 @@ or-true : (b : Bool) → (b || true) ≡ true
 or-true true = refl
 or-true false = refl
 
+-- if at most two zones were reported partly written, each of them is being filled
 pub partly-filling : (reported : List ReportedZone) (zones zone : ℕ) (host next : Option Filling) → AreFew reported zones → FindsPartly reported 0 zones host → FindsNext reported zones host next → zone < zones → is_partly_at reported zone ≡ true
     → is_filling_at (mounted_as (empties reported zones) host next) zone ≡ true
 partly-filling reported zones zone None next few first second lt is = let no = first zone (omega arith) lt in absurd (cc)

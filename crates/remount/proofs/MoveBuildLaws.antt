@@ -27,16 +27,19 @@ use Rattle.drive_survey.specs.Reported.{IsKnown, KeepsZones}
 use Rattle.drive_survey.specs.Scan.{readable_at}
 use Rattle.drive_survey.proofs.ReadLaws.{kept-blocks, keeps-both, keeps-none}
 
+-- all blocks have this size
 abbrev pub AreWhole : ℕ → List (List ℕ) → Type 0
 AreWhole size blocks = AllByRecursion (λ block. length block ≡ size) blocks
 
 -- ---- the header of what was built
 
+-- these bytes are the header block, with which the built bytes begin
 pub record BeginsAs (block_bytes : ℕ) (builder : BuilderView) (front : List ℕ) : Type 0 where
   pub long : length front ≡ block_bytes
   pub is : front ≡ header_block block_bytes builder.heading
   pub enough : block_bytes ≤ length builder.bytes
 
+-- the bytes of a built batch begin with its header block
 pub begins-as : (block_bytes : ℕ) (builder : BuilderView) → 512 ≤ block_bytes → IsHeading block_bytes builder.heading → IsBuilt block_bytes builder → BeginsAs block_bytes builder (take block_bytes builder.bytes)
 begins-as block_bytes builder large says is =
     let header = header_block block_bytes builder.heading in
@@ -48,9 +51,11 @@ begins-as block_bytes builder large says is =
       enough = omega (arith, ap length is.header, length-append header (drop block_bytes builder.bytes), one);
     }
 
+-- the block with which a built batch begins is a header block of its heading
 pub header-block : (block_bytes : ℕ) (builder : BuilderView) (front : List ℕ) → IsHeading block_bytes builder.heading → BeginsAs block_bytes builder front → IsHeaderBlock (length front) front builder.heading
 header-block block_bytes builder front says b = rw b.long (record { says = says; spelled = b.is })
 
+-- the heading that is read from a built batch is its own
 pub read-again : (block_bytes : ℕ) (builder : BuilderView) (front : List ℕ) (heading : Heading) → block_bytes < 2 ^ 32 → IsHeading block_bytes builder.heading → BeginsAs block_bytes builder front → heading ≡ heading_in front → heading ≡ builder.heading
 read-again block_bytes builder front heading small says b is = is ∙ ap heading_in b.is ∙ header_again block_bytes builder.heading small says
 
@@ -67,6 +72,7 @@ length-concat : (size : ℕ) (blocks : List (List ℕ)) → AreWhole size blocks
 length-concat size [] whole = omega arith
 length-concat size (b ∷ bs) whole = omega (arith, length-append b (concat bs), whole.0, length-concat size bs whole.1, add-mul 1 (length bs) size)
 
+-- a Move has as many data blocks as its entries need
 pub length-moved : (source : Source) (blocks : List ℕ) → length (moved_data source blocks) ≡ data_count (moved_entries source.places blocks)
 length-moved source [] = refl
 length-moved source (block ∷ blocks) = one (slice_index_or source.places block places.None) (length-moved source blocks)
@@ -81,7 +87,7 @@ abbrev batch_with : Heading → List (List ℕ) → Batch
 batch_with heading body = record { heading = heading; body = body }
 
 -- the bytes of a header and of whole blocks are the batch's
-pub built-as : (block : ℕ) (builder : BuilderView) (batch : Batch) → 512 ≤ block → IsHeading block batch.heading → builder.heading ≡ batch.heading → builder.bytes ≡ header_block block batch.heading ++ concat batch.body → AreWhole block batch.body
+built-as : (block : ℕ) (builder : BuilderView) (batch : Batch) → 512 ≤ block → IsHeading block batch.heading → builder.heading ≡ batch.heading → builder.bytes ≡ header_block block batch.heading ++ concat batch.body → AreWhole block batch.body
     → length batch.body ≡ data_count batch.heading.entries → IsBuiltAs block batch builder
 built-as block builder batch large says heading bytes whole count =
     let header = header_block block batch.heading in
@@ -107,10 +113,12 @@ pub record Copying (start now : DriveState) (tables : TablesView) (zone : ℕ) (
   pub whole : AreWhole start.geometry.block (moved_data (source_of start tables zone) rest) → AreWhole start.geometry.block (moved_data (source_of start tables zone) blocks)
   pub places : AllByRecursion (IsReadableAt tables (zone * start.geometry.size) reported.blocks) rest
 
+-- before the first record is copied, all are left
 pub copying-none : (start : DriveState) (tables : TablesView) (zone : ℕ) (reported : ReportedZone) (builder : BuilderView) (blocks : List ℕ) → IsKnown start zone reported → AllByRecursion (IsReadableAt tables (zone * start.geometry.size) reported.blocks) blocks
     → Copying start start tables zone reported builder builder blocks blocks
 copying-none start tables zone reported builder blocks known places = record { kept = keeps-none start known.lawful; heading = refl; bytes = refl; whole = λ w. w; places = places }
 
+-- once the data of a record is added, one record fewer is left to copy
 pub copying-more : (start now next : DriveState) (tables : TablesView) (zone : ℕ) (reported : ReportedZone) (old middle new : BuilderView) (blocks rest : List ℕ) (i block : ℕ) → drop i blocks ≡ block ∷ rest → Copying start now tables zone reported old middle blocks (drop i blocks) → KeepsZones now next
     → new.heading ≡ middle.heading → new.bytes ≡ middle.bytes ++ concat (blocks_listed (said_at (readable_at now zone) (zone * now.geometry.size) (slice_index_or tables.map.places block places.None)))
     → AreWhole now.geometry.block (blocks_listed (said_at (readable_at now zone) (zone * now.geometry.size) (slice_index_or tables.map.places block places.None))) → Copying start next tables zone reported old new blocks rest
@@ -130,17 +138,6 @@ copying-more start now next tables zone reported old middle new blocks rest i bl
       places = places.1;
     }
 
-pub record Copied (start now : DriveState) (tables : TablesView) (zone : ℕ) (old new : BuilderView) (blocks : List ℕ) : Type 0 where
-  pub bytes : new.bytes ≡ old.bytes ++ concat (moved_data (source_of start tables zone) blocks)
-  pub whole : AreWhole start.geometry.block (moved_data (source_of start tables zone) blocks)
-
-pub copying-all : (start now : DriveState) (tables : TablesView) (zone : ℕ) (reported : ReportedZone) (old new : BuilderView) (blocks : List ℕ) (i : ℕ) → length blocks ≤ i → Copying start now tables zone reported old new blocks (drop i blocks) → Copied start now tables zone old new blocks
-copying-all start now tables zone reported old new blocks i past was =
-    let none = drop_all i blocks past in
-    let bytes = rw none at was.bytes in
-    let whole : AreWhole start.geometry.block [] → AreWhole start.geometry.block (moved_data (source_of start tables zone) blocks) = rw none at was.whole in
-    record { bytes = sym (append-nil new.bytes) ∙ bytes; whole = whole tt }
-
 -- the next of some blocks
 pub turn : {X : Type 0} (xs : List X) (i : ℕ) (x d : X) → i < length xs → x ≡ get_or xs i d → drop i xs ≡ x ∷ drop (i + 1) xs
 turn xs i x d lt is = drop_more xs i d lt ∙ ap (λ y. y ∷ drop (i + 1) xs) (sym is)
@@ -156,6 +153,7 @@ no-data blocks start (places.At address) other = absurd (other address refl)
 abbrev heading_by : ℕ → ℕ → Option ℕ → List Entry → Heading
 heading_by sequence torn size entries = record { kind = Move; sequence = sequence; source = torn; size = size; entries = entries }
 
+-- a Move that was begun, named, encoded and copied is built
 pub build-done : (start : DriveState) (tables : TablesView) (plan : MovePlan) (k block sequence : ℕ) (size : Option ℕ) (blocks : List ℕ) (begun named encoded copied : BuilderView) → IsInRange start.geometry → IsHeading start.geometry.block (move_by (source_of start tables plan.torn) plan k).heading
     → block ≡ start.geometry.block → blocks ≡ named_by plan k → size ≡ size_by plan k → sequence ≡ plan.next + k
     → begun.heading ≡ record { kind = Move; sequence = sequence; source = plan.torn; size = size; entries = [] }

@@ -26,11 +26,13 @@ use Rattle.remount.proofs.MoveBuildLaws.{length-moved}
 
 -- ---- lists
 
+-- what holds of all elements of a list holds of its first ones
 pub all-take : {X : Type 0} (P : X → Type 0) (n : ℕ) (xs : List X) → AllByRecursion P xs → AllByRecursion P (take n xs)
 all-take P zero xs all = tt
 all-take P (suc n) [] all = tt
 all-take P (suc n) (x ∷ xs) all = (all.0, all-take P n xs all.1)
 
+-- what holds of all elements of a list holds of its last ones
 pub all-drop : {X : Type 0} (P : X → Type 0) (n : ℕ) (xs : List X) → AllByRecursion P xs → AllByRecursion P (drop n xs)
 all-drop P zero xs all = all
 all-drop P (suc n) [] all = tt
@@ -60,9 +62,11 @@ all-put P (l ∷ ls) (suc i) log all own =
 named-all : (P : ℕ → Type 0) (plan : MovePlan) (k : ℕ) → AllByRecursion P plan.blocks.items → AllByRecursion P (named_by plan k)
 named-all P plan k all = all-take P plan.most (drop (k * plan.most) plan.blocks.items) (all-drop P (k * plan.most) plan.blocks.items all)
 
+-- what holds of all blocks of a plan holds of the blocks that a Move names
 pub all-named : (P : ℕ → Type 0) (plan : MovePlan) (k : ℕ) → AllByRecursion P plan.blocks.items → AllByRecursion P (named_by plan k)
 all-named P plan k all = named-all P plan k all
 
+-- a Move names at most as many blocks as its plan allows
 pub few-named : (plan : MovePlan) (k : ℕ) → length (named_by plan k) ≤ plan.most
 few-named plan k = omega (arith, length-take plan.most (drop (k * plan.most) plan.blocks.items))
 
@@ -71,6 +75,7 @@ entry-block b places.None = refl
 entry-block b (places.Trimmed address) = refl
 entry-block b (places.At address) = refl
 
+-- the entries of a Move name its blocks, in their order
 pub blocks-moved : (all : List Place) (blocks : List ℕ) → map (λ (e : Entry). e.block) (moved_entries all blocks) ≡ blocks
 blocks-moved all [] = refl
 blocks-moved all (b ∷ bs) = rw (entry-block b (slice_index_or all b places.None), blocks-moved all bs) refl
@@ -85,10 +90,12 @@ larger-same : (x : Option ℕ) → larger x x ≡ x
 larger-same None = refl
 larger-same (Some a) = ap Some (omega arith)
 
+-- a size that equals another one, or is none, is not above it
 pub within-by : (x most : Option ℕ) → (x ≡ most) ⊎ (x ≡ None) → IsWithin x most
 within-by x most (inl same) = rw same (larger-same most)
 within-by x most (inr none) = rw none refl
 
+-- a planned Move says the greatest size of the torn zone, or none
 pub size-either : (geometry : Geometry) (n : ℕ) (logs : List (List Batch)) (source : Source) (plan : MovePlan) (k : ℕ) → CanRepairBy geometry n logs source plan → (size_by plan k ≡ log_greatest (log_at logs plan.torn)) ⊎ (size_by plan k ≡ None)
 size-either geometry n logs source plan k can = at (eqb (k + 1) (move_count plan))
   where
@@ -140,6 +147,7 @@ largest-size block (b ∷ bs) all = both b.heading.size (log_greatest bs) all.0.
     both (Some a) None h i = h
     both (Some a) (Some c) h i = (omega (arith, h.0, i.0), omega (arith, h.1, i.1))
 
+-- the heading of each planned Move fits in a header block
 pub move-heading : (geometry : Geometry) (n k : ℕ) (logs : List (List Batch)) (source : Source) (plan : MovePlan) → IsInRange geometry → CanRepairBy geometry n logs source plan → k < move_count plan → plan.torn < geometry.zones → encoded_size n logs ≤ 2 ^ 31
     → AllByRecursion (IsBatch geometry.block) (log_at logs plan.torn) → IsHeading geometry.block (move_by source plan k).heading
 move-heading geometry n k logs source plan range can lt torn few batches = record {
@@ -156,6 +164,7 @@ move-heading geometry n k logs source plan range can lt torn few batches = recor
     sized x (inl same) = rw same (largest-size geometry.block (log_at logs plan.torn) batches)
     sized x (inr none) = rw none tt
 
+-- a Move whose heading fits in a header block is a batch
 pub move-batch : (block k : ℕ) (source : Source) (plan : MovePlan) → IsHeading block (move_by source plan k).heading → IsBatch block (move_by source plan k)
 move-batch block k source plan says = record { heading = says; body = length-moved source (named_by plan k) }
 
@@ -167,6 +176,7 @@ sequences-before source plan (suc k) limit le =
     rw (map-append (λ (b : Batch). b.heading.sequence) (moves_before source plan k) (move_by source plan k ∷ []))
     (all-append (λ s. s < limit) (log_sequences (moves_before source plan k)) ((plan.next + k) ∷ []) (sequences-before source plan k limit (omega (arith, le))) (omega (arith, le), tt))
 
+-- each planned Move is a Move of the repair, after the Moves before it
 pub repair-move : (geometry : Geometry) (n k : ℕ) (logs : List (List Batch)) (source : Source) (plan : MovePlan) → CanRepairBy geometry n logs source plan → k < move_count plan
     → IsRepairMove n logs plan.torn plan.into (moves_before source plan k) (move_by source plan k)
 repair-move geometry n k logs source plan can lt = record {
@@ -190,10 +200,12 @@ size-more source plan i (suc j) le = at (eqb i (suc j)) refl (size-more source p
         other : eqb i (suc j) ≡ false → i ≢ suc j
         other e same = let bad : eqb i (suc j) ≡ true = eq-eqb i (suc j) same in absurd (cc)
 
+-- a zone has room for each planned Move after the Moves before it
 pub move-room : (geometry : Geometry) (n k : ℕ) (logs : List (List Batch)) (source : Source) (plan : MovePlan) → CanRepairBy geometry n logs source plan → k < move_count plan
     → log_size (moves_before source plan k) + batch_size (move_by source plan k) ≤ geometry.capacity
 move-room geometry n k logs source plan can lt = omega (arith, can.room, size-more source plan (suc k) (move_count plan) lt, log_size-append (moves_before source plan k) (move_by source plan k))
 
+-- a planned Move takes no more blocks than one transfer
 pub move-few : (geometry : Geometry) (n k : ℕ) (logs : List (List Batch)) (source : Source) (plan : MovePlan) → IsInRange geometry → CanRepairBy geometry n logs source plan → batch_size (move_by source plan k) ≤ geometry.transfer
 move-few geometry n k logs source plan range can =
     omega (arith, data-few (moved_entries source.places (named_by plan k)), length-map (named_by plan k) (λ b. placed_entry b (slice_index_or source.places b places.None)), few-named plan k, can.most, range.transfer)
@@ -204,9 +216,11 @@ after-more : (view : HeadsView) (log : List Batch) (b : Batch) → heads_after v
 after-more view [] b = refl
 after-more view (x ∷ xs) b = after-more (with_heading view x.heading) xs b
 
+-- the headers of a log with one batch more have one heading more
 pub heads-more : (log : List Batch) (b : Batch) → heads_of (log ++ b ∷ []) ≡ with_heading (heads_of log) b.heading
 heads-more log b = after-more no_heads log b
 
+-- what holds of the blocks in the entries of a Move holds of all its blocks
 pub named-blocks : (P : ℕ → Type 0) (all : List Place) (blocks : List ℕ) → AllByRecursion (λ (e : Entry). P e.block) (moved_entries all blocks) → AllByRecursion P blocks
 named-blocks P all [] each = tt
 named-blocks P all (b ∷ bs) each = (subst P (entry-block b (slice_index_or all b places.None)) each.0, named-blocks P all bs each.1)

@@ -54,15 +54,17 @@ mounts-by n start now torn into small repair needed geometry lawful refused =
       array = λ m. rw geometry keeps.array;
     }
 
+-- during a repair a block has fewer than 2 ^ 32 bytes
 pub moving-small : (n : ℕ) (start now : DriveState) (torn into : ℕ) (made : List Batch) → IsMoving n start now torn into made → start.geometry.block < 2 ^ 32
 moving-small n start now torn into made m = let small = m.lawful.geometry.block in omega (arith, small, ap (λ (g : Geometry). g.block) m.geometry)
 
+-- between two Moves a drive is mountable, with the array that it had at the start
 pub moving-mounts : (n : ℕ) (start now : DriveState) (torn into : ℕ) (made : List Batch) → IsMoving n start now torn into made → KeepsMountable n start now
 moving-mounts n start now torn into made m =
     mounts-by n start now torn into (moving-small n start now torn into made m) m.repair (λ tail half. let bad : false ≡ true = sym m.whole ∙ tail in absurd (cc)) m.geometry m.lawful m.refused
 
 -- if no zone is opened, and the contents stay
-pub moving-kept : (n : ℕ) (start now next : DriveState) (torn into : ℕ) (made : List Batch) → KeepsShut now next → IsMoving n start now torn into made → IsMoving n start next torn into made
+moving-kept : (n : ℕ) (start now next : DriveState) (torn into : ℕ) (made : List Batch) → KeepsShut now next → IsMoving n start now torn into made → IsMoving n start next torn into made
 moving-kept n start now next torn into made k m =
     let same = k.contents_are in
     record {
@@ -85,12 +87,15 @@ moving-kept n start now next torn into made k m =
 pub moving-other : (n : ℕ) (start now : DriveState) (torn into : ℕ) (made : List Batch) (zone : ℕ) → IsMoving n start now torn into made → zone ≢ into → content_at (contents now.zones) zone ≡ content_at (contents start.zones) zone
 moving-other n start now torn into made zone m ne = rw m.repair.zones (get_or-set_other (contents start.zones) into zone m.repair.made nothing ne)
 
-pub torn-apart : (n : ℕ) (start now : DriveState) (torn into : ℕ) (made : List Batch) → IsMoving n start now torn into made → torn ≢ into
+-- the torn zone is not the zone of the Moves
+torn-apart : (n : ℕ) (start now : DriveState) (torn into : ℕ) (made : List Batch) → IsMoving n start now torn into made → torn ≢ into
 torn-apart n start now torn into made m = λ same. m.repair.repairing.apart (sym same)
 
-pub into-in : (n : ℕ) (start now : DriveState) (torn into : ℕ) (made : List Batch) → IsMoving n start now torn into made → into < length now.zones
+-- the zone of the Moves is one of the zones
+into-in : (n : ℕ) (start now : DriveState) (torn into : ℕ) (made : List Batch) → IsMoving n start now torn into made → into < length now.zones
 into-in n start now torn into made m = omega (arith, into-below start.geometry n torn into (contents start.zones) (contents now.zones) m.repair, length-map start.zones content_of, m.count)
 
+-- what is known of the torn zone stays known between two Moves
 pub moving-known : (n : ℕ) (start now : DriveState) (torn into : ℕ) (made : List Batch) (reported : ReportedZone) → IsMoving n start now torn into made → IsKnown start torn reported → IsKnown now torn reported
 moving-known n start now torn into made reported m known =
     let ne = torn-apart n start now torn into made m in
@@ -105,6 +110,7 @@ moving-known n start now torn into made reported m known =
       shut = λ h. m.opens torn ne (known.shut h);
     }
 
+-- between two Moves the torn zone is read as at the start
 pub moving-source : (n : ℕ) (start now : DriveState) (torn into : ℕ) (made : List Batch) (tables : TablesView) → IsMoving n start now torn into made → source_of now tables torn ≡ source_of start tables torn
 moving-source n start now torn into made tables m = rw (m.geometry, moving-other n start now torn into made torn m (torn-apart n start now torn into made m)) refl
 
@@ -199,21 +205,20 @@ torn-batches n start now torn into made m = at (cases_lt torn (length (contents 
     at (inl lt) = rw (log_at-zone start.geometry (contents start.zones) torn) (all-at (HasLog start.geometry) (contents start.zones) torn nothing m.repair.mountable.disk.logs lt).front.batches
     at (inr past) = rw (get_or_past (drive_logs start) torn [] (omega (arith, past, length-map (contents start.zones) (zone_log start.geometry)))) tt
 
+-- the heading of the next Move fits in a header block
 pub at-heading : (n : ℕ) (start now : DriveState) (tables : TablesView) (plan : MovePlan) (k : ℕ) (heads : HeadsView) → IsAtMove n start now tables plan k heads → k < move_count plan → IsHeading start.geometry.block (move_by (source_of start tables plan.torn) plan k).heading
 at-heading n start now tables plan k heads a lt =
     let m = a.moving in
     move-heading start.geometry n k (drive_logs start) (source_of start tables plan.torn) plan m.range a.can lt (omega (arith, a.known.in_range, a.known.lawful.count)) (m.repair.mountable.disk.reserve.1)
     (torn-batches n start now plan.torn plan.into (moves_before (source_of start tables plan.torn) plan k) m)
 
+-- the drive can take the next Move by an Append
 pub at-can : (n : ℕ) (start now : DriveState) (tables : TablesView) (plan : MovePlan) (k : ℕ) (heads : HeadsView) → IsAtMove n start now tables plan k heads → k < move_count plan → CanAppend now (plan.into * now.geometry.size) (batch_size (move_by (source_of start tables plan.torn) plan k))
 at-can n start now tables plan k heads a lt =
     let source = source_of start tables plan.torn in
     moving-can n start now plan.torn plan.into (batch_size (move_by source plan k)) (moves_before source plan k) a.moving (omega arith) (move-few start.geometry n k (drive_logs start) source plan a.moving.range a.can) (move-room start.geometry n k (drive_logs start) source plan a.can lt)
 
 -- ---- the Move is made
-
-filled-blocks : (capacity : ℕ) (blocks : List (List ℕ)) → (filled capacity blocks).blocks ≡ blocks
-filled-blocks capacity blocks = refl
 
 filled-usage : (capacity size : ℕ) (blocks : List (List ℕ)) → length blocks ≡ size → 1 ≤ size → (filled capacity blocks).usage ≡ usage_with capacity size
 filled-usage capacity zero blocks is some = absurd (omega arith)
@@ -269,6 +274,7 @@ at-moved n start now next tables plan k heads a lt t =
     (whole-appends n start now next plan.torn plan.into made b m is t) in
     moved-more n start now next plan.torn plan.into made b m is t done
 
+-- once the next Move and its header are added, one Move more is made
 pub at-next : (n : ℕ) (start now next : DriveState) (tables : TablesView) (plan : MovePlan) (k : ℕ) (heads more : HeadsView) → IsAtMove n start now tables plan k heads → k < move_count plan → TakesFirst now next plan.into (move_by (source_of start tables plan.torn) plan k) (batch_size (move_by (source_of start tables plan.torn) plan k))
     → more ≡ with_heading heads (move_by (source_of start tables plan.torn) plan k).heading → IsAtMove n start next tables plan (k + 1) more
 at-next n start now next tables plan k heads more a lt t more-is =
@@ -282,6 +288,7 @@ at-next n start now next tables plan k heads more a lt t more-is =
       heads_are = more-is ∙ ap (λ (h : HeadsView). with_heading h (move_by source plan k).heading) a.heads_are ∙ sym (heads-more (moves_before source plan k) (move_by source plan k));
     })
 
+-- as many Moves are made as before if contents stay and no zone is opened
 pub at-kept : (n : ℕ) (start now next : DriveState) (tables : TablesView) (plan : MovePlan) (k : ℕ) (heads : HeadsView) → KeepsShut now next → IsAtMove n start now tables plan k heads → IsAtMove n start next tables plan k heads
 at-kept n start now next tables plan k heads kept a = record {
   can = a.can;
@@ -304,6 +311,7 @@ torn-half n start now next tables plan k heads a lt tears half =
     let logs : zone_logs g (contents next.zones) ≡ set (zone_logs g (contents start.zones)) plan.into moves = logs-now g n plan.torn plan.into (contents start.zones) (contents next.zones) repair ∙ ap (set (zone_logs g (contents start.zones)) plan.into) made in
     needed_stays g.block n plan.torn plan.into (zone_logs g (contents start.zones)) moves (rw made at repair.repairing) (a.can.needed k lt) (rw logs at half)
 
+-- a stop inside the next Move leaves a drive that is mountable with its array
 pub at-stop : (n : ℕ) (start now next : DriveState) (tables : TablesView) (plan : MovePlan) (k : ℕ) (heads : HeadsView) → IsAtMove n start now tables plan k heads → k < move_count plan → TakesSome now next plan.into (move_by (source_of start tables plan.torn) plan k) → KeepsMountable n start next
 at-stop n start now next tables plan k heads a lt some = by some
   where

@@ -28,6 +28,7 @@ use Rattle.remount.proofs.CallLaws.{get-set, other-known}
 
 -- ---- logs, tails and headers
 
+-- an emptied zone has no torn tail
 pub untorn-emptied : has_torn_tail emptied ≡ false
 unfolding has_torn_tail
 untorn-emptied = refl
@@ -36,9 +37,11 @@ after-blocks : (view : HeadsView) (log : List Batch) → (heads_after view log).
 after-blocks view [] = omega arith
 after-blocks view (b ∷ bs) = omega (arith, after-blocks (with_heading view b.heading) bs)
 
+-- the headers of a log count the blocks that its batches take
 pub heads-blocks : (log : List Batch) → (heads_of log).blocks ≡ log_size log
 heads-blocks log = omega (arith, after-blocks no_heads log)
 
+-- after the repair the torn zone has no batch, and the zone of the Moves has them
 pub logs-emptied : (n : ℕ) (start new : DriveState) (plan : MovePlan) (made : List Batch) → EmptiesTorn n start new plan made → drive_logs new ≡ set (set (drive_logs start) plan.into made) plan.torn []
 logs-emptied n start new plan made e =
     let g = start.geometry in
@@ -48,6 +51,7 @@ logs-emptied n start new plan made e =
     ∙ ap (λ (log : List Batch). set (set (drive_logs start) plan.into log) plan.torn (zone_log g emptied)) e.log
     ∙ ap (λ (log : List Batch). set (set (drive_logs start) plan.into made) plan.torn log) (emptied-nothing g))
 
+-- after the repair both its zones have no torn tail, and all other tails stay
 pub tails-emptied : (n : ℕ) (start new : DriveState) (plan : MovePlan) (made : List Batch) → EmptiesTorn n start new plan made → zone_tails (contents new.zones) ≡ set (set (zone_tails (contents start.zones)) plan.into false) plan.torn false
 tails-emptied n start new plan made e =
     rw e.zones
@@ -95,15 +99,18 @@ there-torn : (n : ℕ) (start new : DriveState) (plan : MovePlan) (made : List B
 there-torn n start new plan made e lt =
     rw e.zones (get_or-set_same (set (contents start.zones) plan.into e.there) plan.torn emptied nothing (omega (arith, lt, new-count n start new plan made e, length-set (contents start.zones) plan.into e.there, length-map start.zones content_of)))
 
+-- after the repair the zone of the Moves has the content that they make
 pub there-into : (n : ℕ) (start new : DriveState) (plan : MovePlan) (made : List Batch) → (e : EmptiesTorn n start new plan made) → plan.into < length new.zones → content_at (contents new.zones) plan.into ≡ e.there
 there-into n start new plan made e lt =
     rw e.zones (get_or-set_other (set (contents start.zones) plan.into e.there) plan.torn plan.into emptied nothing e.apart
     ∙ get_or-set_same (contents start.zones) plan.into e.there nothing (omega (arith, lt, new-count n start new plan made e, length-map start.zones content_of)))
 
+-- after the repair each other zone holds what it held
 pub there-other : (n : ℕ) (start new : DriveState) (plan : MovePlan) (made : List Batch) (zone : ℕ) → EmptiesTorn n start new plan made → zone ≢ plan.torn → zone ≢ plan.into → content_at (contents new.zones) zone ≡ content_at (contents start.zones) zone
 there-other n start new plan made zone e ne other =
     rw e.zones (get_or-set_other (set (contents start.zones) plan.into e.there) plan.torn zone emptied nothing ne ∙ get_or-set_other (contents start.zones) plan.into zone e.there nothing other)
 
+-- the report of an Empty zone
 abbrev pub empty_report : ReportedZone
 empty_report = record { state = states.Empty; blocks = 0 }
 
@@ -157,6 +164,7 @@ each-known n start new plan made heads written before after e heads-are noted kn
     by (inl here) = subst (IsKnown new zone) (sym here.1) (torn-known here.0)
     by (inr rest) = inner rest.0 (get-set before plan.into zone written r rest.1)
 
+-- a survey in which the repair is noted knows the repaired drive
 pub noted-knows : (n : ℕ) (start new : DriveState) (plan : MovePlan) (made : List Batch) (heads : HeadsView) (written : ReportedZone) (before after : Survey) → EmptiesTorn n start new plan made → heads ≡ heads_of made → IsNoted start.geometry.capacity heads written → Knows start n (drive_logs start) before
     → after.zones.items ≡ set (set before.zones.items plan.into written) plan.torn empty_report → after.scanned.items ≡ set (set before.scanned.items plan.into (record { heads = heads; is_torn = false })) plan.torn (record { heads = no_heads; is_torn = false })
     → after.size ≡ before.size → after.given ≡ before.given → Knows new n (drive_logs new) after
@@ -187,6 +195,7 @@ noted-knows n start new plan made heads written before after e heads-are noted k
       tails = spelled_tails ∙ sym (tails-emptied n start new plan made e);
     }
 
+-- with the repair noted, each vacant zone is still reported Empty
 pub noted-vacant : (n : ℕ) (start new : DriveState) (plan : MovePlan) (made : List Batch) (written : ReportedZone) (before after : List ReportedZone) → EmptiesTorn n start new plan made → AreVacantEmpty before (drive_logs start) → length before ≡ length start.zones → after ≡ set (set before plan.into written) plan.torn empty_report → AreVacantEmpty after (drive_logs new)
 noted-vacant n start new plan made written before after e vacant count is zone r there none =
     by (get-set (set before plan.into written) plan.torn zone empty_report r (rw is at there))

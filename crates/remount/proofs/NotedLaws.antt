@@ -26,18 +26,20 @@ use Rattle.remount.proofs.SetAllLaws.{get-set_all}
 -- ---- lists of reports
 
 -- a zone is noted as it is now
-pub noted-set : (xs : List ReportedZone) (i : ℕ) (v : ReportedZone) (zone : ℕ) → IsNotedOpen (set xs i v) zone → IsNotedOpen xs zone ⊎ ((zone ≡ i) × (is_open v.state ≡ true))
+noted-set : (xs : List ReportedZone) (i : ℕ) (v : ReportedZone) (zone : ℕ) → IsNotedOpen (set xs i v) zone → IsNotedOpen xs zone ⊎ ((zone ≡ i) × (is_open v.state ≡ true))
 noted-set xs i v zone noted = elim (get-set xs i zone v noted.0 noted.1) as (λ _. IsNotedOpen xs zone ⊎ ((zone ≡ i) × (is_open v.state ≡ true))) [
   | inl here ↦ inr (here.0, ap (λ (r : ReportedZone). is_open r.state) (sym here.1) ∙ noted.2)
   | inr there ↦ inl (noted.0, there.1, noted.2)
 ]
 
-pub set-notes : (xs ys : List ReportedZone) (i : ℕ) (v : ReportedZone) → is_open v.state ≡ false → ys ≡ set xs i v → NotesNoneOpen xs ys
+-- noting a zone that is not open adds no zone noted as open
+set-notes : (xs ys : List ReportedZone) (i : ℕ) (v : ReportedZone) → is_open v.state ≡ false → ys ≡ set xs i v → NotesNoneOpen xs ys
 set-notes xs ys i v shut is zone noted = elim (noted-set xs i v zone (rw is at noted)) as (λ _. IsNotedOpen xs zone) [
   | inl was ↦ was
   | inr here ↦ absurd (let h = here.1 in cc)
 ]
 
+-- noting zones as Empty adds no zone noted as open
 pub all-notes : (xs ys : List ReportedZone) (zones : List ℕ) → ys ≡ set_all xs zones reported_empty → NotesNoneOpen xs ys
 all-notes xs ys zones is zone noted = elim (get-set_all xs zones reported_empty noted.0 zone (rw is at noted.1)) as (λ _. IsNotedOpen xs zone) [
   | inl here ↦ absurd (let e : is_open noted.0.state ≡ false = ap (λ (r : ReportedZone). is_open r.state) here in let f = noted.2 in cc)
@@ -46,13 +48,16 @@ all-notes xs ys zones is zone noted = elim (get-set_all xs zones reported_empty 
 
 -- ---- the steps of a mount
 
+-- a Finish adds no zone noted as open
 pub finish-notes : (old new : DriveState) (before after : Survey) (zone : ℕ) → FinishesOne old new before after zone → NotesNoneOpen before.zones.items after.zones.items
 finish-notes old new before after zone one = set-notes before.zones.items after.zones.items zone (reported_full old.geometry.capacity) refl one.reported
 
+-- a Finish where it is due adds no zone noted as open
 pub finish_if-notes : (old new : DriveState) (before after : Survey) (zone : ℕ) → FinishesIf old new before after zone → NotesNoneOpen before.zones.items after.zones.items
 finish_if-notes old new before after zone (inl is) = λ q noted. rw is.2 at noted
 finish_if-notes old new before after zone (inr is) = finish-notes old new before after zone is.1
 
+-- noting a repair adds at most the zone of the Moves to the zones noted as open
 pub repair-notes : (xs ys : List ReportedZone) (into torn : ℕ) (written none : ReportedZone) → is_open none.state ≡ false → ys ≡ set (set xs into written) torn none → (zone : ℕ) → IsNotedOpen ys zone → IsNotedOpen xs zone ⊎ (zone ≡ into)
 repair-notes xs ys into torn written none shut is zone noted =
     elim (noted-set xs into written zone (set-notes (set xs into written) ys torn none shut is zone noted)) as (λ _. IsNotedOpen xs zone ⊎ (zone ≡ into)) [
@@ -60,6 +65,7 @@ repair-notes xs ys into torn written none shut is zone noted =
       | inr here ↦ inr here.0
     ]
 
+-- a zone that a repair newly notes as open was vacant, and has a batch now
 pub filled-notes : (old new : DriveState) (before middle after : List ReportedZone) (into other : ℕ) → NotesNoneOpen before middle → ((zone : ℕ) → IsNotedOpen after zone → IsNotedOpen middle zone ⊎ (zone ≡ other)) → into ≡ other
     → IsVacant (drive_logs old) into → log_at (drive_logs new) into ≢ [] → NotesFilledOpen old new before after
 filled-notes old new before middle after into other first then same vacant some zone noted =
@@ -68,6 +74,7 @@ filled-notes old new before middle after into other first then same vacant some 
       | inr here ↦ inr (rw (here, ← same) (vacant, some))
     ]
 
+-- a zone that carrying out a plan newly notes as open took the Moves
 pub carried-notes : (old middle third new : DriveState) (resets : List ℕ) (a b c d : List ReportedZone) → drive_logs middle ≡ cleared (drive_logs old) resets → drive_logs new ≡ drive_logs third
     → NotesNoneOpen a b → NotesFilledOpen middle third b c → NotesNoneOpen c d → NotesOpenByNeed old resets new a d
 carried-notes old middle third new resets a b c d cleared_is logs one two three zone noted =
@@ -81,6 +88,7 @@ carried-notes old middle third new resets a b c d cleared_is logs one two three 
 
 -- ---- the tables
 
+-- a zone that is being filled, and may be open, was noted as open
 pub fillings-noted : (reported : List ReportedZone) (zones : ℕ) (roles : RolesView) → MountsRoles reported zones roles → AllByRecursion (λ (f : Filling). f.may_open ≡ true → IsNotedOpen reported f.zone) (fillings roles)
 fillings-noted reported zones roles m =
     subst (λ (rs : RolesView). AllByRecursion (λ (f : Filling). f.may_open ≡ true → IsNotedOpen reported f.zone) (fillings rs)) (sym m.is)
@@ -98,6 +106,7 @@ took-since old first new resets zone k took =
     let logs : drive_logs first ≡ drive_logs old = rw (k.geometry, kept-contents old first k) refl in
     (subst (λ (ls : List (List Batch)). IsVacant (cleared ls resets) zone) logs took.0, took.1)
 
+-- a zone that may be open after a mount was open before, or took the Moves
 pub open-mounted : (old first new : DriveState) (resets : List ℕ) (before begin after : List ReportedZone) (fs : List Filling) → KeepsZones old first → TellsShut old before → begin ≡ before → NotesOpenByNeed first resets new begin after
     → AllByRecursion (λ (f : Filling). f.may_open ≡ true → IsNotedOpen after f.zone) fs → AllByRecursion (WasOpenOrTook old resets new) fs
 open-mounted old first new resets before begin after [] k tells same notes all = tt

@@ -18,9 +18,11 @@ use Rattle.drive_survey.proofs.MovedLaws.{source-stays}
 
 -- ---- the headers of one zone
 
+-- each zone of a known drive was scanned
 pub scanned-in : (drive : DriveState) (n : ℕ) (logs : List (List Batch)) (survey : Survey) (zone : ℕ) → Knows drive n logs survey → zone < length drive.zones → zone < length survey.scanned.items
 scanned-in drive n logs survey zone known lt = omega (arith, lt, known.count, ap length known.heads, length-map survey.scanned.items (λ (z : ScannedZone). z.heads), length-map logs heads_of)
 
+-- the headers that are found of a zone are the headers of its log
 pub found-heads : (scanned : List ScannedZone) (logs : List (List Batch)) (zone : ℕ) (found : ScannedZone) → heads_in scanned ≡ map heads_of logs → zone < length scanned → found ≡ get_or scanned zone found → found.heads ≡ heads_of (log_at logs zone)
 found-heads scanned logs zone found are lt is =
     let view : get_or (heads_in scanned) zone found.heads ≡ found.heads = get_or-map (λ (z : ScannedZone). z.heads) scanned zone found ∙ ap (λ (z : ScannedZone). z.heads) (sym is) in

@@ -17,16 +17,19 @@ use Rattle.remount.proofs.MovePlanLaws.{all-take}
 
 -- ---- elements
 
+-- a number is an element of a list
 abbrev pub In : ℕ → List ℕ → Type 0
 In b [] = ⊥
 In b (x ∷ xs) = (x ≡ b) ⊎ In b xs
 
+-- a list contains each number that is an element of it
 pub in-contains : (b : ℕ) (xs : List ℕ) → In b xs → Contains xs b
 in-contains b [] is = absurd is
 in-contains b (x ∷ xs) (inl same) = (0, omega arith, same)
 in-contains b (x ∷ xs) (inr more) = let rest = in-contains b xs more in (suc rest.0, omega (arith, rest.1), rest.2)
 
-pub all-in : (P : ℕ → Type 0) (b : ℕ) (xs : List ℕ) → AllByRecursion P xs → In b xs → P b
+-- what holds of all elements holds of each
+all-in : (P : ℕ → Type 0) (b : ℕ) (xs : List ℕ) → AllByRecursion P xs → In b xs → P b
 all-in P b [] all is = absurd is
 all-in P b (x ∷ xs) all (inl same) = subst P same all.0
 all-in P b (x ∷ xs) all (inr more) = all-in P b xs all.1 more
@@ -42,7 +45,8 @@ in-behind b (x ∷ xs) ys is = inr (in-behind b xs ys is)
 
 -- ---- all but one, and that one last
 
-pub others-all : (P : ℕ → Type 0) (last : ℕ) (xs : List ℕ) → AllByRecursion P xs → AllByRecursion P (others last xs)
+-- what holds of all elements holds of all except for one
+others-all : (P : ℕ → Type 0) (last : ℕ) (xs : List ℕ) → AllByRecursion P xs → AllByRecursion P (others last xs)
 others-all P last [] all = tt
 others-all P last (x ∷ xs) all = by (eqb x last) (others-all P last xs all.1)
   where
@@ -50,7 +54,8 @@ others-all P last (x ∷ xs) all = by (eqb x last) (others-all P last xs all.1)
     by true rest = rest
     by false rest = (all.0, rest)
 
-pub others-not : (last : ℕ) (xs : List ℕ) → AllByRecursion (λ x. x ≢ last) (others last xs)
+-- the number that is left out is none of the others
+others-not : (last : ℕ) (xs : List ℕ) → AllByRecursion (λ x. x ≢ last) (others last xs)
 others-not last [] = tt
 others-not last (x ∷ xs) = by (cases_eq x last) (others-not last xs)
   where
@@ -86,6 +91,7 @@ abbrev pub total : (ℕ → ℕ) → List ℕ → ℕ
 total f [] = 0
 total f (x ∷ xs) = f x + total f xs
 
+-- the sum over two lists in a row is the sum over the first and the second
 pub total-append : (f : ℕ → ℕ) (xs ys : List ℕ) → total f (xs ++ ys) ≡ total f xs + total f ys
 total-append f [] ys = omega arith
 total-append f (x ∷ xs) ys = omega (arith, total-append f xs ys)
@@ -119,6 +125,7 @@ abbrev pub IsLastIn : List ℕ → Finding → Type 0
 IsLastIn blocks (NeedsBlock last) = In last blocks
 IsLastIn blocks why = Unit {0}
 
+-- a list in another order: it has all elements, each once, and the same sums
 pub record IsOrder (blocks order : List ℕ) : Type 0 where
   pub has : (b : ℕ) → In b blocks → In b order
   pub distinct : IsDistinct nat_eq order
@@ -137,22 +144,26 @@ last-order blocks last d is = record {
 same-order : (blocks : List ℕ) → IsDistinct nat_eq blocks → IsOrder blocks blocks
 same-order blocks d = record { has = λ b there. there; distinct = d; totals = λ f. refl }
 
+-- moving the block that is needed to the end gives another order of the blocks
 pub is-order : (blocks : List ℕ) (why : Finding) → IsDistinct nat_eq blocks → IsLastIn blocks why → IsOrder blocks (ordered blocks why)
 is-order blocks (NeedsBlock last) d is = last-order blocks last d is
 is-order blocks HalfClean d is = same-order blocks d
 is-order blocks NotMoves d is = same-order blocks d
 is-order blocks NeedsSize d is = same-order blocks d
 
+-- what holds of all blocks holds of them in the order of the Moves
 pub order-all : (P : ℕ → Type 0) (blocks : List ℕ) (why : Finding) → IsLastIn blocks why → AllByRecursion P blocks → AllByRecursion P (ordered blocks why)
 order-all P blocks (NeedsBlock last) is all = all-append P (others last blocks) (last ∷ []) (others-all P last blocks all) (all-in P last blocks all is, tt)
 order-all P blocks HalfClean is all = all
 order-all P blocks NotMoves is all = all
 order-all P blocks NeedsSize is all = all
 
+-- the length of a list is the sum of ones over it
 pub length-total : (xs : List ℕ) → length xs ≡ total (λ x. 1) xs
 length-total [] = refl
 length-total (x ∷ xs) = omega (arith, length-total xs)
 
+-- a list in another order has the same length
 pub order-length : (blocks order : List ℕ) → IsOrder blocks order → length order ≡ length blocks
 order-length blocks order is = length-total order ∙ is.totals (λ x. 1) ∙ sym (length-total blocks)
 
@@ -170,12 +181,14 @@ front-few most (suc k) count some has lt = elim (cases_lt (suc k * most) count) 
 
 -- ---- the blocks that are in a zone
 
+-- a block has a place in this list, and the place is in the zone
 pub record LiesAt (size zone first : ℕ) (all : List Place) (b : ℕ) : Type 0 where
   pub k : ℕ
   pub is : b ≡ first + k
   pub in_range : k < length all
   pub lies : lies_in size zone (get_or all k places.None) ≡ true
 
+-- each block that is found in a zone has its place there
 pub blocks-lie : (size zone first : ℕ) (all : List Place) → AllByRecursion (LiesAt size zone first all) (blocks_in size zone first all)
 blocks-lie size zone first [] = tt
 blocks-lie size zone first (p ∷ ps) = by (lies_in size zone p) refl (all-weaker (LiesAt size zone (first + 1) ps) (LiesAt size zone first (p ∷ ps)) (blocks_in size zone (first + 1) ps) more (blocks-lie size zone (first + 1) ps))
@@ -188,6 +201,7 @@ blocks-lie size zone first (p ∷ ps) = by (lies_in size zone p) refl (all-weake
     by true here rest = (record { k = 0; is = omega arith; in_range = omega arith; lies = here }, rest)
     by false here rest = rest
 
+-- no block is found in a zone twice
 pub blocks-distinct : (size zone first : ℕ) (all : List Place) → IsDistinct nat_eq (blocks_in size zone first all)
 unfolding IsDistinct
 blocks-distinct size zone first [] = tt
@@ -198,6 +212,7 @@ blocks-distinct size zone first (p ∷ ps) = by (lies_in size zone p) (all-weake
     by true apart rest = (apart, rest)
     by false apart rest = rest
 
+-- a block whose place is in the zone is found there
 pub lying-in : (size zone first k b : ℕ) (all : List Place) → b ≡ first + k → k < length all → lies_in size zone (get_or all k places.None) ≡ true → In b (blocks_in size zone first all)
 lying-in size zone first k b [] is lt lies = absurd (omega arith)
 lying-in size zone first zero b (p ∷ ps) is lt lies = rw lies (inl (omega (arith, is)))

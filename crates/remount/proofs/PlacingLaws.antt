@@ -28,7 +28,7 @@ use Rattle.remount.proofs.ListingLaws.{in-any-order, of-batch-number, of-one}
 -- ---- what is said of places
 
 -- the same records in another order
-pub placed-same : (zone_size : ℕ) (xs ys : List KeptRecord) (table : List Place) → ((r : KeptRecord) → Contains xs r → Contains ys r) → ((r : KeptRecord) → Contains ys r → Contains xs r) → PlacesNewest zone_size xs table → PlacesNewest zone_size ys table
+placed-same : (zone_size : ℕ) (xs ys : List KeptRecord) (table : List Place) → ((r : KeptRecord) → Contains xs r → Contains ys r) → ((r : KeptRecord) → Contains ys r → Contains xs r) → PlacesNewest zone_size xs table → PlacesNewest zone_size ys table
 placed-same zone_size xs ys table more back placed block lt = elim (placed block lt) as (λ _. IsPlaceOf zone_size ys block (get_or table block places.None)) [
   | inl none ↦ inl (none.0, λ r c same. none.1 r (back r c) same)
   | inr found ↦ inr (found.0, record { among = more found.0 found.1.among; block_is = found.1.block_is; newest = λ s c same. found.1.newest s (back s c) same }, found.2)
@@ -132,6 +132,7 @@ pub record PlacedSoFar (zone_size sequence : ℕ) (first now : List Place) (rest
   pub numbers : (r : KeptRecord) → Contains done r → r.sequence ≡ sequence
   pub places : (all : List KeptRecord) → PlacesNewest zone_size all first → NoneIsOlder all sequence → PlacesNewest zone_size (all ++ done) now
 
+-- before the first record of a batch is placed, all are left
 pub so-far-none : (zone_size sequence : ℕ) (first : List Place) (whole : List KeptRecord) → PlacedSoFar zone_size sequence first first whole whole
 so-far-none zone_size sequence first whole = record { done = []; split = refl; numbers = λ r c. absurd (omega (arith, c.1)); places = λ all placed older. rw (append-nil all) placed }
 
@@ -161,12 +162,14 @@ entry-placed zone_size sequence zone header k k' i i' entries first old new whol
     let so_far' : PlacedSoFar zone_size sequence first old (entry_record sequence zone header k e ∷ kept_entries sequence zone header (k + one_unless (is_kept_trim e)) (drop (suc i) entries)) whole = rw (drop-cons entries i 0 lt) at so_far in
     rw (next, count) (so-far-more zone_size sequence first old new (entry_record sequence zone header k e) (kept_entries sequence zone header (k + one_unless (is_kept_trim e)) (drop (suc i) entries)) whole refl step so_far')
 
+-- once no record of a batch is left, all of them are placed
 pub so-far-all : (zone_size sequence : ℕ) (first now : List Place) (whole : List KeptRecord) → PlacedSoFar zone_size sequence first now [] whole
     → (all : List KeptRecord) → PlacesNewest zone_size all first → NoneIsOlder all sequence → PlacesNewest zone_size (all ++ whole) now
 so-far-all zone_size sequence first now whole so_far all placed older =
     let same : so_far.done ≡ whole = sym (append-nil so_far.done) ∙ so_far.split in
     rw (← same) (so_far.places all placed older)
 
+-- two steps that change only places change only places together
 pub both-kept : (first old new : TablesView) → SameButPlaces first old → SameButPlaces old new → SameButPlaces first new
 both-kept first old new k l = record { size = l.size ∙ k.size; zones = l.zones ∙ k.zones; zone_size = l.zone_size ∙ k.zone_size; given = l.given ∙ k.given }
 
@@ -178,6 +181,7 @@ pub record BatchesPlaced (zone_size : ℕ) (views : List HeadsView) (first now :
   pub split : left ++ done ≡ whole
   pub places : PlacesNewest zone_size [] first → PlacesNewest zone_size (all_listed views done) now
 
+-- before the first batch is placed, all are left
 pub batches-none : (zone_size : ℕ) (views : List HeadsView) (first : List Place) (whole : List ListedBatch) → BatchesPlaced zone_size views first first whole whole
 batches-none zone_size views first whole = record { done = []; split = append-nil whole; places = λ placed. placed }
 
@@ -200,6 +204,7 @@ last-oldest left done batch d sorted c =
     c-is (y ∷ ys) x e (zero, lt, is) = is
     c-is (y ∷ ys) x e (suc n, lt, is) = c-is ys x e (n, omega (arith, lt), is)
 
+-- once the last batch that is left is placed, one batch fewer is left
 pub batches-more : (zone_size : ℕ) (views : List HeadsView) (first old new : List Place) (before left whole : List ListedBatch) (batch : ListedBatch) → IsNonDecreasingBy (λ (b : ListedBatch). b.head.sequence) whole → before ≡ left ++ batch ∷ []
     → ((all : List KeptRecord) → PlacesNewest zone_size all old → NoneIsOlder all batch.head.sequence → PlacesNewest zone_size (all ++ records_listed views batch) new)
     → BatchesPlaced zone_size views first old before whole → BatchesPlaced zone_size views first new left whole
@@ -226,6 +231,7 @@ batches-more zone_size views first old new before left whole batch sorted popped
       | inr d ↦ Contains-append_left ys xs r d
     ]
 
+-- once no batch is left, the records of all are placed
 pub batches-all : (zone_size : ℕ) (views : List HeadsView) (first now : List Place) (left whole : List ListedBatch) → left ≡ [] → BatchesPlaced zone_size views first now left whole → PlacesNewest zone_size [] first → PlacesNewest zone_size (all_listed views whole) now
 batches-all zone_size views first now left whole none so_far placed =
     let same : so_far.done ≡ whole = ap (λ (bs : List ListedBatch). bs ++ so_far.done) (sym none) ∙ so_far.split in

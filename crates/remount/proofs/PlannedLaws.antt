@@ -37,7 +37,7 @@ use Rattle.drive_survey.specs.declared.survey.Survey.{Survey}
 use Rattle.drive_survey.specs.Heads.{greatest_sequence}
 use Rattle.drive_survey.specs.Known.{Finds, Knows}
 use Rattle.remount.specs.TornRepair.{HoldsSize}
-use Rattle.remount.specs.Mount.{IsPlan}
+use Rattle.remount.specs.Mount.{IsRepairPlan}
 use Rattle.remount.specs.Moving.{IsBlockAt, IsMovable, IsMovePlan, IsReadableAt, Source, early_size, move_by, move_count, moved_entries, moves_before, named_by, ordered, others, placed_entry, said_at, size_by, source_of}
 use Rattle.drive_survey.specs.Reported.{IsKnown}
 use Rattle.drive_survey.specs.Scan.{readable_at}
@@ -131,7 +131,7 @@ early-said block_bytes n logs zone size early NeedsSize is finds other = absurd 
 pub record IsPlanned (drive : DriveState) (n : ℕ) (survey : Survey) (repair : Repair) (into : ℕ) (why : Finding) (plan : MovePlan) : Type 0 where
   pub survey_known : Knows drive n (drive_logs drive) survey
   pub cleared : NoneBelow drive.geometry.block n (drive_logs drive) (length drive.zones)
-  pub is : IsPlan drive.geometry n (drive_logs drive) (zone_tails (contents drive.zones)) repair
+  pub is : IsRepairPlan drive.geometry n (drive_logs drive) (zone_tails (contents drive.zones)) repair
   pub finds : Finds drive.geometry.block n (drive_logs drive) repair.zone why
   pub torn : plan.torn ≡ repair.zone
   pub into_is : plan.into ≡ into
@@ -142,13 +142,15 @@ pub record IsPlanned (drive : DriveState) (n : ℕ) (survey : Survey) (repair : 
   pub size : plan.size ≡ log_greatest (log_at (drive_logs drive) repair.zone)
   pub early : plan.early ≡ early_size plan.size why
 
-pub torn-in : (drive : DriveState) (n : ℕ) (survey : Survey) (repair : Repair) → Knows drive n (drive_logs drive) survey → IsPlan drive.geometry n (drive_logs drive) (zone_tails (contents drive.zones)) repair → repair.zone < length drive.zones
+-- the torn zone of a repair is one of the zones
+pub torn-in : (drive : DriveState) (n : ℕ) (survey : Survey) (repair : Repair) → Knows drive n (drive_logs drive) survey → IsRepairPlan drive.geometry n (drive_logs drive) (zone_tails (contents drive.zones)) repair → repair.zone < length drive.zones
 torn-in drive n survey repair known is = at (cases_lt repair.zone (length (drive_logs drive)))
   where
     at : (repair.zone < length (drive_logs drive)) ⊎ (length (drive_logs drive) ≤ repair.zone) → repair.zone < length drive.zones
     at (inl lt) = omega (arith, lt, known.count)
     at (inr past) = absurd (is.torn.torn.batch (get_or_past (drive_logs drive) repair.zone [] past))
 
+-- one more than the greatest sequence of a known drive fits in 64 bits
 pub greatest-fits : (drive : DriveState) (n : ℕ) (survey : Survey) (greatest : ℕ) → Knows drive n (drive_logs drive) survey → greatest ≡ greatest_sequence (sequences (drive_logs drive)) → greatest + 1 < 2 ^ 64
 greatest-fits drive n survey greatest known is =
     let below = greatest-all (2 ^ 63) 0 (sequences (drive_logs drive)) (omega arith) (all-weaker (λ s. s < 2 ^ 63) (λ s. s + 0 < 2 ^ 63) (sequences (drive_logs drive)) (λ s lt. omega (arith, lt)) known.sound.numbers) in
@@ -158,7 +160,7 @@ greatest-fits drive n survey greatest known is =
 abbrev IsLiveIn : DriveState → ℕ → ℕ → ℕ → Type 0
 IsLiveIn drive n zone b = (b < encoded_size n (drive_logs drive)) × LiesIn zone (newest b (records 0 (drive_logs drive)))
 
-blocks-live : (drive : DriveState) (n : ℕ) (survey : Survey) (repair : Repair) → Knows drive n (drive_logs drive) survey → IsPlan drive.geometry n (drive_logs drive) (zone_tails (contents drive.zones)) repair → AllByRecursion (IsLiveIn drive n repair.zone) repair.blocks.items
+blocks-live : (drive : DriveState) (n : ℕ) (survey : Survey) (repair : Repair) → Knows drive n (drive_logs drive) survey → IsRepairPlan drive.geometry n (drive_logs drive) (zone_tails (contents drive.zones)) repair → AllByRecursion (IsLiveIn drive n repair.zone) repair.blocks.items
 blocks-live drive n survey repair known is =
     let logs = drive_logs drive in
     let size = drive.geometry.size in
@@ -168,7 +170,7 @@ blocks-live drive n survey repair known is =
     let same : at.k ≡ b = omega (arith, at.is) in
     (lt, there-lies drive n logs survey repair.zone b known (sym (ap (λ (p : Place). lies_in size repair.zone p) (ap (λ (k : ℕ). get_or map_is k places.None) same ∙ place-at size n b logs lt)) ∙ at.lies))) (blocks-lie size repair.zone 0 map_is))
 
-live-block : (drive : DriveState) (n : ℕ) (survey : Survey) (repair : Repair) (b : ℕ) → Knows drive n (drive_logs drive) survey → IsPlan drive.geometry n (drive_logs drive) (zone_tails (contents drive.zones)) repair → IsLiveIn drive n repair.zone b → In b repair.blocks.items
+live-block : (drive : DriveState) (n : ℕ) (survey : Survey) (repair : Repair) (b : ℕ) → Knows drive n (drive_logs drive) survey → IsRepairPlan drive.geometry n (drive_logs drive) (zone_tails (contents drive.zones)) repair → IsLiveIn drive n repair.zone b → In b repair.blocks.items
 live-block drive n survey repair b known is live_records =
     let logs = drive_logs drive in
     let size = drive.geometry.size in
@@ -196,7 +198,7 @@ needed-lies drive n zone b lt needs = (needs.in_range, by (lies-or zone (newest 
     by (inl lies) = lies
     by (inr out) = absurd (needs.differs (ap (shown drive.geometry.block) (newest-without b zone (drive_logs drive) lt out)))
 
-last-in : (drive : DriveState) (n : ℕ) (survey : Survey) (repair : Repair) (why : Finding) → Knows drive n (drive_logs drive) survey → IsPlan drive.geometry n (drive_logs drive) (zone_tails (contents drive.zones)) repair → Finds drive.geometry.block n (drive_logs drive) repair.zone why → IsLastIn repair.blocks.items why
+last-in : (drive : DriveState) (n : ℕ) (survey : Survey) (repair : Repair) (why : Finding) → Knows drive n (drive_logs drive) survey → IsRepairPlan drive.geometry n (drive_logs drive) (zone_tails (contents drive.zones)) repair → Finds drive.geometry.block n (drive_logs drive) repair.zone why → IsLastIn repair.blocks.items why
 last-in drive n survey repair HalfClean known is finds = tt
 last-in drive n survey repair NotMoves known is finds = tt
 last-in drive n survey repair NeedsSize known is finds = tt
@@ -204,7 +206,7 @@ last-in drive n survey repair (NeedsBlock last) known is finds =
     let lt = torn-in drive n survey repair known is in
     live-block drive n survey repair last known is (needed-lies drive n repair.zone last (omega (arith, lt, known.count)) finds.1)
 
-live-movable : (drive : DriveState) (n : ℕ) (survey : Survey) (repair : Repair) (b : ℕ) → Knows drive n (drive_logs drive) survey → IsPlan drive.geometry n (drive_logs drive) (zone_tails (contents drive.zones)) repair → IsLiveIn drive n repair.zone b
+live-movable : (drive : DriveState) (n : ℕ) (survey : Survey) (repair : Repair) (b : ℕ) → Knows drive n (drive_logs drive) survey → IsRepairPlan drive.geometry n (drive_logs drive) (zone_tails (contents drive.zones)) repair → IsLiveIn drive n repair.zone b
     → IsMovable n (drive_logs drive) (source_of drive repair.tables repair.zone) repair.zone b
 live-movable drive n survey repair b known is live_records = at (newest b (records 0 (drive_logs drive))) refl live_records.1
   where
@@ -221,7 +223,7 @@ live-movable drive n survey repair b known is live_records = at (newest b (recor
           content = (newest-said drive n survey repair.zone b r known e lies).content ∙ ap (said_at (readable_at drive repair.zone) (repair.zone * size)) (sym there);
         }
 
-live-readable : (drive : DriveState) (n : ℕ) (survey : Survey) (repair : Repair) (count b : ℕ) → Knows drive n (drive_logs drive) survey → IsPlan drive.geometry n (drive_logs drive) (zone_tails (contents drive.zones)) repair → count ≡ length (readable_at drive repair.zone)
+live-readable : (drive : DriveState) (n : ℕ) (survey : Survey) (repair : Repair) (count b : ℕ) → Knows drive n (drive_logs drive) survey → IsRepairPlan drive.geometry n (drive_logs drive) (zone_tails (contents drive.zones)) repair → count ≡ length (readable_at drive repair.zone)
     → IsLiveIn drive n repair.zone b → IsReadableAt repair.tables (repair.zone * drive.geometry.size) count b
 live-readable drive n survey repair count b known is count-is live_records = at (newest b (records 0 (drive_logs drive))) refl live_records.1
   where
@@ -264,6 +266,7 @@ still-needed drive n survey repair into (NeedsBlock last) plan k source p order 
     let front = subst (λ (xs : List ℕ). AllByRecursion (λ x. x ≢ last) (take (k * plan.most) xs)) (sym p.blocks) (front-not repair.blocks.items last (k * plan.most) (omega (arith, few, long))) in
     inr (inl (last, p.finds.1, newest-none last (log_records plan.into 0 (moves_before source plan k)) (front-named (λ x. x ≢ last) source plan plan.into k front)))
 
+-- the Moves that were planned can repair the torn zone
 pub plan-made : (drive : DriveState) (n : ℕ) (survey : Survey) (repair : Repair) (into : ℕ) (why : Finding) (plan : MovePlan) → IsPlanned drive n survey repair into why plan → IsMovePlan drive n survey repair into plan
 plan-made drive n survey repair into why plan p =
     let g = drive.geometry in

@@ -123,7 +123,8 @@ repairs-fine drive n resets OutOfMemory can cannot = cannot
 clears-fine : (drive : DriveState) (n : ℕ) (fault : MountFault) → IsToMount drive n → CannotClear drive n fault → ⊥
 clears-fine drive n fault can cannot = repairs-fine drive n cannot.0 fault (can.mountable.holds.repair cannot.0 cannot.1) cannot.2
 
-pub not-refused : (drive : DriveState) (n : ℕ) (fault : MountFault) → IsToMount drive n → MountFails drive n fault → ⊥
+-- a drive that is to be mounted has no fault for which a mount refuses it
+not-refused : (drive : DriveState) (n : ℕ) (fault : MountFault) → IsToMount drive n → MountFails drive n fault → ⊥
 not-refused drive n Limits can fails = fails can.geometry
 not-refused drive n Reserve can fails = elim fails.1 as (λ _. ⊥) [
   | inl given ↦ given can.reserve

@@ -59,6 +59,7 @@ pub record SendHalts (Changes : List Content → List Content → Type 0) (old n
 may-change-none : (Changes : List Content → List Content → Type 0) (drive : DriveState) → IsLawful drive → MayChange Changes drive drive
 may-change-none Changes drive lawful = record { geometry = refl; lawful = lawful; refused = refl; contents_are = inl refl }
 
+-- a Reset that failed has halted, and has reset its zone or changed nothing
 pub reset-halts : (old new : DriveState) (reported : List ReportedZone) (zone start : ℕ) (fault : PortFault) → AreKnown old reported → zone < length reported → start ≡ zone * old.geometry.size
     → ResetGives {V = Unit {0}} old start (Err fault) new → ResetKeeps {V = Unit {0}} old start (Err fault) new → Obeys {V = Unit {0}} old (Err fault) new → (CanReset old start → IsNotRefused {V = Unit {0}} (Err fault)) → SendHalts (λ a b. Resets a b zone) old new fault
 reset-halts old new reported zone start (port.Refused status) known lt is gives kept obeys passed = absurd (passed (starts-there old reported zone start known lt is).can_reset)
@@ -73,6 +74,7 @@ reset-halts old new reported zone start port.Stopped known lt is gives kept obey
     by (inl same) = inl same.contents
     by (inr resets) = inr (subst (λ (k : ℕ). Resets (contents old.zones) (contents new.zones) k) (starts-there old reported zone start known lt is).index resets.contents)
 
+-- a Finish that failed has halted, and has finished its zone or changed nothing
 pub finish-halts : (old new : DriveState) (reported : List ReportedZone) (zone start : ℕ) (fault : PortFault) → AreKnown old reported → zone < length reported → start ≡ zone * old.geometry.size
     → FinishGives {V = Unit {0}} old start (Err fault) new → FinishKeeps {V = Unit {0}} old start (Err fault) new → Obeys {V = Unit {0}} old (Err fault) new → (CanFinish old start → IsNotRefused {V = Unit {0}} (Err fault)) → SendHalts (λ a b. Finishes a b zone) old new fault
 finish-halts old new reported zone start (port.Refused status) known lt is gives kept obeys passed = absurd (passed (starts-there old reported zone start known lt is).can_finish)
@@ -89,22 +91,26 @@ finish-halts old new reported zone start port.Stopped known lt is gives kept obe
 
 -- ---- and did it
 
+-- a zone was reset, and no zone was opened
 pub record ResetsOne (old new : DriveState) (zone : ℕ) : Type 0 where
   pub kept : MayChange (λ a b. Resets a b zone) old new
   pub opens : OpensNone old.zones new.zones
   pub contents_are : Resets (contents old.zones) (contents new.zones) zone
 
+-- a Reset that succeeds resets its zone and opens none
 pub reset-done : (old new : DriveState) (reported : List ReportedZone) (zone start : ℕ) → AreKnown old reported → zone < length reported → start ≡ zone * old.geometry.size → ResetZone old new start → ResetLeaves {V = Unit {0}} old start (Ok tt) new → Obeys {V = Unit {0}} old (Ok tt) new
     → ResetsOne old new zone
 reset-done old new reported zone start known lt is done leaves obeys =
     let resets = subst (λ (k : ℕ). Resets (contents old.zones) (contents new.zones) k) (starts-there old reported zone start known lt is).index done.contents in
     record { kept = record { geometry = obeys.geometry; lawful = obeys.lawful; refused = done.counts.refused; contents_are = inr resets }; opens = reset-opens {V = Unit {0}} old new start (Ok tt) leaves; contents_are = resets }
 
+-- a zone was finished, and no zone was opened
 pub record FinishDone (old new : DriveState) (zone : ℕ) : Type 0 where
   pub kept : MayChange (λ a b. Finishes a b zone) old new
   pub opens : OpensNone old.zones new.zones
   pub contents_are : Finishes (contents old.zones) (contents new.zones) zone
 
+-- a Finish that succeeds finishes its zone and opens none
 pub finish-done : (old new : DriveState) (reported : List ReportedZone) (zone start : ℕ) → AreKnown old reported → zone < length reported → start ≡ zone * old.geometry.size → Finished old new start → FinishLeaves {V = Unit {0}} old start (Ok tt) new → Obeys {V = Unit {0}} old (Ok tt) new
     → FinishDone old new zone
 finish-done old new reported zone start known lt is done leaves obeys =
@@ -154,10 +160,12 @@ known-set old new reported zone made r known lt geometry lawful contents-are ope
           shut = λ told. opens k (one.shut told);
         }
 
-pub known-reset : (old new : DriveState) (reported : List ReportedZone) (zone : ℕ) → AreKnown old reported → zone < length reported → ResetsOne old new zone → AreKnown new (set reported zone reported_empty)
+-- after a Reset all zones are known, its own by the report of an Empty zone
+known-reset : (old new : DriveState) (reported : List ReportedZone) (zone : ℕ) → AreKnown old reported → zone < length reported → ResetsOne old new zone → AreKnown new (set reported zone reported_empty)
 known-reset old new reported zone known lt done = known-set old new reported zone emptied reported_empty known lt done.kept.geometry done.kept.lawful done.contents_are.zones done.opens (inl refl) refl refl refl
 
-pub known-finish : (old new : DriveState) (reported : List ReportedZone) (zone : ℕ) → AreKnown old reported → zone < length reported → FinishDone old new zone → AreKnown new (set reported zone (reported_full old.geometry.capacity))
+-- after a Finish all zones are known, its own by the report of a Full zone
+known-finish : (old new : DriveState) (reported : List ReportedZone) (zone : ℕ) → AreKnown old reported → zone < length reported → FinishDone old new zone → AreKnown new (set reported zone (reported_full old.geometry.capacity))
 known-finish old new reported zone known lt done =
     let g = old.geometry in
     let was = content_at (contents old.zones) zone in
@@ -168,6 +176,7 @@ known-finish old new reported zone known lt done =
 
 -- ---- and what the survey says
 
+-- after a Reset that is noted in the survey just this zone was reset
 pub resets-all-one : (old new : DriveState) (before after : Survey) (zone : ℕ) (was : ScannedZone) → AreKnown old before.zones.items → zone < length before.zones.items → length before.scanned.items ≡ length before.zones.items → ResetsOne old new zone
     → get_or before.scanned.items zone was ≡ was → after.zones.items ≡ set before.zones.items zone reported_empty → after.scanned.items ≡ set before.scanned.items zone (record { heads = was.heads; is_torn = false }) → after.size ≡ before.size → after.given ≡ before.given
     → ResetsAll old new before after (zone ∷ [])
@@ -183,6 +192,7 @@ resets-all-one old new before after zone was known lt long done was-is reported 
   given = given;
 }
 
+-- after a Finish that is noted in the survey just this zone was finished
 pub finishes-one : (old new : DriveState) (before after : Survey) (zone : ℕ) → AreKnown old before.zones.items → zone < length before.zones.items → FinishDone old new zone
     → after.zones.items ≡ set before.zones.items zone (reported_full old.geometry.capacity) → after.scanned ≡ before.scanned → after.size ≡ before.size → after.given ≡ before.given → FinishesOne old new before after zone
 finishes-one old new before after zone known lt done reported scanned size given = record {

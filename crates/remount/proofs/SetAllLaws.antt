@@ -10,18 +10,17 @@ use Rattle.drive_array.specs.Spare.{cleared}
 use Rattle.drive_array.specs.ZoneLogs.{log_at}
 use Rattle.remount.specs.Resets.{set_all}
 
+-- mapping a list with replaced elements replaces them in the mapped list
 pub map-set_all : {X Y : Type 0} (f : X → Y) (xs : List X) (is : List ℕ) (x : X) → map f (set_all xs is x) ≡ set_all (map f xs) is (f x)
 map-set_all f xs [] x = refl
 map-set_all {X} {Y} f xs (i ∷ is) x = map-set_all f (set xs i x) is x ∙ ap (λ (ys : List Y). set_all ys is (f x)) (map-set f xs i x)
 
-pub length-set_all : {X : Type 0} (xs : List X) (is : List ℕ) (x : X) → length (set_all xs is x) ≡ length xs
-length-set_all xs [] x = refl
-length-set_all xs (i ∷ is) x = length-set_all (set xs i x) is x ∙ length-set xs i x
-
+-- replacing elements at some numbers and then at others replaces them at all of these
 pub set_all-both : {X : Type 0} (xs : List X) (is js : List ℕ) (x : X) → set_all (set_all xs is x) js x ≡ set_all xs (is ++ js) x
 set_all-both xs [] js x = refl
 set_all-both xs (i ∷ is) js x = set_all-both (set xs i x) is js x
 
+-- clearing logs is replacing the logs of these zones by empty ones
 pub cleared-set_all : (logs : List (List Batch)) (zones : List ℕ) → cleared logs zones ≡ set_all logs zones []
 cleared-set_all logs [] = refl
 cleared-set_all logs (z ∷ zs) = cleared-set_all (set logs z []) zs
@@ -48,6 +47,7 @@ get-set_all {X} xs (i ∷ is) x y k e = by (get-set_all (set xs i x) is x y k e)
     by (inl same) = inl same
     by (inr there) = at (cases_eq k i) there.0 there.1
 
+-- an element at a number that is not replaced stays
 pub get_or-set_all_other : {X : Type 0} (xs : List X) (is : List ℕ) (x d : X) (k : ℕ) → (Contains is k → ⊥) → get_or (set_all xs is x) k d ≡ get_or xs k d
 get_or-set_all_other xs [] x d k out = refl
 get_or-set_all_other xs (i ∷ is) x d k out =

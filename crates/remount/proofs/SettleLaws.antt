@@ -43,6 +43,7 @@ use Rattle.remount.proofs.MovePlanLaws.{named-blocks, size-either, within-by}
 
 -- ---- all blocks are named
 
+-- the first i + n elements are the first i, and the next n
 pub take-plus : (i n : ℕ) (xs : List ℕ) → take (i + n) xs ≡ take i xs ++ take n (drop i xs)
 take-plus zero n xs = let same : 0 + n ≡ n = omega arith in rw same refl
 take-plus (suc i) n [] = let same : suc i + n ≡ suc (i + n) = omega arith in rw same (sym (none n))
@@ -66,6 +67,7 @@ all-named-before P source plan zone (suc k) all =
     let more : suc k * plan.most ≡ k * plan.most + plan.most = omega (arith, add-mul k 1 plan.most) in
     rw (more, take-plus (k * plan.most) plan.most plan.blocks.items) (all-append P (take (k * plan.most) plan.blocks.items) (named_by plan k) (all-named-before P source plan zone k split.0) here)
 
+-- the Moves of a plan together take all of its blocks
 pub all-there : (plan : MovePlan) → 1 ≤ plan.most → take (move_count plan * plan.most) plan.blocks.items ≡ plan.blocks.items
 all-there plan some =
     let len = length plan.blocks.items in
@@ -73,7 +75,8 @@ all-there plan some =
     let le : div_ceil len plan.most * plan.most ≤ move_count plan * plan.most = mul-le (div_ceil len plan.most) plan.most (move_count plan) plan.most (omega arith) (omega arith) in
     take_all (move_count plan * plan.most) plan.blocks.items (omega (arith, enough, le))
 
-pub all-moved : (source : Source) (plan : MovePlan) (zone block : ℕ) → 1 ≤ plan.most → Contains plan.blocks.items block → newest block (log_records zone 0 (moves_before source plan (move_count plan))) ≢ None
+-- after the last Move each block of the plan has a record among the Moves
+all-moved : (source : Source) (plan : MovePlan) (zone block : ℕ) → 1 ≤ plan.most → Contains plan.blocks.items block → newest block (log_records zone 0 (moves_before source plan (move_count plan))) ≢ None
 all-moved source plan zone block some there none =
     let rs = log_records zone 0 (moves_before source plan (move_count plan)) in
     let is : IsNewest rs block None = rw none at (newest-is block rs) in
@@ -91,6 +94,7 @@ within-before geometry n logs source plan (suc k) can =
     rw (log_greatest-more (moves_before source plan k) (move_by source plan k))
     (within-both (log_greatest (moves_before source plan k)) (size_by plan k) (log_greatest (log_at logs plan.torn)) (within-before geometry n logs source plan k can) (within-by (size_by plan k) (log_greatest (log_at logs plan.torn)) (size-either geometry n logs source plan k can)))
 
+-- all Moves together say the greatest size of the torn zone
 pub says-size : (geometry : Geometry) (n : ℕ) (logs : List (List Batch)) (source : Source) (plan : MovePlan) (count : ℕ) → CanRepairBy geometry n logs source plan → move_count plan ≡ count → 1 ≤ count → log_greatest (moves_before source plan count) ≡ log_greatest (log_at logs plan.torn)
 says-size geometry n logs source plan zero can is some = absurd (omega arith)
 says-size geometry n logs source plan (suc k) can is some =
@@ -99,7 +103,8 @@ says-size geometry n logs source plan (suc k) can is some =
 
 -- ---- nothing is lost with the torn zone
 
-pub at-spare : (n : ℕ) (start now : DriveState) (tables : TablesView) (plan : MovePlan) (heads : HeadsView) → IsAtMove n start now tables plan (move_count plan) heads → IsSpare start.geometry.block n (zone_logs start.geometry (contents now.zones)) plan.torn
+-- after the last Move the array is the same without the torn zone
+at-spare : (n : ℕ) (start now : DriveState) (tables : TablesView) (plan : MovePlan) (heads : HeadsView) → IsAtMove n start now tables plan (move_count plan) heads → IsSpare start.geometry.block n (zone_logs start.geometry (contents now.zones)) plan.torn
 at-spare n start now tables plan heads a =
     let g = start.geometry in
     let source = source_of start tables plan.torn in
@@ -109,7 +114,7 @@ at-spare n start now tables plan heads a =
     (rw m.log (says-size g n (drive_logs start) source plan (move_count plan) a.can refl (omega arith)))
 
 -- no other zone is torn
-pub at-only : (n : ℕ) (start now : DriveState) (torn into : ℕ) (made : List Batch) → IsMoving n start now torn into made → OnlyTorn start.geometry (contents now.zones) torn
+at-only : (n : ℕ) (start now : DriveState) (torn into : ℕ) (made : List Batch) → IsMoving n start now torn into made → OnlyTorn start.geometry (contents now.zones) torn
 at-only n start now torn into made m other is = at (cases_lt other (length (contents now.zones))) (cases_eq other into)
   where
     at : (other < length (contents now.zones)) ⊎ (length (contents now.zones) ≤ other) → (other ≡ into) ⊎ (other ≢ into) → other ≡ torn
@@ -122,11 +127,13 @@ at-only n start now torn into made m other is = at (cases_lt other (length (cont
 
 -- ---- it is emptied
 
+-- the drive is mountable, with the array that it had
 pub record TornEmptied (n : ℕ) (start new : DriveState) : Type 0 where
   pub mountable : IsMountable new n
   pub array : spelled new n ≡ spelled start n
 
-pub torn-emptied : (n : ℕ) (start now new : DriveState) (tables : TablesView) (plan : MovePlan) (heads : HeadsView) → IsAtMove n start now tables plan (move_count plan) heads → new.geometry ≡ start.geometry → IsLawful new → Resets (contents now.zones) (contents new.zones) plan.torn → TornEmptied n start new
+-- a Reset of the torn zone after the last Move leaves a mountable drive with its array
+torn-emptied : (n : ℕ) (start now new : DriveState) (tables : TablesView) (plan : MovePlan) (heads : HeadsView) → IsAtMove n start now tables plan (move_count plan) heads → new.geometry ≡ start.geometry → IsLawful new → Resets (contents now.zones) (contents new.zones) plan.torn → TornEmptied n start new
 unfolding spelled_array
 torn-emptied n start now new tables plan heads a geometry lawful resets =
     let g = start.geometry in
@@ -141,20 +148,24 @@ torn-emptied n start now new tables plan heads a geometry lawful resets =
       array = rw (geometry, reset.logs) (spare ∙ keeps.array);
     }
 
+-- after the last Move a Reset of the torn zone, if not refused, keeps the drive mountable
 pub emptied-mountable : (n : ℕ) (start now new : DriveState) (tables : TablesView) (plan : MovePlan) (heads : HeadsView) → IsAtMove n start now tables plan (move_count plan) heads → new.geometry ≡ now.geometry → IsLawful new → new.refused ≡ now.refused → Resets (contents now.zones) (contents new.zones) plan.torn → KeepsMountable n start new
 emptied-mountable n start now new tables plan heads a geometry lawful refused resets =
     let t = torn-emptied n start now new tables plan heads a (geometry ∙ a.moving.geometry) lawful resets in
     record { geometry = geometry ∙ a.moving.geometry; lawful = lawful; refused = refused ∙ a.moving.refused; mountable = λ m. t.mountable; array = λ m. t.array }
 
+-- the torn zone can be used, and starts at this address
 pub record CanEmpty (now : DriveState) (torn start : ℕ) : Type 0 where
   pub at : StartsAt now torn start
   pub usable : is_usable (content_at (contents now.zones) torn).usage ≡ true
 
+-- during the Moves the torn zone can be used, and starts at its address
 pub can-empty : (n : ℕ) (start now : DriveState) (tables : TablesView) (plan : MovePlan) (k : ℕ) (heads : HeadsView) (address : ℕ) → IsAtMove n start now tables plan k heads → address ≡ plan.torn * now.geometry.size → CanEmpty now plan.torn address
 can-empty n start now tables plan k heads address a is =
     let known = moving-known n start now plan.torn plan.into (moves_before (source_of start tables plan.torn) plan k) plan.reported a.moving a.known in
     record { at = starts-at now plan.torn address known.geometry known.lawful known.in_range is; usable = ap is_usable known.usage ∙ known.usable }
 
+-- a Reset of the torn zone that halts leaves a drive that is mountable with its array
 pub reset-halts : (n : ℕ) (start now new : DriveState) (tables : TablesView) (plan : MovePlan) (heads : HeadsView) (address : ℕ) (fault : PortFault) → IsAtMove n start now tables plan (move_count plan) heads → StartsAt now plan.torn address
     → ResetKeeps {V = Unit {0}} now address (Err fault) new → ResetLeaves {V = Unit {0}} now address (Err fault) new → Obeys {V = Unit {0}} now (Err fault) new → IsNotRefused {V = Unit {0}} (Err fault) → KeepsMountable n start new
 reset-halts n start now new tables plan heads address (port.Refused status) a at kept leaves obeys passed = absurd passed
@@ -166,6 +177,7 @@ reset-halts n start now new tables plan heads address port.Stopped a at kept lea
     by (inl same) = mountable-both n start now new (moving-mounts n start now plan.torn plan.into (moves_before (source_of start tables plan.torn) plan (move_count plan)) a.moving) (mountable-same n now new same obeys.lawful (obeys.counts refl).refused)
     by (inr done) = emptied-mountable n start now new tables plan heads a obeys.geometry obeys.lawful (obeys.counts refl).refused (rw at.index at done.contents)
 
+-- after the last Move a Reset empties the torn zone, and the Moves stay
 pub reset-done : (n : ℕ) (start now new : DriveState) (tables : TablesView) (plan : MovePlan) (heads : HeadsView) (address : ℕ) → IsAtMove n start now tables plan (move_count plan) heads → StartsAt now plan.torn address
     → ResetZone now new address → ResetLeaves {V = Unit {0}} now address (Ok tt) new → Obeys {V = Unit {0}} now (Ok tt) new → EmptiesTorn n start new plan (moves_before (source_of start tables plan.torn) plan (move_count plan))
 reset-done n start now new tables plan heads address a at done leaves obeys =

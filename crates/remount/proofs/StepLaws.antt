@@ -29,7 +29,7 @@ use Rattle.drive_survey.specs.declared.survey.Survey.{Survey}
 use Rattle.drive_survey.specs.Heads.{HeadsView, greatest_sequence, heads_of, sequences_in}
 use Rattle.remount.specs.Kept.{AreVacantEmpty, IsNotedOpen, KeepsMountable}
 use Rattle.drive_survey.specs.Known.{HasVacant, Knows}
-use Rattle.remount.specs.Mount.{AreMountedRoles, AreToEmpty, AreWhole, CannotRepair, IsCleared, IsPlan, IsPlanned, IsRepaired, IsToMount, IsUntorn, FinishesByNeed, KeepsOthers, LeavesCleared, LeavesEmptied, LeavesPlanned, LeavesRepaired, MountFails, Mounts, NoneIsTorn, PlanFails, Plans, WasOpenOrTook}
+use Rattle.remount.specs.Mount.{AreMountedRoles, AreToEmpty, AreWhole, CannotRepair, IsCleared, IsRepairPlan, IsPlanned, IsRepaired, IsToMount, IsUntorn, FinishesByNeed, KeepsOthers, LeavesCleared, LeavesEmptied, LeavesPlanned, LeavesRepaired, MountFails, Mounts, NoneIsTorn, PlanFails, PlansRepair, WasOpenOrTook}
 use Rattle.drive_survey.specs.Reported.{KeepsZones}
 use Rattle.remount.specs.Resets.{CanBeFilled, KeepsGoing, KeepsWritten, ResetsAll}
 use Rattle.drive_survey.specs.Scan.{FailsBy, heads_in}
@@ -48,6 +48,7 @@ use Rattle.remount.proofs.SetAllLaws.{cleared-set_all, set_all-parts}
 kept-logs : (old new : DriveState) → KeepsZones old new → drive_logs new ≡ drive_logs old
 kept-logs old new k = rw (k.geometry, kept-contents old new k) refl
 
+-- if only the controller closed zones, a drive stays mountable with its array
 pub closing-keeps : (old new : DriveState) (n : ℕ) → KeepsZones old new → KeepsMountable n old new
 closing-keeps old new n k = record {
   geometry = k.geometry;
@@ -59,6 +60,7 @@ closing-keeps old new n k = record {
 
 -- ---- a survey
 
+-- after a survey the drive is known by all of its logs
 pub survey-knows : (old new : DriveState) (n : ℕ) (survey : Survey) → KeepsZones old new → Surveys old new n survey → Knows new n (drive_logs new) survey
 survey-knows old new n survey k is = record {
   all_logs = rw (k.geometry, kept-contents old new k) is.scans.logs;
@@ -73,6 +75,7 @@ survey-knows old new n survey k is = record {
   tails = is.scans.tails ∙ sym (rw (kept-contents old new k) refl);
 }
 
+-- if only the controller closed zones, the headers can still be read
 pub can-kept : (old new : DriveState) (n : ℕ) → KeepsZones old new → CanScan old n → CanScan new n
 can-kept old new n k can = record {
   geometry = rw k.geometry can.geometry;
@@ -81,57 +84,48 @@ can-kept old new n k can = record {
   few = rw (kept-contents old new k) can.few;
 }
 
-survey-fails : (drive : DriveState) (n : ℕ) (fault : MountFault) → SurveyFails drive n fault → MountFails drive n fault
-survey-fails drive n faults.Reserve is = is
-survey-fails drive n faults.Limits is = is
-survey-fails drive n (faults.ZoneUnusable zone) is = is
-survey-fails drive n (faults.Log zone offset cause) is = is
-survey-fails drive n faults.SequenceRepeated is = is
-survey-fails drive n faults.BlockOutOfRange is = is
-survey-fails drive n faults.TooManyPartial is = is
-survey-fails drive n faults.NoSpare is = absurd is
-survey-fails drive n faults.Spent is = inl is
-survey-fails drive n faults.Halted is = is
-survey-fails drive n faults.OutOfMemory is = is
-survey-fails drive n (faults.TornZone zone) is = absurd is
-
-pub survey-refused : (drive last : DriveState) (n : ℕ) (fault : MountFault) → FailsBy (SurveyFails drive n) last fault → FailsBy (MountFails drive n) last fault
-survey-refused drive last n fault fails = fails-more (SurveyFails drive n) (MountFails drive n) last fault (survey-fails drive n) fails
-
 -- ---- the number that a survey holds is the one that was given
 
+-- a drive that a survey knows is known by the number that the survey was given
 pub known-own : (drive : DriveState) (n : ℕ) (logs : List (List Batch)) (survey : Survey) → Knows drive n logs survey → Knows drive survey.given logs survey
 known-own drive n logs survey is = subst (λ (k : ℕ). Knows drive k logs survey) (sym is.given_is) is
 
+-- a drive with a plan has it by the number that the survey was given
 pub planned-own : (drive : DriveState) (n : ℕ) (survey : Survey) (plan : Plan) → IsPlanned drive n survey plan → IsPlanned drive survey.given survey plan
 planned-own drive n survey plan is = subst (λ (k : ℕ). IsPlanned drive k survey plan) (sym is.known.given_is) is
 
+-- a cleared drive is so by the number that the survey was given
 pub cleared-own : (drive : DriveState) (n : ℕ) (survey : Survey) → IsCleared drive n survey → IsCleared drive survey.given survey
 cleared-own drive n survey is = subst (λ (k : ℕ). IsCleared drive k survey) (sym is.known.given_is) is
 
+-- a drive without torn zones is so by the number that the survey was given
 pub untorn-own : (drive : DriveState) (n : ℕ) (survey : Survey) → IsUntorn drive n survey → IsUntorn drive survey.given survey
 untorn-own drive n survey is = subst (λ (k : ℕ). IsUntorn drive k survey) (sym is.known.given_is) is
 
+-- what keeps a drive mountable by a number keeps it so by an equal number
 pub keeps-given : (k n : ℕ) (old new : DriveState) → k ≡ n → KeepsMountable k old new → KeepsMountable n old new
 keeps-given k n old new same keeps = subst (λ (j : ℕ). KeepsMountable j old new) same keeps
 
+-- the plan of a repair stays one if geometry, logs and tails stay
 pub plan-given : (old new : DriveState) (n k : ℕ) (repair : Repair) → k ≡ n → new.geometry ≡ old.geometry → drive_logs new ≡ drive_logs old → zone_tails (contents new.zones) ≡ zone_tails (contents old.zones)
-    → IsPlan old.geometry n (drive_logs old) (zone_tails (contents old.zones)) repair → IsPlan new.geometry k (drive_logs new) (zone_tails (contents new.zones)) repair
+    → IsRepairPlan old.geometry n (drive_logs old) (zone_tails (contents old.zones)) repair → IsRepairPlan new.geometry k (drive_logs new) (zone_tails (contents new.zones)) repair
 plan-given old new n k repair same geometry logs tails is =
-    subst (λ (g : Geometry). IsPlan g k (drive_logs new) (zone_tails (contents new.zones)) repair) (sym geometry)
-    (subst (λ (ls : List (List Batch)). IsPlan old.geometry k ls (zone_tails (contents new.zones)) repair) (sym logs)
-    (subst (λ (ts : List Bool). IsPlan old.geometry k (drive_logs old) ts repair) (sym tails) (subst (λ (j : ℕ). IsPlan old.geometry j (drive_logs old) (zone_tails (contents old.zones)) repair) (sym same) is)))
+    subst (λ (g : Geometry). IsRepairPlan g k (drive_logs new) (zone_tails (contents new.zones)) repair) (sym geometry)
+    (subst (λ (ls : List (List Batch)). IsRepairPlan old.geometry k ls (zone_tails (contents new.zones)) repair) (sym logs)
+    (subst (λ (ts : List Bool). IsRepairPlan old.geometry k (drive_logs old) ts repair) (sym tails) (subst (λ (j : ℕ). IsRepairPlan old.geometry j (drive_logs old) (zone_tails (contents old.zones)) repair) (sym same) is)))
 
 -- ---- a cleared drive
 
-pub left-none : (block_bytes n : ℕ) (logs : List (List Batch)) (zones : List ℕ) → IsClearing block_bytes n logs zones → NoneBelow block_bytes n (cleared logs zones) (length (cleared logs zones))
+-- after a clearing no zone is half clean
+left-none : (block_bytes n : ℕ) (logs : List (List Batch)) (zones : List ℕ) → IsClearing block_bytes n logs zones → NoneBelow block_bytes n (cleared logs zones) (length (cleared logs zones))
 left-none block_bytes n logs [] is = is
 left-none block_bytes n logs (z ∷ zs) is = left-none block_bytes n _ zs is.1
 
 logs-count : (drive : DriveState) → length (drive_logs drive) ≡ length drive.zones
 logs-count drive = length-map _ _ ∙ length-map _ _
 
-pub vacant-left : (drive : DriveState) (n : ℕ) (survey : Survey) → IsCleared drive n survey → HasVacant (drive_logs drive)
+-- a cleared drive has a vacant zone
+vacant-left : (drive : DriveState) (n : ℕ) (survey : Survey) → IsCleared drive n survey → HasVacant (drive_logs drive)
 vacant-left drive n survey is = by is.mountable.holds.disk.spare
   where
     by : HasSpare drive.geometry.block n (drive_logs drive) → HasVacant (drive_logs drive)
@@ -178,7 +172,7 @@ true-or-false true = inl refl
 true-or-false false = inr refl
 
 -- a zone that is Empty has no torn tail
-pub empty-whole : (drive : DriveState) (n : ℕ) (survey : Survey) (zone : ℕ) → Knows drive n (drive_logs drive) survey → AreVacantEmpty survey.zones.items (drive_logs drive) → IsVacant (drive_logs drive) zone
+empty-whole : (drive : DriveState) (n : ℕ) (survey : Survey) (zone : ℕ) → Knows drive n (drive_logs drive) survey → AreVacantEmpty survey.zones.items (drive_logs drive) → IsVacant (drive_logs drive) zone
     → get_or (zone_tails (contents drive.zones)) zone false ≡ true → ⊥
 empty-whole drive n survey zone known empty_is vacant tail =
     let there = tails-map (contents drive.zones) zone tail in
@@ -193,6 +187,7 @@ empty-whole drive n survey zone known empty_is vacant tail =
     let good : has_torn_tail (content_at (contents drive.zones) zone) ≡ false = ap has_torn_tail held ∙ no-tail in
     absurd (cc)
 
+-- a cleared drive without a torn zone needs no repair
 pub untorn : (drive : DriveState) (n : ℕ) (survey : Survey) → IsCleared drive n survey → NoneIsTorn (drive_logs drive) (zone_tails (contents drive.zones)) → IsUntorn drive n survey
 untorn drive n survey is none = record { known = is.known; mountable = is.mountable; empty = is.empty; whole = whole; spare = vacant-left drive n survey is }
   where
@@ -205,13 +200,10 @@ untorn drive n survey is none = record { known = is.known; mountable = is.mounta
       ])
     ]
 
-pub plans-none : (geometry : Geometry) (n : ℕ) (logs : List (List Batch)) (tails : List Bool) (plan : Option Repair) → plan ≡ None → Plans geometry n logs tails plan → NoneIsTorn logs tails
+-- if no repair is planned, no zone is torn
+pub plans-none : (geometry : Geometry) (n : ℕ) (logs : List (List Batch)) (tails : List Bool) (plan : Option Repair) → plan ≡ None → PlansRepair geometry n logs tails plan → NoneIsTorn logs tails
 plans-none geometry n logs tails None e is = is
 plans-none geometry n logs tails (Some repair) e is = absurd (cc)
-
-pub plans-some : (geometry : Geometry) (n : ℕ) (logs : List (List Batch)) (tails : List Bool) (plan : Option Repair) (repair : Repair) → plan ≡ Some repair → Plans geometry n logs tails plan → IsPlan geometry n logs tails repair
-plans-some geometry n logs tails None repair e is = absurd (cc)
-plans-some geometry n logs tails (Some other) repair e is = let same : other ≡ repair = cc in rw (← same) is
 
 -- ---- carrying out
 
@@ -221,7 +213,7 @@ tails-kept logs old new zone same is = record { batch = is.batch; tail = sym (sa
 tails-back : (logs : List (List Batch)) (old new : List Bool) (zone : ℕ) → ((z : ℕ) → log_at logs z ≢ [] → get_or new z false ≡ get_or old z false) → IsTornAt logs old zone → IsTornAt logs new zone
 tails-back logs old new zone same is = record { batch = is.batch; tail = same zone is.batch ∙ is.tail }
 
-plans-kept : (geometry : Geometry) (n : ℕ) (logs : List (List Batch)) (old new : List Bool) (plan : Option Repair) → ((z : ℕ) → log_at logs z ≢ [] → get_or new z false ≡ get_or old z false) → Plans geometry n logs old plan → Plans geometry n logs new plan
+plans-kept : (geometry : Geometry) (n : ℕ) (logs : List (List Batch)) (old new : List Bool) (plan : Option Repair) → ((z : ℕ) → log_at logs z ≢ [] → get_or new z false ≡ get_or old z false) → PlansRepair geometry n logs old plan → PlansRepair geometry n logs new plan
 plans-kept geometry n logs old new None same is = λ zone torn. is zone (tails-kept logs old new zone same torn)
 plans-kept geometry n logs old new (Some repair) same is = record {
   torn = record { torn = tails-back logs old new repair.zone same is.torn.torn; only = λ other torn. is.torn.only other (tails-kept logs old new other same torn) };
@@ -290,17 +282,19 @@ leaves-cleared old middle new before survey after plan vacant half_clean planned
 pub empties : (old new : DriveState) (n : ℕ) (resets : List ℕ) (survey : Survey) → IsCleared new n survey → LeavesEmptied old new resets → KeepsMountable n old new → Empties old new n resets survey
 empties old new n resets survey now left kept = record { known = now.known; logs = left.logs; vacant = now.empty; tails = left.tails; kept = kept }
 
+-- after the emptying the planned repair is still right
 pub emptied-plans : (old new : DriveState) (n : ℕ) (before survey : Survey) (plan : Plan) → IsPlanned old n before plan → Empties old new n plan.half_clean.items survey
-    → Plans new.geometry n (drive_logs new) (zone_tails (contents new.zones)) plan.repair
+    → PlansRepair new.geometry n (drive_logs new) (zone_tails (contents new.zones)) plan.repair
 emptied-plans old new n before survey plan planned is =
-    subst (λ (g : Geometry). Plans g n (drive_logs new) (zone_tails (contents new.zones)) plan.repair) (sym is.kept.geometry)
+    subst (λ (g : Geometry). PlansRepair g n (drive_logs new) (zone_tails (contents new.zones)) plan.repair) (sym is.kept.geometry)
     (plans-kept old.geometry n (drive_logs new) (zone_tails (contents old.zones)) (zone_tails (contents new.zones)) plan.repair is.tails
-    (subst (λ (ls : List (List Batch)). Plans old.geometry n ls (zone_tails (contents old.zones)) plan.repair) (sym is.logs) planned.repair))
+    (subst (λ (ls : List (List Batch)). PlansRepair old.geometry n ls (zone_tails (contents old.zones)) plan.repair) (sym is.logs) planned.repair))
 
 -- what is told of the repair of a drive that was given a number
 abbrev pub TellsPlan : Geometry → Survey → Option Repair → ℕ → Type 0
-TellsPlan geometry survey plan n = (drive : DriveState) (logs : List (List Batch)) → drive.geometry ≡ geometry → Knows drive n logs survey → Plans geometry n logs (zone_tails (contents drive.zones)) plan
+TellsPlan geometry survey plan n = (drive : DriveState) (logs : List (List Batch)) → drive.geometry ≡ geometry → Knows drive n logs survey → PlansRepair geometry n logs (zone_tails (contents drive.zones)) plan
 
+-- a fault is out of memory, or why the zones of a drive cannot be repaired
 abbrev pub TellsNone : Geometry → Survey → MountFault → ℕ → Type 0
 TellsNone geometry survey fault n =
     (fault ≡ faults.OutOfMemory) ⊎ ((drive : DriveState) (logs : List (List Batch)) → drive.geometry ≡ geometry → Knows drive n logs survey → CannotRepair geometry (encoded_size n logs) logs (zone_tails (contents drive.zones)) fault)
@@ -316,17 +310,18 @@ record HasSoundLogs (drive : DriveState) (n : ℕ) : Type 0 where
 hold-disk : (drive : DriveState) (n : ℕ) → CanScan drive n → HasSoundLogs drive n → HasSpare drive.geometry.block n (drive_logs drive) → HoldDisk drive.geometry (contents drive.zones) n
 hold-disk drive n can has spare = record { usable = can.usable; few_partial = can.few; logs = has.logs; sound = has.sound; reserve = has.reserve; spare = spare }
 
-plan-repairs : (geometry : Geometry) (n : ℕ) (logs : List (List Batch)) (tails : List Bool) (plan : Option Repair) → Plans geometry n logs tails plan → CanRepair geometry (2 ^ 63) (encoded_size n logs) logs tails
+plan-repairs : (geometry : Geometry) (n : ℕ) (logs : List (List Batch)) (tails : List Bool) (plan : Option Repair) → PlansRepair geometry n logs tails plan → CanRepair geometry (2 ^ 63) (encoded_size n logs) logs tails
 plan-repairs geometry n logs tails None none = record { one = λ a b torn other. absurd (none a torn); fits = λ a torn. absurd (none a torn) }
 plan-repairs geometry n logs tails (Some repair) is = record {
   one = λ a b torn other. is.torn.only a torn ∙ sym (is.torn.only b other);
   fits = λ a torn. rw (is.torn.only a torn) is.fits;
 }
 
+-- a drive has a plan once its vacant zones, its clearing and its repair are found
 pub planned : (old new : DriveState) (n : ℕ) (before survey : Survey) (plan : Plan) → CanScan old n → Knows old n (drive_logs old) before → KeepsZones old new → HasSpare old.geometry.block n (drive_logs old)
     → AreToEmpty (drive_logs old) before plan.vacant.items → survey.zones ≡ before.zones → IsClearing old.geometry.block n (drive_logs old) plan.half_clean.items
     → Knows new n (cleared (drive_logs old) plan.half_clean.items) survey
-    → Plans old.geometry n (cleared (drive_logs old) plan.half_clean.items) (zone_tails (contents old.zones)) plan.repair
+    → PlansRepair old.geometry n (cleared (drive_logs old) plan.half_clean.items) (zone_tails (contents old.zones)) plan.repair
     → IsPlanned new n survey plan
 planned old new n before survey plan can known k spare vacant zones clearing after repair = record {
   mountable = record { lawful = k.lawful; holds = rw (k.geometry, kept-contents old new k) mountable };
@@ -369,6 +364,7 @@ plan-fault drive n resets fault sound spare clearing is = by fault (subst (λ (k
     by faults.Halted bad = absurd bad
     by faults.OutOfMemory bad = absurd bad
 
+-- a fault of planning the repair is a fault of the plan
 pub repair-refused : (old new : DriveState) (n : ℕ) (resets : List ℕ) (survey : Survey) (fault : MountFault) (geometry : Geometry) → geometry ≡ old.geometry → KeepsZones old new → AreSound (2 ^ 63) n (drive_logs old)
     → HasSpare old.geometry.block n (drive_logs old) → IsClearing old.geometry.block n (drive_logs old) resets → Knows new n (cleared (drive_logs old) resets) survey
     → ((fault ≡ faults.OutOfMemory) ⊎ ((drive : DriveState) (logs : List (List Batch)) → drive.geometry ≡ geometry → Knows drive n logs survey → CannotRepair geometry (encoded_size n logs) logs (zone_tails (contents drive.zones)) fault))
@@ -407,6 +403,7 @@ plan-back old new n faults.TooManyPartial k fails = absurd fails.1.2
 plan-back old new n faults.Halted k fails = absurd fails.1.2
 plan-back old new n faults.OutOfMemory k fails = absurd fails.1.2
 
+-- a fault of the plan is a fault of the mount
 pub plan-refused : (old new last : DriveState) (n : ℕ) (survey : Survey) (fault : MountFault) → KeepsZones old new → Surveys old new n survey → FailsBy (PlanFails new n) last fault → FailsBy (MountFails old n) last fault
 plan-refused old new last n survey fault k is fails = fails-more (PlanFails new n) (MountFails old n) last fault back fails
   where
@@ -425,12 +422,12 @@ below-next next (x ∷ xs) lt = (omega (arith, lt), below-next next xs (omega (a
 
 -- ---- mounted
 
--- what a mount has come by before it makes its tables
 -- zones that are noted as open make fillings that may be open
 abbrev pub OpenByNeed : DriveState → List ℕ → DriveState → Survey → Type 0
 OpenByNeed old resets new survey =
     (fs : List Filling) → AllByRecursion (λ (f : Filling). f.may_open ≡ true → IsNotedOpen survey.zones.items f.zone) fs → AllByRecursion (WasOpenOrTook old resets new) fs
 
+-- what is known of a repaired drive before its tables are made
 pub record Repaired (old new : DriveState) (n : ℕ) (survey : Survey) : Type 0 where
   pub can : IsToMount old n
   pub resets : List ℕ
@@ -442,11 +439,13 @@ pub record Repaired (old new : DriveState) (n : ℕ) (survey : Survey) : Type 0 
   pub zones : FinishesByNeed old resets new
   pub opened : OpenByNeed old resets new survey
 
+-- a drive that was surveyed and planned is to be mounted
 pub to-mount : (old middle third : DriveState) (n : ℕ) (first second : Survey) (plan : Plan) → IsLawful old → KeepsZones old middle → Surveys old middle n first → KeepsZones middle third → IsPlanned third n second plan → IsToMount old n
 to-mount old middle third n first second plan lawful k is k' planned =
     let both = keeps-both old middle third k k' in
     record { geometry = is.can.geometry; reserve = is.can.reserve; mountable = record { lawful = lawful; holds = rw (both.geometry, kept-contents old third both) at planned.mountable.holds } }
 
+-- a drive is repaired once it was surveyed and planned, and its plan carried out
 pub repairs : (old middle third new : DriveState) (n : ℕ) (first second last : Survey) (plan : Plan) → IsLawful old → KeepsZones old middle → Surveys old middle n first → KeepsZones middle third → IsPlanned third n second plan
     → KeepsMountable n third new → Knows new n (drive_logs new) last → IsRepaired new n last → LeavesCleared n third plan.half_clean.items new
     → FinishesByNeed old plan.half_clean.items new → OpenByNeed old plan.half_clean.items new last → Repaired old new n last
@@ -470,6 +469,7 @@ pub record IsNextSequence (old new : DriveState) (next : ℕ) : Type 0 where
   pub above : AllByRecursion (λ s. s < next) (sequences (drive_logs new))
   pub small : next ≤ 2 ^ 63
 
+-- the next sequence follows the greatest one in the headers before and after the repairs
 pub next-is : (old new : DriveState) (n before now next : ℕ) (first last : Survey) → Repaired old new n last → heads_in first.scanned.items ≡ map heads_of (drive_logs old) → before ≡ greatest_sequence (sequences_in (heads_in first.scanned.items)) → now ≡ greatest_sequence (sequences_in (heads_in last.scanned.items))
     → next ≡ min (max now before + 1) (2 ^ 64 - 1) → IsNextSequence old new next
 next-is old new n before now next first last is heads was are e =
@@ -480,6 +480,7 @@ next-is old new n before now next first last is heads was are e =
     let same : next ≡ 1 + max (greatest_sequence (sequences (drive_logs old))) (greatest_sequence (sequences (drive_logs new))) = omega (arith, e, a, b, a', b') in
     record { is = same; above = below-next next (sequences (drive_logs new)) (omega (arith, same)); small = omega (arith, same, a', b') }
 
+-- a repaired drive is mounted with tables that agree with it
 pub mounts : (old new : DriveState) (n : ℕ) (survey : Survey) (tables : TablesView) → Repaired old new n survey → IsNextSequence old new tables.next → tables.given ≡ n → Agrees (mounted new tables) → AreMountedRoles new.geometry.capacity (contents new.zones) tables.roles
     → AllByRecursion (λ (f : Filling). f.may_open ≡ true → IsNotedOpen survey.zones.items f.zone) (fillings tables.roles) → Mounts old new n tables
 mounts old new n survey tables is next given agrees roles noted = record {
@@ -495,25 +496,24 @@ mounts old new n survey tables is next given agrees roles noted = record {
 
 -- ---- what the parts of a plan say of this drive
 
+-- zones to empty by the headers of a survey are zones to empty on its drive
 pub to-empty : (drive : DriveState) (n : ℕ) (survey : Survey) (zones : List ℕ) → Knows drive n (drive_logs drive) survey
     → ((logs : List (List Batch)) → heads_in survey.scanned.items ≡ map heads_of logs → length survey.zones.items ≡ length logs → AreToEmpty logs survey zones) → AreToEmpty (drive_logs drive) survey zones
 to-empty drive n survey zones known all = all (drive_logs drive) known.heads (omega (arith, known.zones.count, known.count))
 
+-- a repair that is planned from the survey is right for the cleared drive
 pub plans-of : (old new : DriveState) (n : ℕ) (resets : List ℕ) (survey : Survey) (plan : Option Repair) (geometry : Geometry) → geometry ≡ old.geometry → KeepsZones old new → Knows new n (cleared (drive_logs old) resets) survey
-    → ((drive : DriveState) (logs : List (List Batch)) → drive.geometry ≡ geometry → Knows drive n logs survey → Plans geometry n logs (zone_tails (contents drive.zones)) plan)
-    → Plans old.geometry n (cleared (drive_logs old) resets) (zone_tails (contents old.zones)) plan
+    → ((drive : DriveState) (logs : List (List Batch)) → drive.geometry ≡ geometry → Knows drive n logs survey → PlansRepair geometry n logs (zone_tails (contents drive.zones)) plan)
+    → PlansRepair old.geometry n (cleared (drive_logs old) resets) (zone_tails (contents old.zones)) plan
 plans-of old new n resets survey plan geometry e k known all = rw (kept-contents old new k, e) at (all new (cleared (drive_logs old) resets) (k.geometry ∙ sym e) known)
 
 -- ---- faults
-
--- nothing was sent that changes the drive; or the drive was to be mounted
-pub early-kept : (old new : DriveState) (n : ℕ) → KeepsZones old new → KeepsZones old new ⊎ IsToMount old n
-early-kept old new n k = inl k
 
 -- a fault of the repairs is out of memory, or a halt
 pub carry-refused : (old third last : DriveState) (n : ℕ) (fault : MountFault) → FailsBy (λ _. ⊥) last fault → FailsBy (MountFails old n) last fault
 carry-refused old third last n fault fails = fails-more (λ _. ⊥) (MountFails old n) last fault (λ f bad. absurd bad) fails
 
+-- a fault of the repairs is nothing else than a halt or out of memory
 pub carry-kept : (P : Type 0) (last : DriveState) (fault : MountFault) → FailsBy (λ _. ⊥) last fault → fault ≢ faults.Halted → fault ≢ faults.OutOfMemory → P
 carry-kept P last fault (inl memory) not_halted not_memory = absurd (not_memory memory)
 carry-kept P last fault (inr (inl halted)) not_halted not_memory = absurd (not_halted halted.0)
@@ -521,17 +521,18 @@ carry-kept P last fault (inr (inr bad)) not_halted not_memory = absurd bad
 
 -- ---- what is left
 
-planned-left : (geometry : Geometry) (n : ℕ) (logs new : List (List Batch)) (tails : List Bool) (plan : Option Repair) → Plans geometry n logs tails plan → LeavesPlanned geometry n logs plan new → LeavesRepaired geometry n logs tails new
+planned-left : (geometry : Geometry) (n : ℕ) (logs new : List (List Batch)) (tails : List Bool) (plan : Option Repair) → PlansRepair geometry n logs tails plan → LeavesPlanned geometry n logs plan new → LeavesRepaired geometry n logs tails new
 planned-left geometry n logs new tails None none same = inl (none, same)
 planned-left geometry n logs new tails (Some repair) is repaired = inr (repair.zone, is.torn, repaired)
 
-pub carried-left : (old middle third new : DriveState) (n : ℕ) (resets : List ℕ) (plan : Option Repair) (survey : Survey) → Empties old middle n resets survey → Plans old.geometry n (cleared (drive_logs old) resets) (zone_tails (contents old.zones)) plan
+-- carrying out a plan clears the half clean zones and repairs a torn one
+pub carried-left : (old middle third new : DriveState) (n : ℕ) (resets : List ℕ) (plan : Option Repair) (survey : Survey) → Empties old middle n resets survey → PlansRepair old.geometry n (cleared (drive_logs old) resets) (zone_tails (contents old.zones)) plan
     → LeavesPlanned middle.geometry n (drive_logs middle) plan (drive_logs third) → drive_logs new ≡ drive_logs third → LeavesCleared n old resets new
 carried-left old middle third new n resets plan survey is plans left same =
     rw same (planned-left old.geometry n (cleared (drive_logs old) resets) (drive_logs third) (zone_tails (contents old.zones)) plan plans (rw (is.logs, is.kept.geometry) at left))
 
 -- without a torn zone nothing is repaired
-no-repair : (geometry : Geometry) (n : ℕ) (logs : List (List Batch)) (tails : List Bool) (plan : Option Repair) → Plans geometry n logs tails plan → NoneIsTorn logs tails → plan ≡ None
+no-repair : (geometry : Geometry) (n : ℕ) (logs : List (List Batch)) (tails : List Bool) (plan : Option Repair) → PlansRepair geometry n logs tails plan → NoneIsTorn logs tails → plan ≡ None
 no-repair geometry n logs tails None is none = refl
 no-repair geometry n logs tails (Some repair) is none = absurd (none repair.zone is.torn.torn)
 
@@ -542,7 +543,8 @@ log-left logs resets zone some = elim (set_all-parts logs logs resets [] [] zone
   | inr stays ↦ ap (λ (ls : List (List Batch)). log_at ls zone) (cleared-set_all logs resets) ∙ stays
 ]
 
-pub carried-others : (old middle third new : DriveState) (n : ℕ) (resets : List ℕ) (plan : Option Repair) (survey : Survey) → Empties old middle n resets survey → Plans old.geometry n (cleared (drive_logs old) resets) (zone_tails (contents old.zones)) plan
+-- if no zone is torn, carrying out a plan finishes no zone without need
+pub carried-others : (old middle third new : DriveState) (n : ℕ) (resets : List ℕ) (plan : Option Repair) (survey : Survey) → Empties old middle n resets survey → PlansRepair old.geometry n (cleared (drive_logs old) resets) (zone_tails (contents old.zones)) plan
     → KeepsWritten old middle → (plan ≡ None → third ≡ middle) → KeepsGoing third new → KeepsOthers old resets new
 carried-others old middle third new n resets plan survey is plans written same going none zone some goes =
     let third_is : third ≡ middle = same (no-repair old.geometry n (cleared (drive_logs old) resets) (zone_tails (contents old.zones)) plan plans none) in
@@ -552,6 +554,7 @@ carried-others old middle third new n resets plan survey is plans written same g
     let after : content_at (contents new.zones) zone ≡ content_at (contents middle.zones) zone = subst (λ (d : DriveState). KeepsGoing d new) third_is going zone still in
     after ∙ kept
 
+-- if success gives a fact, it gives what follows from the fact
 pub on-ok : (result : Result (Unit {0}) MountFault) (P Q : Type 0) → (P → Q) → OnOk result P → OnOk result Q
 on-ok (Ok done) P Q f is = f is
 on-ok (Err fault) P Q f is = tt

@@ -15,9 +15,11 @@ use Rattle.zone_choice.proofs.OpenLaws.{append-opens}
 use Rattle.remount.specs.Moving.{CanTake, TakesFirst, TakesSome}
 use Rattle.remount.proofs.CallLaws.{mountable-same}
 
-pub size-blocks : (block : ℕ) (builder : BuilderView) → length (batch_blocks block (built block builder)) ≡ batch_size (built block builder)
+-- a built batch has as many blocks as its size says
+size-blocks : (block : ℕ) (builder : BuilderView) → length (batch_blocks block (built block builder)) ≡ batch_size (built block builder)
 size-blocks block builder = ap suc (length-cut block (data_count builder.heading.entries) (drop block builder.bytes))
 
+-- the bytes of a batch that the drive can take are whole blocks
 pub take-whole : (drive : DriveState) (zone : ℕ) (builder : BuilderView) (bytes : List ℕ) → bytes ≡ builder.bytes → CanTake drive zone builder → IsWholeBlocks drive.geometry.block bytes
 take-whole drive zone builder bytes bytes-are can =
     let g = drive.geometry in

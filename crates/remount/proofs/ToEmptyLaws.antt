@@ -42,14 +42,13 @@ HasNoBatch survey zone = (get_or (heads_in survey.scanned.items) zone no_heads).
 abbrev IsReset : Survey → ℕ → Type 0
 IsReset survey zone = (get_or survey.zones.items zone reported_empty).state ≢ Empty
 
+-- these are the zones below one that have no batch and are not Empty
 pub record AreFound (survey : Survey) (zones : List ℕ) (below : ℕ) : Type 0 where
   pub vacant : AllByRecursion (λ zone. (zone < below) × HasNoBatch survey zone) zones
   pub needed : AllByRecursion (IsReset survey) zones
   pub others : (zone : ℕ) → zone < below → HasNoBatch survey zone → ((get_or survey.zones.items zone reported_empty).state ≡ Empty) ⊎ Contains zones zone
 
-pub found-none : (survey : Survey) → AreFound survey [] 0
-found-none survey = record { vacant = tt; needed = tt; others = λ zone lt. absurd (omega (arith, lt)) }
-
+-- a zone that has no batch and is not Empty is added to the zones found
 pub found-one : (survey : Survey) (zones more : List ℕ) (below : ℕ) → AreFound survey zones below → HasNoBatch survey below → IsReset survey below → more ≡ zones ++ below ∷ [] → AreFound survey more (below + 1)
 found-one survey zones more below found none needed pushed = rw pushed (record {
   vacant = all-append (λ zone. (zone < below + 1) × HasNoBatch survey zone) zones (below ∷ [])
@@ -67,6 +66,7 @@ found-one survey zones more below found none needed pushed = rw pushed (record {
       ])
     ]
 
+-- a zone that has a batch or is Empty is not added to the zones found
 pub found-other : (survey : Survey) (zones : List ℕ) (below : ℕ) → AreFound survey zones below → (HasNoBatch survey below → (get_or survey.zones.items below reported_empty).state ≡ Empty) → AreFound survey zones (below + 1)
 found-other survey zones below found empty = record {
   vacant = all-weaker (λ zone. (zone < below) × HasNoBatch survey zone) (λ zone. (zone < below + 1) × HasNoBatch survey zone) zones (λ zone is. (omega (arith, is.0), is.1)) found.vacant;
@@ -79,6 +79,7 @@ found-other survey zones below found empty = record {
 
 -- ---- all of them
 
+-- once all zones are looked at, the zones found are the zones to empty
 pub found-all : (survey : Survey) (zones : List ℕ) (below : ℕ) (logs : List (List Batch)) → AreFound survey zones below → length survey.zones.items ≤ below → below ≤ length survey.zones.items → heads_in survey.scanned.items ≡ map heads_of logs → length survey.zones.items ≡ length logs → AreToEmpty logs survey zones
 found-all survey zones below logs found le ge heads long = record {
   vacant = all-weaker (λ zone. (zone < below) × HasNoBatch survey zone) (λ zone. (zone < length logs) × IsVacant logs zone) zones (λ zone is. (omega (arith, is.0, ge, long), vacant-heads logs zone (ap (λ (hs : List HeadsView). (get_or hs zone no_heads).blocks) (sym heads) ∙ is.1))) found.vacant;

@@ -17,6 +17,7 @@ data-one places.None = refl
 data-one (places.Trimmed address) = refl
 data-one (places.At address) = refl
 
+-- whether a place is in the zone and has data
 abbrev pub has_data : ℕ → ℕ → Place → Bool
 has_data zone_size zone p = lies_in zone_size zone p && is_data_place p
 
@@ -71,12 +72,14 @@ none-with_data zone_size zone first (p ∷ ps) none = by (lies_in zone_size zone
 
 -- ---- block after block
 
+-- the blocks of a zone below one are found, and how many of them have data
 pub record LiveSoFar (first now : TablesView) (zone : ℕ) (blocks : List ℕ) (with_data from : ℕ) : Type 0 where
   pub same : now ≡ first
   pub within : from ≤ size_of first
   pub blocks_are : blocks ++ blocks_in first.map.zone_size zone from (drop from first.map.places) ≡ blocks_in first.map.zone_size zone 0 first.map.places
   pub data_is : with_data + data_in first.map.zone_size zone (drop from first.map.places) ≡ data_in first.map.zone_size zone first.map.places
 
+-- at the start no block of the zone is found
 pub live-none : (tables : TablesView) (zone : ℕ) → LiveSoFar tables tables zone [] 0 0
 live-none tables zone = record { same = refl; within = omega arith; blocks_are = refl; data_is = omega arith }
 
@@ -99,12 +102,14 @@ first-none : (f : ℕ → Place) (o : Option ℕ) → option_map {U = ℕ × Pla
 first-none f None e = refl
 first-none f (Some b) e = absurd (cc)
 
+-- the next block of a zone is found, and its data counted
 pub record LiveNext (first now : TablesView) (zone : ℕ) (blocks : List ℕ) (with_data from block : ℕ) (place : Place) : Type 0 where
   pub after : from ≤ block
   pub in_range : block < size_of first
   pub few : with_data + data_count_at place ≤ size_of first
   pub more : LiveSoFar first now zone (blocks ++ block ∷ []) (with_data + data_count_at place) (block + 1)
 
+-- the first block that is left in the zone is the next one found
 pub live-next : (first now new : TablesView) (zone : ℕ) (blocks : List ℕ) (with_data from block : ℕ) (place : Place) → LiveSoFar first now zone blocks with_data from → Some (block, place) ≡ first_record now.map zone from → new ≡ now → LiveNext first new zone blocks with_data from block place
 live-next first now new zone blocks with_data from block place so_far found kept =
     let m = first.map in
@@ -129,10 +134,12 @@ live-next first now new zone blocks with_data from block place so_far found kept
       };
     }
 
+-- all blocks of a zone are found, and how many of them have data
 pub record LiveAll (first now : TablesView) (zone : ℕ) (blocks : List ℕ) (with_data : ℕ) : Type 0 where
   pub blocks_are : blocks ≡ blocks_in first.map.zone_size zone 0 first.map.places
   pub data_is : with_data ≡ data_in first.map.zone_size zone first.map.places
 
+-- once no block is left in the zone, all of them are found
 pub live-end : (first now : TablesView) (zone : ℕ) (blocks : List ℕ) (with_data from : ℕ) → LiveSoFar first now zone blocks with_data from → None ≡ first_record now.map zone from → LiveAll first now zone blocks with_data
 live-end first now zone blocks with_data from so_far found =
     let m = first.map in

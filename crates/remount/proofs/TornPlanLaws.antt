@@ -31,7 +31,7 @@ use Rattle.drive_survey.specs.declared.survey.Survey.{Survey}
 use Rattle.drive_survey.specs.Heads.{HeadsView, greatest_sequence, head_sequences, heads_after, heads_of, no_heads, sequences_in, with_heading}
 use Rattle.drive_survey.specs.Known.{Knows}
 use Rattle.remount.specs.declared.repair.Repair.{Repair}
-use Rattle.remount.specs.Mount.{IsOnlyTorn, IsPastRepair, IsPlaced, IsPlan, LacksSequences, NoneIsTorn}
+use Rattle.remount.specs.Mount.{IsOnlyTorn, IsPastRepair, IsPlaced, IsRepairPlan, LacksSequences, NoneIsTorn}
 use Rattle.drive_survey.specs.Scan.{heads_in}
 use Rattle.remount.specs.Torn.{IsNextTorn, WasSurveyed, data_in, is_torn_in, is_torn_zone}
 use Rattle.drive_survey.proofs.TakeLaws.{blocks-are}
@@ -41,6 +41,7 @@ use Rattle.remount.proofs.LiveLaws.{known-below, Within, newest-within, lies-kep
 
 -- ---- torn zones
 
+-- as many zones were scanned as there are logs
 pub scanned-long : (drive : DriveState) (n : ℕ) (logs : List (List Batch)) (survey : Survey) → Knows drive n logs survey → length survey.scanned.items ≡ length logs
 scanned-long drive n logs survey known = omega (arith, ap length known.heads, length-map survey.scanned.items (λ (z : ScannedZone). z.heads), length-map logs heads_of)
 
@@ -63,6 +64,7 @@ some-size : (log : List Batch) → log ≢ [] → log_size log ≡ 0 → ⊥
 some-size [] some none = some refl
 some-size (b ∷ bs) some none = omega (arith, none)
 
+-- a zone that was scanned as torn is torn
 pub torn-at : (drive : DriveState) (n : ℕ) (logs : List (List Batch)) (survey : Survey) (zone : ℕ) → Knows drive n logs survey → zone < length survey.scanned.items → is_torn_in survey.scanned.items zone ≡ true → IsTornAt logs (zone_tails (contents drive.zones)) zone
 torn-at drive n logs survey zone known lt torn =
     let none : ScannedZone = record { heads = no_heads; is_torn = false } in
@@ -76,6 +78,7 @@ torn-at drive n logs survey zone known lt torn =
       tail = kept.tail ∙ both.0;
     }
 
+-- a zone that was not scanned as torn is not torn
 pub not-torn : (drive : DriveState) (n : ℕ) (logs : List (List Batch)) (survey : Survey) (zone : ℕ) → Knows drive n logs survey → is_torn_in survey.scanned.items zone ≡ false → IsTornAt logs (zone_tails (contents drive.zones)) zone → ⊥
 not-torn drive n logs survey zone known never torn = elim (cases_lt zone (length survey.scanned.items)) as (λ _. ⊥) [ inl lt ↦ within lt | inr past ↦ torn.batch (get_or_past logs zone [] (omega (arith, past, scanned-long drive n logs survey known))) ]
   where
@@ -96,7 +99,7 @@ pub none-torn : (drive : DriveState) (n : ℕ) (logs : List (List Batch)) (surve
 none-torn drive n logs survey known none zone torn = not-torn drive n logs survey zone known (none zone (omega arith)) torn
 
 -- one is torn, and there is none after it
-pub only-torn : (drive : DriveState) (n : ℕ) (logs : List (List Batch)) (survey : Survey) (zone : ℕ) → Knows drive n logs survey → IsNextTorn survey.scanned.items 0 zone → ((other : ℕ) → zone + 1 ≤ other → is_torn_in survey.scanned.items other ≡ false) → IsOnlyTorn logs (zone_tails (contents drive.zones)) zone
+only-torn : (drive : DriveState) (n : ℕ) (logs : List (List Batch)) (survey : Survey) (zone : ℕ) → Knows drive n logs survey → IsNextTorn survey.scanned.items 0 zone → ((other : ℕ) → zone + 1 ≤ other → is_torn_in survey.scanned.items other ≡ false) → IsOnlyTorn logs (zone_tails (contents drive.zones)) zone
 only-torn drive n logs survey zone known next none = record {
   torn = torn-at drive n logs survey zone known next.in_range next.torn;
   only = λ other torn. elim (cases_lt other zone) as (λ _. other ≡ zone) [
@@ -108,6 +111,7 @@ only-torn drive n logs survey zone known next none = record {
   ];
 }
 
+-- if an option has a value, some number has the property that its value has
 pub some-of : (P : ℕ → Type 0) (o : Option ℕ) → is_some o ≡ true → IfSome o P → (k : ℕ) × P k
 some-of P None is holds = absurd (cc)
 some-of P (Some k) is holds = (k, holds)
@@ -117,7 +121,7 @@ none-of P None is holds = holds
 none-of P (Some k) is holds = absurd (cc)
 
 -- two are torn
-pub two-torn : (drive : DriveState) (n size : ℕ) (logs : List (List Batch)) (survey : Survey) (zone other : ℕ) → Knows drive n logs survey → IsNextTorn survey.scanned.items 0 zone → IsNextTorn survey.scanned.items (zone + 1) other → IsPastRepair drive.geometry size logs (zone_tails (contents drive.zones)) zone
+two-torn : (drive : DriveState) (n size : ℕ) (logs : List (List Batch)) (survey : Survey) (zone other : ℕ) → Knows drive n logs survey → IsNextTorn survey.scanned.items 0 zone → IsNextTorn survey.scanned.items (zone + 1) other → IsPastRepair drive.geometry size logs (zone_tails (contents drive.zones)) zone
 two-torn drive n size logs survey zone other known next second = record {
   torn = torn-at drive n logs survey zone known next.in_range next.torn;
   lowest = λ k before. not-torn drive n logs survey k known (next.lowest k (omega arith) before);
@@ -156,6 +160,7 @@ pub record CountsLive (drive : DriveState) (n : ℕ) (logs : List (List Batch)) 
   pub count : length (blocks_in drive.geometry.size zone 0 (map_of drive.geometry.size n logs)) ≡ live_records (encoded_size n logs) logs zone
   pub with_data : data_in drive.geometry.size zone (map_of drive.geometry.size n logs) ≡ live_data (encoded_size n logs) logs zone
 
+-- the map of a known drive counts a zone's live records, and the ones with data
 pub counts-live : (drive : DriveState) (n : ℕ) (logs : List (List Batch)) (survey : Survey) (zone : ℕ) → Knows drive n logs survey → CountsLive drive n logs zone
 counts-live drive n logs survey zone known =
     let size = drive.geometry.size in
@@ -175,14 +180,17 @@ after-sequences view (b ∷ bs) =
     let head : Head = record { sequence = b.heading.sequence; offset = view.blocks; end = length view.entries + length b.heading.entries } in
     after-sequences (with_heading view b.heading) bs ∙ ap (λ (ss : List ℕ). ss ++ log_sequences bs) (map-append (λ (h : Head). h.sequence) view.heads (head ∷ [])) ∙ append_assoc (head_sequences view.heads) (b.heading.sequence ∷ []) (log_sequences bs)
 
+-- the sequences in the headers of logs are the sequences of their batches
 pub sequences-kept : (logs : List (List Batch)) → sequences_in (map heads_of logs) ≡ sequences logs
 sequences-kept [] = refl
 sequences-kept (log ∷ logs) = rw (after-sequences no_heads log, sequences-kept logs) refl
 
+-- if the greatest sequence is far enough below a limit, all sequences are
 pub all-greatest : (limit count : ℕ) (ss : List ℕ) → greatest_sequence ss + count < limit → AllByRecursion (λ s. s + count < limit) ss
 all-greatest limit count [] lt = tt
 all-greatest limit count (s ∷ ss) lt = (omega (arith, lt), all-greatest limit count ss (omega (arith, lt)))
 
+-- if all sequences are far enough below a limit, the greatest one is
 pub greatest-all : (limit count : ℕ) (ss : List ℕ) → count < limit → AllByRecursion (λ s. s + count < limit) ss → greatest_sequence ss + count < limit
 greatest-all limit count [] few all = omega (arith, few)
 greatest-all limit count (s ∷ ss) few all = let rest = greatest-all limit count ss few all.1 in omega (arith, all.0, rest)
@@ -211,7 +219,8 @@ counted-by drive n logs survey tables zone count blocks with_data known placed c
       count_is = counted.count_is ∙ ap (moves (batch_most drive.geometry)) (ap length blocks_are ∙ lives.count);
     }
 
-pub past-repair : (drive : DriveState) (n : ℕ) (logs : List (List Batch)) (survey : Survey) (tables : TablesView) (zone count : ℕ) (blocks : List ℕ) (with_data : ℕ) → Knows drive n logs survey → IsPlaced drive.geometry n logs tables → Counted drive.geometry n tables zone count blocks with_data
+-- a torn zone is past repair if its live records do not fit in a zone
+past-repair : (drive : DriveState) (n : ℕ) (logs : List (List Batch)) (survey : Survey) (tables : TablesView) (zone count : ℕ) (blocks : List ℕ) (with_data : ℕ) → Knows drive n logs survey → IsPlaced drive.geometry n logs tables → Counted drive.geometry n tables zone count blocks with_data
     → IsNextTorn survey.scanned.items 0 zone → drive.geometry.capacity < count + with_data → IsPastRepair drive.geometry (encoded_size n logs) logs (zone_tails (contents drive.zones)) zone
 past-repair drive n logs survey tables zone count blocks with_data known placed counted next more =
     let by = counted-by drive n logs survey tables zone count blocks with_data known placed counted in
@@ -221,7 +230,8 @@ past-repair drive n logs survey tables zone count blocks with_data known placed 
       why = inr (omega (arith, more, by.count_is, by.data_is));
     }
 
-pub lacks-sequences : (drive : DriveState) (n : ℕ) (logs : List (List Batch)) (survey : Survey) (tables : TablesView) (zone count : ℕ) (blocks : List ℕ) (with_data greatest : ℕ) → Knows drive n logs survey → IsPlaced drive.geometry n logs tables → Counted drive.geometry n tables zone count blocks with_data
+-- a torn zone lacks sequences if too few are left after the greatest one
+lacks-sequences : (drive : DriveState) (n : ℕ) (logs : List (List Batch)) (survey : Survey) (tables : TablesView) (zone count : ℕ) (blocks : List ℕ) (with_data greatest : ℕ) → Knows drive n logs survey → IsPlaced drive.geometry n logs tables → Counted drive.geometry n tables zone count blocks with_data
     → IsNextTorn survey.scanned.items 0 zone → ((other : ℕ) → zone + 1 ≤ other → is_torn_in survey.scanned.items other ≡ false) → count + with_data ≤ drive.geometry.capacity
     → greatest ≡ greatest_sequence (sequences_in (heads_in survey.scanned.items)) → 2 ^ 63 ≤ greatest + count → LacksSequences drive.geometry (encoded_size n logs) logs (zone_tails (contents drive.zones))
 lacks-sequences drive n logs survey tables zone count blocks with_data greatest known placed counted next none room greatest-is late =
@@ -234,12 +244,14 @@ lacks-sequences drive n logs survey tables zone count blocks with_data greatest 
       lacks = λ all. (let lt = greatest-all (2 ^ 63) (moves (batch_most drive.geometry) (live_records (encoded_size n logs) logs zone)) (sequences logs) (omega (arith, room, by.count_is, known.zones.geometry.capacity, known.zones.geometry.size)) all in omega (arith, lt, late, same, by.count_is));
     }
 
+-- the only torn zone can be repaired, and its live blocks are known
 pub record PlansFit (drive : DriveState) (n : ℕ) (logs : List (List Batch)) (zone : ℕ) (blocks : List ℕ) : Type 0 where
   pub torn : IsOnlyTorn logs (zone_tails (contents drive.zones)) zone
   pub fits : Fits drive.geometry (2 ^ 63) (encoded_size n logs) logs zone
   pub blocks_are : blocks ≡ blocks_in drive.geometry.size zone 0 (map_of drive.geometry.size n logs)
 
-pub plans-fit : (drive : DriveState) (n : ℕ) (logs : List (List Batch)) (survey : Survey) (tables : TablesView) (zone count : ℕ) (blocks : List ℕ) (with_data greatest : ℕ) → Knows drive n logs survey → IsPlaced drive.geometry n logs tables → Counted drive.geometry n tables zone count blocks with_data
+-- the only torn zone can be repaired if its records fit and the sequences last
+plans-fit : (drive : DriveState) (n : ℕ) (logs : List (List Batch)) (survey : Survey) (tables : TablesView) (zone count : ℕ) (blocks : List ℕ) (with_data greatest : ℕ) → Knows drive n logs survey → IsPlaced drive.geometry n logs tables → Counted drive.geometry n tables zone count blocks with_data
     → IsNextTorn survey.scanned.items 0 zone → ((other : ℕ) → zone + 1 ≤ other → is_torn_in survey.scanned.items other ≡ false) → count + with_data ≤ drive.geometry.capacity
     → greatest ≡ greatest_sequence (sequences_in (heads_in survey.scanned.items)) → greatest + count < 2 ^ 63 → PlansFit drive n logs zone blocks
 plans-fit drive n logs survey tables zone count blocks with_data greatest known placed counted next none room greatest-is early =
@@ -256,10 +268,12 @@ plans-fit drive n logs survey tables zone count blocks with_data greatest known 
 
 -- ---- what the calls need
 
+-- the geometry is in range, and each zone was scanned
 pub record CanPlan (geometry : Geometry) (survey : Survey) : Type 0 where
   pub range : IsInRange geometry
   pub long : length survey.scanned.items ≡ geometry.zones
 
+-- if some drive was surveyed, its geometry is in range, and each zone was scanned
 pub can-plan : (geometry : Geometry) (n : ℕ) (survey : Survey) → WasSurveyed geometry n survey → CanPlan geometry survey
 can-plan geometry n survey was =
     let known = was.knows in
@@ -268,10 +282,12 @@ can-plan geometry n survey was =
       long = omega (arith, scanned-long was.drive n was.logs survey known, known.count, known.zones.lawful.count, ap (λ (g : Geometry). g.zones) was.geometry_is);
     }
 
+-- the tables have at most 2 ^ 31 blocks, and the zones of the drive
 pub record CanCount (geometry : Geometry) (tables : TablesView) : Type 0 where
   pub few : size_of tables ≤ 2 ^ 31
   pub zones : tables.map.zones ≡ geometry.zones
 
+-- tables that place the records of a survey have few blocks, and the drive's zones
 pub can-count : (geometry : Geometry) (n : ℕ) (survey : Survey) (tables : TablesView) → WasSurveyed geometry n survey → ((drive : DriveState) (logs : List (List Batch)) → drive.geometry ≡ geometry → Knows drive n logs survey → IsPlaced geometry n logs tables) → CanCount geometry tables
 can-count geometry n survey tables was places =
     let placed = places was.drive was.logs was.geometry_is was.knows in
@@ -312,11 +328,13 @@ ready-at geometry n survey tables zone count blocks with_data drive logs ready s
   counted = subst (λ (g : Geometry). Counted g n tables zone count blocks with_data) (sym same) ready.counted;
 }
 
+-- the lowest torn zone is past repair if another one is torn, too
 pub answer-two : (geometry : Geometry) (n : ℕ) (survey : Survey) (zone other : ℕ) → IsNextTorn survey.scanned.items 0 zone → IsNextTorn survey.scanned.items (zone + 1) other
     → (drive : DriveState) (logs : List (List Batch)) → drive.geometry ≡ geometry → Knows drive n logs survey → IsPastRepair geometry (encoded_size n logs) logs (zone_tails (contents drive.zones)) zone
 answer-two geometry n survey zone other next second drive logs same known =
     subst (λ (g : Geometry). IsPastRepair g (encoded_size n logs) logs (zone_tails (contents drive.zones)) zone) same (two-torn drive n (encoded_size n logs) logs survey zone other known next second)
 
+-- the torn zone is past repair if its live records do not fit in a zone
 pub answer-past : (geometry : Geometry) (n : ℕ) (survey : Survey) (tables : TablesView) (zone count : ℕ) (blocks : List ℕ) (with_data : ℕ) → IsReady geometry n survey tables zone count blocks with_data → geometry.capacity < count + with_data
     → (drive : DriveState) (logs : List (List Batch)) → drive.geometry ≡ geometry → Knows drive n logs survey → IsPastRepair geometry (encoded_size n logs) logs (zone_tails (contents drive.zones)) zone
 answer-past geometry n survey tables zone count blocks with_data ready more drive logs same known =
@@ -324,6 +342,7 @@ answer-past geometry n survey tables zone count blocks with_data ready more driv
     let more' : drive.geometry.capacity < count + with_data = subst (λ (g : Geometry). g.capacity < count + with_data) (sym same) more in
     subst (λ (g : Geometry). IsPastRepair g (encoded_size n logs) logs (zone_tails (contents drive.zones)) zone) same (past-repair drive n logs survey tables zone count blocks with_data known at.placed at.counted ready.next more')
 
+-- the torn zone lacks sequences if too few are left for its Moves
 pub answer-spent : (geometry : Geometry) (n : ℕ) (survey : Survey) (tables : TablesView) (zone count : ℕ) (blocks : List ℕ) (with_data greatest : ℕ) → IsReady geometry n survey tables zone count blocks with_data → count + with_data ≤ geometry.capacity
     → greatest ≡ greatest_sequence (sequences_in (heads_in survey.scanned.items)) → 2 ^ 63 ≤ greatest + count
     → (drive : DriveState) (logs : List (List Batch)) → drive.geometry ≡ geometry → Knows drive n logs survey → LacksSequences geometry (encoded_size n logs) logs (zone_tails (contents drive.zones))
@@ -332,17 +351,18 @@ answer-spent geometry n survey tables zone count blocks with_data greatest ready
     let room' : count + with_data ≤ drive.geometry.capacity = subst (λ (g : Geometry). count + with_data ≤ g.capacity) (sym same) room in
     subst (λ (g : Geometry). LacksSequences g (encoded_size n logs) logs (zone_tails (contents drive.zones))) same (lacks-sequences drive n logs survey tables zone count blocks with_data greatest known at.placed at.counted ready.next ready.none room' is late)
 
+-- the repair is right for its zone if the records fit and the sequences last
 pub answer-plan : (geometry : Geometry) (n : ℕ) (survey : Survey) (tables : TablesView) (zone count : ℕ) (blocks : List ℕ) (with_data greatest : ℕ) (repair : Repair) → repair.zone ≡ zone → repair.blocks.items ≡ blocks → repair.tables ≡ tables
     → IsReady geometry n survey tables zone count blocks with_data → count + with_data ≤ geometry.capacity → greatest ≡ greatest_sequence (sequences_in (heads_in survey.scanned.items)) → greatest + count < 2 ^ 63
-    → (drive : DriveState) (logs : List (List Batch)) → drive.geometry ≡ geometry → Knows drive n logs survey → IsPlan geometry n logs (zone_tails (contents drive.zones)) repair
+    → (drive : DriveState) (logs : List (List Batch)) → drive.geometry ≡ geometry → Knows drive n logs survey → IsRepairPlan geometry n logs (zone_tails (contents drive.zones)) repair
 answer-plan geometry n survey tables zone count blocks with_data greatest repair zone-is blocks-is tables-is ready room is early drive logs same known =
     let at = ready-at geometry n survey tables zone count blocks with_data drive logs ready same known in
     let room' : count + with_data ≤ drive.geometry.capacity = subst (λ (g : Geometry). count + with_data ≤ g.capacity) (sym same) room in
     let fits = plans-fit drive n logs survey tables zone count blocks with_data greatest known at.placed at.counted ready.next ready.none room' is early in
-    let plan : IsPlan drive.geometry n logs (zone_tails (contents drive.zones)) repair = record {
+    let plan : IsRepairPlan drive.geometry n logs (zone_tails (contents drive.zones)) repair = record {
       torn = rw zone-is fits.torn;
       fits = rw zone-is fits.fits;
       blocks = rw (zone-is, blocks-is) fits.blocks_are;
       placed = rw tables-is at.placed;
     } in
-    subst (λ (g : Geometry). IsPlan g n logs (zone_tails (contents drive.zones)) repair) same plan
+    subst (λ (g : Geometry). IsRepairPlan g n logs (zone_tails (contents drive.zones)) repair) same plan

@@ -108,6 +108,7 @@ live-made geometry n logs source plan some can =
       copies = copies-made geometry n logs source plan (move_count plan) (omega arith) can;
     }
 
+-- all Moves of a plan together are the Moves of a repair
 pub are-moves : (geometry : Geometry) (n : ℕ) (logs : List (List Batch)) (source : Source) (plan : MovePlan) → 1 ≤ plan.most → CanRepairBy geometry n logs source plan → AreRepairMoves geometry n logs plan.torn (moves_before source plan (move_count plan))
 are-moves geometry n logs source plan some can =
     let count = moves-count source plan (move_count plan) in
@@ -124,7 +125,7 @@ are-moves geometry n logs source plan some can =
 
 -- ---- the logs
 
--- no zone below an Empty one is vacant, if none is Empty
+-- no zone below a limit was reported Empty
 abbrev pub NoneEmptyBelow : List ReportedZone → ℕ → Type 0
 NoneEmptyBelow reported limit = (other : ℕ) (r : ReportedZone) → other < limit → slice_get reported other ≡ Some r → r.state ≢ states.Empty
 
@@ -133,6 +134,7 @@ none-vacant n drive survey torn into p none zone lt vacant =
     let there = in-get survey.zones.items zone (record { state = states.Empty; blocks = 0 }) (omega (arith, lt, p.in_range, p.known.zones.count)) in
     none zone there.0 lt there.1 (p.vacant zone there.0 there.1 vacant)
 
+-- a repair moves what is live to the lowest vacant zone, and empties the torn one
 pub torn-repaired : (n : ℕ) (start new : DriveState) (survey : Survey) (source : Source) (plan : MovePlan) (torn into : ℕ) → IsPrepared n start survey torn into → plan.torn ≡ torn → plan.into ≡ into → NoneEmptyBelow survey.zones.items into
     → CanRepairBy start.geometry n (drive_logs start) source plan → EmptiesTorn n start new plan (moves_before source plan (move_count plan)) → RepairsTorn start.geometry n (drive_logs start) torn (drive_logs new)
 torn-repaired n start new survey source plan torn into p torn_is into_is none can e = record {
@@ -147,5 +149,6 @@ torn-repaired n start new survey source plan torn into p torn_is into_is none ca
       ∙ ap (λ (z : ℕ). without (slice_set (drive_logs start) into (moves_before source plan (move_count plan))) z) torn_is;
 }
 
+-- a repair stays one with an equal geometry and equal logs
 pub repaired-since : (n torn : ℕ) (g h : Geometry) (start old new : List (List Batch)) → g ≡ h → start ≡ old → RepairsTorn g n start torn new → RepairsTorn h n old torn new
 repaired-since n torn g h start old new shape same is = subst (λ (x : Geometry). RepairsTorn x n old torn new) shape (subst (λ (logs : List (List Batch)). RepairsTorn g n logs torn new) same is)

@@ -73,16 +73,16 @@ pub record IsPlaced (geometry : Geometry) (n : ℕ) (logs : List (List Batch)) (
   pub given : tables.given ≡ n
 
 -- The one torn zone of a cleared drive can be repaired; all blocks whose newest record is there are known, and the places of all blocks.
-pub record IsPlan (geometry : Geometry) (n : ℕ) (logs : List (List Batch)) (tails : List Bool) (repair : Repair) : Type 0 where
+pub record IsRepairPlan (geometry : Geometry) (n : ℕ) (logs : List (List Batch)) (tails : List Bool) (repair : Repair) : Type 0 where
   pub torn : IsOnlyTorn logs tails repair.zone
   pub fits : Fits geometry (2 ^ 63) (encoded_size n logs) logs repair.zone
   pub blocks : repair.blocks.items ≡ blocks_in geometry.size repair.zone 0 (map_of geometry.size n logs)
   pub placed : IsPlaced geometry n logs repair.tables
 
 -- which repair a cleared drive needs
-abbrev pub Plans : Geometry → ℕ → List (List Batch) → List Bool → Option Repair → Type 0
-Plans geometry n logs tails None = NoneIsTorn logs tails
-Plans geometry n logs tails (Some repair) = IsPlan geometry n logs tails repair
+abbrev pub PlansRepair : Geometry → ℕ → List (List Batch) → List Bool → Option Repair → Type 0
+PlansRepair geometry n logs tails None = NoneIsTorn logs tails
+PlansRepair geometry n logs tails (Some repair) = IsRepairPlan geometry n logs tails repair
 
 -- ---- the drive that is left
 
@@ -232,7 +232,7 @@ pub record IsPlanned (drive : DriveState) (n : ℕ) (survey : Survey) (plan : Pl
   pub vacant : AreToEmpty (drive_logs drive) survey plan.vacant.items
   pub clearing : IsClearing drive.geometry.block n (drive_logs drive) plan.half_clean.items
   pub known : Knows drive n (cleared (drive_logs drive) plan.half_clean.items) survey
-  pub repair : Plans drive.geometry n (cleared (drive_logs drive) plan.half_clean.items) (zone_tails (contents drive.zones)) plan.repair
+  pub repair : PlansRepair drive.geometry n (cleared (drive_logs drive) plan.half_clean.items) (zone_tails (contents drive.zones)) plan.repair
 
 -- Why a drive is refused whose headers have no fault.
 abbrev pub PlanFails : DriveState → ℕ → MountFault → Type 0

@@ -3,7 +3,7 @@ ghost use Rattle.drive_port.specs.Contents.{Resets, contents};
 ghost use Rattle.drive_survey.specs.Scan.{AreKnown, IsInterruption};
 ghost use Rattle.drive_array.specs.ZoneLogs.{drive_logs, zone_tails};
 ghost use Rattle.remount.specs.Kept.{KeepsMountable, NotesNoneOpen};
-ghost use Rattle.remount.specs.Mount.{IsCleared, IsPlanned, LeavesEmptied, Plans};
+ghost use Rattle.remount.specs.Mount.{IsCleared, IsPlanned, LeavesEmptied, PlansRepair};
 ghost use Rattle.remount.specs.Resets.{MayChange, MayReset, ResetsAll};
 
 use crate::plan::Plan;
@@ -19,10 +19,13 @@ fn reset_zone<D: Device>(
     survey: &mut Survey,
     zone: u32,
 ) -> Result<(), MountFault>
+    // The report is true of all zones, and this is one of them.
     requires zones { AreKnown (D.drive device.old) survey.old.zones.items }
     requires in_range { zone < length survey.old.zones.items }
     requires scanned { length survey.old.scanned.items ≡ length survey.old.zones.items }
+    // Done, the zone is Empty, and the survey says so. Nothing else has changed.
     ensures ok { OnOk result (ResetsAll (D.drive device.old) (D.drive device.new) survey.old survey.new (zone ∷ [])) }
+    // It fails only if the drive stops or memory runs out. At most this zone was reset, and nothing was refused.
     ensures err { IfErr result (IsInterruption (D.drive device.new)) }
     ensures kept { MayChange (λ old new. Resets old new zone) (D.drive device.old) (D.drive device.new) }
 {
@@ -45,11 +48,14 @@ fn reset_zones<D: Device>(
     survey: &mut Survey,
     zones: &[u32],
 ) -> Result<(), MountFault>
+    // The report is true of all zones. When its turn comes, each of these is vacant or the lowest half clean one.
     requires zones { AreKnown (D.drive device.old) survey.old.zones.items }
     requires scanned { length survey.old.scanned.items ≡ length survey.old.zones.items }
     requires may { MayReset (D.drive device.old).geometry.block survey.old.given
         (drive_logs (D.drive device.old)) zones.now }
+    // Done, these zones are Empty, and the survey says so. Nothing else has changed.
     ensures ok { OnOk result (ResetsAll (D.drive device.old) (D.drive device.new) survey.old survey.new zones.now) }
+    // It fails only if the drive stops or memory runs out. A drive that can be mounted stays so, with the same array.
     ensures err { IfErr result (IsInterruption (D.drive device.new)) }
     ensures kept { KeepsMountable survey.old.given (D.drive device.old) (D.drive device.new) }
 {
@@ -68,10 +74,14 @@ pub(crate) fn empty_zones<D: Device>(
     plan: &Plan,
 ) -> Result<(), MountFault>
     requires planned { IsPlanned (D.drive device.old) survey.old.given survey.old plan.now }
+    // Done, no zone is half clean any more, and each zone without a batch is Empty.
     ensures cleared { OnOk result (IsCleared (D.drive device.new) survey.old.given survey.new) }
+    // Each zone that has a batch holds what it held. No zone was opened, or is newly noted as open.
     ensures left { OnOk result (LeavesEmptied (D.drive device.old) (D.drive device.new) plan.now.half_clean.items) }
     ensures noted { OnOk result (NotesNoneOpen survey.old.zones.items survey.new.zones.items) }
+    // It fails only if the drive stops or memory runs out.
     ensures err { IfErr result (IsInterruption (D.drive device.new)) }
+    // Whatever it answers, no command was refused. The drive can still be mounted, with the same array.
     ensures kept { KeepsMountable survey.old.given (D.drive device.old) (D.drive device.new) }
 {
     reset_zones(alloc, device, survey, &plan.vacant)?;

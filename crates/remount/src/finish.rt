@@ -20,9 +20,12 @@ pub(crate) fn finish_zone<D: Device>(
     survey: &mut Survey,
     zone: u32,
 ) -> Result<(), MountFault>
+    // The report is true of all zones, and this is one of them.
     requires zones { AreKnown (D.drive device.old) survey.old.zones.items }
     requires in_range { zone < length survey.old.zones.items }
+    // Done, the zone is Full, and the survey says so. Nothing else has changed.
     ensures ok { OnOk result (FinishesOne (D.drive device.old) (D.drive device.new) survey.old survey.new zone) }
+    // It fails only if the drive stops or memory runs out. At most this zone was finished, and nothing was refused.
     ensures err { IfErr result (IsInterruption (D.drive device.new)) }
     ensures kept { MayChange (λ old new. Finishes old new zone) (D.drive device.old) (D.drive device.new) }
 {
@@ -53,10 +56,13 @@ fn finish_if_due<D: Device>(
     survey: &mut Survey,
     zone: u32,
 ) -> Result<(), MountFault>
+    // The report is true of all zones, and this is one of them.
     requires zones { AreKnown (D.drive device.old) survey.old.zones.items }
     requires in_range { zone < length survey.old.zones.items }
     requires scanned { length survey.old.scanned.items ≡ length survey.old.zones.items }
+    // Done, the zone is Full if that was due. Else nothing has changed.
     ensures ok { OnOk result (FinishesIf (D.drive device.old) (D.drive device.new) survey.old survey.new zone) }
+    // It fails only if the drive stops or memory runs out. At most this zone was finished, and only if due.
     ensures err { IfErr result (IsInterruption (D.drive device.new)) }
     ensures kept { MayChange (λ old new. Finishes old new zone
         × IsTested (D.drive device.old).geometry.capacity
@@ -79,11 +85,15 @@ pub(crate) fn finish_zones<D: Device>(
     survey: &mut Survey,
 ) -> Result<(), MountFault>
     requires untorn { IsUntorn (D.drive device.old) survey.old.given survey.old }
+    // Done, a disk can serve the drive, and continue with each zone that is partly written.
     ensures repaired { OnOk result (IsRepaired (D.drive device.new) survey.old.given survey.new) }
+    // No batch has changed. Zones that a disk continues with hold what they held, and no zone was opened.
     ensures logs { OnOk result (drive_logs (D.drive device.new) ≡ drive_logs (D.drive device.old)) }
     ensures needed { OnOk result (FinishesNeeded (D.drive device.old) (D.drive device.new)) }
     ensures noted { OnOk result (NotesNoneOpen survey.old.zones.items survey.new.zones.items) }
+    // It fails only if the drive stops or memory runs out.
     ensures err { IfErr result (IsInterruption (D.drive device.new)) }
+    // Whatever it answers, no command was refused. The drive can still be mounted, with the same array.
     ensures kept { KeepsMountable survey.old.given (D.drive device.old) (D.drive device.new) }
 {
     for zone in 0..survey.zones.len() {

@@ -15,13 +15,10 @@
 //!   emptied, which can be repaired. Then the tables agree with the drive that is left, which encodes the same array
 //!   (`Mounts` in specs/Mount).
 //! * No zone is finished without need. If no zone is torn, each zone that still has a batch holds what it held,
-//!   unless
-//!   it is partly written with fewer than two free blocks or with a batch of more entries than ours. Beside a torn zone
-//!   all zones are finished that are opened or Closed. The zone that takes its Moves stays open if two of its blocks
-//!   are
-//!   free, and no other zone is opened (`FinishesByNeed` in specs/Mount). The tables note a zone as one that may be
-//!   open
-//!   only if it was open before, or took these Moves (`may_open` of `Mounts`).
+//!   unless it is partly written with fewer than two free blocks or with a batch of more entries than ours. Beside a
+//!   torn zone all zones are finished that are opened or Closed. The zone that takes its Moves stays open if two of
+//!   its blocks are free, and no other zone is opened (`FinishesByNeed` in specs/Mount). The tables note a zone as
+//!   one that may be open only if it was open before, or took these Moves (`may_open` of `Mounts`).
 //! * Each fault but `Halted` and `OutOfMemory` is the first one, in the order in which a mount looks (`MountFails`),
 //!   and leaves the drive unchanged, except that its controller may have closed zones (`KeepsZones` in
 //!   drive_survey/specs/Reported).

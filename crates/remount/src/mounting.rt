@@ -8,7 +8,7 @@ ghost use Rattle.drive_array.specs.ZoneLogs.{drive_logs, zone_tails};
 ghost use Rattle.remount.specs.Kept.{KeepsMountable, NotesFilledOpen};
 ghost use Rattle.remount.specs.Mount.{FinishesByNeed, IsCleared, IsPlanned, IsRepaired, IsToMount, IsUntorn};
 ghost use Rattle.remount.specs.Mount.{LeavesBeside, LeavesCleared, LeavesPlanned, MountFails, Mounts};
-ghost use Rattle.remount.specs.Mount.{NotesOpenByNeed, Plans};
+ghost use Rattle.remount.specs.Mount.{NotesOpenByNeed, PlansRepair};
 
 use crate::empty::empty_zones;
 use crate::finish::finish_zones;
@@ -27,15 +27,19 @@ fn repair_torn<D: Device>(
     survey: &mut Survey,
     repair: &Option<Repair>,
 ) -> Result<(), MountFault>
+    // The drive is cleared, and this is the repair that it needs.
     requires cleared { IsCleared (D.drive device.old) survey.old.given survey.old }
-    requires plan { Plans (D.drive device.old).geometry survey.old.given (drive_logs (D.drive device.old))
+    requires plan { PlansRepair (D.drive device.old).geometry survey.old.given (drive_logs (D.drive device.old))
         (zone_tails (contents (D.drive device.old).zones)) repair.now }
+    // Done, no zone is torn. The batches are the same, except for what the repair has moved.
     ensures ok { OnOk result (IsUntorn (D.drive device.new) survey.old.given survey.new) }
     ensures left { OnOk result (LeavesPlanned (D.drive device.old).geometry survey.old.given
         (drive_logs (D.drive device.old)) repair.now (drive_logs (D.drive device.new))) }
+    // Without a torn zone the drive is unchanged. Else at most the zone of the Moves is opened or Closed.
     ensures beside { OnOk result (LeavesBeside (D.drive device.old) repair.now (D.drive device.new)) }
     ensures noted { OnOk result (NotesFilledOpen (D.drive device.old) (D.drive device.new) survey.old.zones.items
         survey.new.zones.items) }
+    // It fails only if the drive stops or memory runs out. A drive that can be mounted stays so, with the same array.
     ensures err { IfErr result (IsInterruption (D.drive device.new)) }
     ensures kept { KeepsMountable survey.old.given (D.drive device.old) (D.drive device.new) }
 {
@@ -53,12 +57,15 @@ fn carry_out<D: Device>(
     plan: &Plan,
 ) -> Result<(), MountFault>
     requires planned { IsPlanned (D.drive device.old) survey.old.given survey.old plan.now }
+    // Done, a disk can serve the drive. The half clean zones were emptied, and a torn one was repaired, if any.
     ensures repaired { OnOk result (IsRepaired (D.drive device.new) survey.old.given survey.new) }
     ensures left { OnOk result (LeavesCleared survey.old.given (D.drive device.old) plan.now.half_clean.items
         (D.drive device.new)) }
+    // No zone was finished, opened or newly noted as open without need.
     ensures zones { OnOk result (FinishesByNeed (D.drive device.old) plan.now.half_clean.items (D.drive device.new)) }
     ensures noted { OnOk result (NotesOpenByNeed (D.drive device.old) plan.now.half_clean.items (D.drive device.new)
         survey.old.zones.items survey.new.zones.items) }
+    // It fails only if the drive stops or memory runs out. A drive that can be mounted stays so, with the same array.
     ensures err { IfErr result (IsInterruption (D.drive device.new)) }
     ensures kept { KeepsMountable survey.old.given (D.drive device.old) (D.drive device.new) }
 {
@@ -70,13 +77,17 @@ fn carry_out<D: Device>(
 /// Mounts a drive: checks it, repairs what a stop left, and finds where each block is. `given` is how many logical
 /// blocks the drive has if no header says how many.
 pub fn mount<D: Device>(alloc: Global, device: &mut D, given: u64) -> Result<Tables, MountFault>
+    // Done, the drive is cleared and repaired, with the same array, and the tables agree with it.
     ensures ok { IfOk result (Mounts (D.drive device.old) (D.drive device.new) given) }
+    // A fault is the first that is met, and changes no zone, unless the drive stops or memory runs out.
     ensures err { IfErr result (FailsBy (MountFails (D.drive device.old) given) (D.drive device.new)) }
     ensures refused { IfErr result (λ fault. fault ≢ faults.Halted → fault ≢ faults.OutOfMemory
         → KeepsZones (D.drive device.old) (D.drive device.new)) }
+    // Only a drive that can be mounted is changed. It still can be, with the same array, and no command was refused.
     ensures early { IfErr result (λ _. KeepsZones (D.drive device.old) (D.drive device.new)
         ⊎ IsToMount (D.drive device.old) given) }
     ensures kept { KeepsMountable given (D.drive device.old) (D.drive device.new) }
+    // Nothing is sent if the geometry is out of range, or if the reserve does not allow the number.
     ensures unsent { (MayAsk (D.drive device.old) given → ⊥) → D.drive device.new ≡ D.drive device.old }
 {
     let geometry = device.geometry();

@@ -65,11 +65,15 @@ pub fn plan_mount<D: Device>(
     device: &mut D,
     survey: &mut Survey,
 ) -> Result<Plan, MountFault>
+    // The survey knows the drive with all its batches, and has found no fault.
     requires known { Knows (D.drive device.old) survey.old.given (drive_logs (D.drive device.old)) survey.old }
     requires can { CanScan (D.drive device.old) survey.old.given }
+    // Done, the drive can be mounted, and the plan says what is to be done to it. The report is the same.
     ensures ok { IfOk result (IsPlanned (D.drive device.new) survey.old.given survey.new) }
     ensures zones { OnOk result (survey.new.zones ≡ survey.old.zones) }
+    // A fault says why the drive cannot be cleared or repaired, unless it stops or memory runs out.
     ensures err { IfErr result (FailsBy (PlanFails (D.drive device.old) survey.old.given) (D.drive device.new)) }
+    // Whatever it answers, no command was refused, and the zones hold what they held.
     ensures kept { KeepsZones (D.drive device.old) (D.drive device.new) }
 {
     let geometry = device.geometry();

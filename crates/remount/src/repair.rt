@@ -3,7 +3,7 @@ ghost use Rattle.drive_port.specs.Contents.{contents};
 ghost use Rattle.drive_survey.specs.Scan.{IsInterruption};
 ghost use Rattle.drive_array.specs.ZoneLogs.{drive_logs, zone_tails};
 ghost use Rattle.remount.specs.Kept.{KeepsMountable, NotesFilledOpen};
-ghost use Rattle.remount.specs.Mount.{IsCleared, IsPlan, IsUntorn};
+ghost use Rattle.remount.specs.Mount.{IsCleared, IsRepairPlan, IsUntorn};
 ghost use Rattle.remount.specs.TornRepair.{RepairsBeside, RepairsTorn};
 
 mod beside;
@@ -39,16 +39,21 @@ pub fn repair_zone<D: Device>(
     survey: &mut Survey,
     repair: &Repair,
 ) -> Result<(), MountFault>
+    // The drive is cleared, and the repair is planned for its one torn zone.
     requires cleared { IsCleared (D.drive device.old) survey.old.given survey.old }
-    requires plan { IsPlan (D.drive device.old).geometry survey.old.given (drive_logs (D.drive device.old))
+    requires plan { IsRepairPlan (D.drive device.old).geometry survey.old.given (drive_logs (D.drive device.old))
         (zone_tails (contents (D.drive device.old).zones)) repair.now }
+    // Done, no zone is torn. What was live in the torn zone is in the Moves, and the zone has no batch.
     ensures untorn { OnOk result (IsUntorn (D.drive device.new) survey.old.given survey.new) }
     ensures repaired { OnOk result (RepairsTorn (D.drive device.old).geometry survey.old.given
         (drive_logs (D.drive device.old)) repair.now.zone (drive_logs (D.drive device.new))) }
+    // At most the zone of the Moves is opened or Closed now, and only it is newly noted as open.
     ensures beside { OnOk result (RepairsBeside (D.drive device.old) (D.drive device.new) repair.now.zone) }
     ensures noted { OnOk result (NotesFilledOpen (D.drive device.old) (D.drive device.new) survey.old.zones.items
         survey.new.zones.items) }
+    // It fails only if the drive stops or memory runs out.
     ensures err { IfErr result (IsInterruption (D.drive device.new)) }
+    // Whatever it answers, no command was refused. The drive can still be mounted, with the same array.
     ensures kept { KeepsMountable survey.old.given (D.drive device.old) (D.drive device.new) }
 {
     finish_beside(alloc, device, survey, repair.zone)?;

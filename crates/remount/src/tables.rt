@@ -28,15 +28,18 @@ pub fn mounted_tables(
     geometry: &Geometry,
     next: u64,
 ) -> Result<Tables, AllocError>
+    // Done, the tables agree with a repaired drive, if all its sequences are below the next one.
     ensures agrees { IfOk result (λ tables. (drive : DriveState) → drive.geometry ≡ geometry.now
         → IsRepaired drive survey.now.given survey.now
         → AllByRecursion (λ sequence. sequence < next) (sequences (drive_logs drive)) → next ≤ 2 ^ 63
         → Agrees (mounted drive tables)) }
+    // The zones to fill are partly written, with two free blocks. One that may be open was noted as open.
     ensures roles { IfOk result (λ tables. (drive : DriveState) → drive.geometry ≡ geometry.now
         → IsRepaired drive survey.now.given survey.now
         → AreMountedRoles geometry.now.capacity (contents drive.zones) tables.roles) }
     ensures noted { IfOk result (λ tables. AllByRecursion (λ filling. filling.may_open ≡ true
         → IsNotedOpen survey.now.zones.items filling.zone) (fillings tables.roles)) }
+    // The next sequence is the given one, and the number given to the mount is kept.
     ensures next { IfOk result (λ tables. tables.next ≡ next) }
     ensures given { IfOk result (λ tables. tables.given ≡ survey.now.given) }
 {

@@ -10,6 +10,7 @@ one-cond : (b : Bool) → one_where b ≡ cond {A = ℕ} b 1 0
 one-cond true = refl
 one-cond false = refl
 
+-- a truth value counts as one at most
 pub one-small : (b : Bool) → one_where b ≤ 1
 one-small true = omega arith
 one-small false = omega arith

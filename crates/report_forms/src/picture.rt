@@ -147,7 +147,7 @@ fn write_written<Z: ReportedZones>(
     state: ZoneState,
 ) -> Result<(), AllocError>
     requires count { length (Z.zones zones.now) ≡ geometry.now.zones }
-    requires range { IsInRange geometry.now }
+    requires in_range { IsInRange geometry.now }
 {
     let grid = grid_of(geometry.zones);
     for number in 0..geometry.zones {
@@ -206,7 +206,7 @@ fn write_state<Z: ReportedZones>(
     state: ZoneState,
 ) -> Result<(), AllocError>
     requires count { length (Z.zones zones.now) ≡ geometry.now.zones }
-    requires range { IsInRange geometry.now }
+    requires in_range { IsInRange geometry.now }
 {
     let shade = shade(state);
     write!(
@@ -269,7 +269,7 @@ pub fn zones_svg<Z: ReportedZones>(
     live: &[u32],
 ) -> Result<String, AllocError>
     requires count { length (Z.zones zones.now) ≡ geometry.now.zones }
-    requires range { IsInRange geometry.now }
+    requires in_range { IsInRange geometry.now }
 {
     let grid = grid_of(geometry.zones);
     let rows = u64::from(geometry.zones.div_ceil(grid.columns));

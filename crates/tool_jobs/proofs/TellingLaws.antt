@@ -9,6 +9,7 @@ module _ {A : Type 0} (Is : A → Type 0) (Shows : A → List ℕ → Type 0) (o
   pub told : TellsText (Shows found) old new → TellsFound Is Shows old new
   told tells = record { found = found; is_it = is_it; tells = tells }
 
+  -- if all went well and its text is written, what was found is told
   pub told-ok : {T : Type 0} (result : Result T ToolFault) → OnOk result (TellsText (Shows found) old new) → OnOk result (TellsFound Is Shows old new)
   told-ok (Ok done) tells = told tells
   told-ok (Err fault) tells = tt
@@ -17,6 +18,7 @@ module _ {A : Type 0} (Is : A → Type 0) (Shows : A → List ℕ → Type 0) (o
   pub untold : (HasNone : ToolFault → Type 0) (fault : ToolFault) → IsUnwrittenText (Shows found) fault old new → TellsNothing HasNone Is Shows fault old new
   untold HasNone fault why = inr (record { found = found; is_it = is_it; untold = why })
 
+  -- if a fault keeps its text unwritten, what was found is not told
   pub untold-err : (HasNone : ToolFault → Type 0) {T : Type 0} (result : Result T ToolFault) → IfErr result (λ fault. IsUnwrittenText (Shows found) fault old new)
       → IfErr result (λ fault. TellsNothing HasNone Is Shows fault old new)
   untold-err HasNone (Ok done) why = tt

@@ -8,7 +8,8 @@ use Rattle.drive_array.specs.Reserve.{FitsReserve}
 pub fits_below : (geometry : Geometry) (a b : ℕ) → FitsReserve geometry b → 1 ≤ a → a ≤ b → FitsReserve geometry a
 fits_below geometry a b (one, below, (quota, is, most)) low le = (low, omega arith, (quota, is, omega arith))
 
-pub percent_below : (n p : ℕ) → p ≤ 100 → n * p / 100 ≤ n
+-- a share of at most 100 percent is no more than the whole
+percent_below : (n p : ℕ) → p ≤ 100 → n * p / 100 ≤ n
 percent_below n p le = div-le_of_le-mul 100 (grind arith)
 
 -- a share of the greatest number

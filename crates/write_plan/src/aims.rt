@@ -116,7 +116,7 @@ fn one_row(alloc: Global, row: Row) -> Result<Vec<Row>, PlanFault>
 /// The rows of a plan. `Limits`: the geometry is out of range. `Reserve`: the drive cannot serve that many blocks; the
 /// fault has the greatest number. `Share`: that is no percentage. `Amplification`: no number keeps that.
 pub fn plan(alloc: Global, geometry: &Geometry, aim: Aim) -> Result<Vec<Row>, PlanFault>
-    ensures range { OnOk result (IsInRange geometry.now) }
+    ensures in_range { OnOk result (IsInRange geometry.now) }
     ensures rows { IfOk result (λ rows. AreRows geometry.now rows.items) }
     ensures aimed { IfOk result (λ rows. AreAimed geometry.now aim rows.items) }
     ensures err { IfErr result (IsPlanFault geometry.now aim) }

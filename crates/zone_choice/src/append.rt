@@ -52,12 +52,14 @@ fn data_blocks(entry: Entry) -> u64
 /// Places the blocks of a batch whose header is at this address, and answers how many blocks the batch
 /// takes, its header included.
 fn place_blocks(tables: &mut Tables, entries: &[Entry], header: u64) -> u32
+    // Each block is the disk's, is named once, and is ready to be placed. All numbers are in range.
     requires in_range { AllByRecursion (λ e. e.block < size_of tables.old) entries.now }
     requires ready { AllByRecursion (λ e. IsReady tables.old.map e.block) entries.now }
     requires distinct { IsDistinct nat_eq (map (λ e. e.block) entries.now) }
     requires few { length entries.now < 2 ^ 31 }
     requires size { size_of tables.old ≤ 2 ^ 31 }
     requires fits { header < 2 ^ 62 }
+    // Then trims are at the header and data at its own address, and nothing else of the tables has changed.
     ensures placed { tables.new ≡ with_places tables.old
         (placed header (header + 1) entries.now tables.old.map.places) }
     ensures blocks { result ≡ 1 + data_count entries.now }
@@ -82,10 +84,13 @@ fn grow_to(tables: &mut Tables, size: Option<u32>)
 
 /// Sends Close to the zone that is being filled beside this one, if it may be open. A full one is not.
 fn send_close<D: Device>(disk: &mut Mounted<D>, zone: u32) -> Result<(), Halt>
+    // Tables and drive agree, and this zone is being filled.
     requires agrees { Agrees disk.old }
     requires filling { is_filling_at disk.old.tables.roles zone ≡ true }
+    // Contents and tables never change. Done, the drive agrees with tables that call the other zone closed.
     ensures leaves { CloseBesideLeaves disk.old.drive disk.old.tables zone disk.new.drive result }
     ensures kept { disk.new.tables ≡ disk.old.tables }
+    // It completes one command at most, and none unless another zone may be open that is not full.
     ensures completed { disk.new.drive.completed
         ≤ disk.old.drive.completed + closes_beside disk.old zone }
 {
@@ -96,8 +101,7 @@ fn send_close<D: Device>(disk: &mut Mounted<D>, zone: u32) -> Result<(), Halt>
     if other.written == geometry.capacity {
         return Ok(());
     }
-    let start = other.zone as u64 * geometry.size as u64;
-    if let Err(fault) = close(disk.alloc, &mut disk.device, start) {
+    if let Err(fault) = close(disk.alloc, &mut disk.device, geometry.start_of(other.zone)) {
         return Err(halt_of(fault));
     }
     Ok(())
@@ -105,9 +109,12 @@ fn send_close<D: Device>(disk: &mut Mounted<D>, zone: u32) -> Result<(), Halt>
 
 /// At an open limit of 1, makes this zone the only one that may be open.
 fn close_beside<D: Device>(disk: &mut Mounted<D>, zone: u32) -> Result<(), Halt>
+    // Tables and drive agree, and this zone is being filled.
     requires agrees { Agrees disk.old }
     requires filling { is_filling_at disk.old.tables.roles zone ≡ true }
+    // The contents never change. Done at a limit of 1, the tables call the other zone closed, and the drive agrees.
     ensures leaves { AloneLeaves disk.old disk.new zone result }
+    // It completes one command at most, and none at a greater limit.
     ensures completed { disk.new.drive.completed
         ≤ disk.old.drive.completed + closes_before disk.old zone }
 {
@@ -125,14 +132,17 @@ fn append_alone<D: Device>(
     zone: u32,
     batch: &BatchBuilder,
 ) -> Result<(), Halt>
+    // The batch is the next one, and the zone can take it. At an open limit of 1 no other zone may be open.
     requires built { IsBuilt disk.old.drive.geometry.block batch.now }
     requires can { CanPlace disk.old zone (built_for disk.old batch.now) }
     requires alone { roles_alone disk.old.drive.geometry disk.old.tables.roles zone
         ≡ disk.old.tables.roles }
+    // Done, it has appended the batch, and tables and drive agree. Refused, it has not, unless the drive stopped.
     ensures leaves { BatchLeaves disk.old disk.new zone (built_for disk.old batch.now) result }
+    // It completes one command at most.
     ensures completed { disk.new.drive.completed ≤ disk.old.drive.completed + 1 }
 {
-    let start = zone as u64 * disk.geometry().size as u64;
+    let start = disk.geometry().start_of(zone);
     match append(disk.alloc, &mut disk.device, start, batch.bytes()) {
         Ok(address) => {
             grow_to(&mut disk.tables, batch.size());
@@ -154,9 +164,12 @@ pub fn append_batch<D: Device>(
     zone: u32,
     batch: &BatchBuilder,
 ) -> Result<(), Halt>
+    // The batch is the next one, its blocks are ready to be placed, and the zone has room for it.
     requires built { IsBuilt disk.old.drive.geometry.block batch.now }
     requires can { CanPlace disk.old zone (built_for disk.old batch.now) }
+    // Done, it has appended the batch, and tables and drive agree. Refused, it has not, unless the drive stopped.
     ensures leaves { BatchLeaves disk.old disk.new zone (built_for disk.old batch.now) result }
+    // It completes one command at most, or two at an open limit of 1.
     ensures completed { disk.new.drive.completed
         ≤ disk.old.drive.completed + closes_before disk.old zone + 1 }
 {

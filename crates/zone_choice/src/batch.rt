@@ -100,8 +100,10 @@ impl BatchBuilder {
 
     /// Writes the header block of the batch, `block_bytes` bytes: 512 or 4,096.
     pub fn encode(&mut self, block_bytes: u32) -> Result<(), AllocError>
+        // A block of this size can hold the header: its numbers are in range, and no block is named twice.
         requires block { (block_bytes ≡ 512) ⊎ (block_bytes ≡ 4096) }
         requires heading { IsHeading block_bytes self.old.heading }
+        // The heading never changes. Done, the bytes are its header block, without data.
         ensures heading { self.new.heading ≡ self.old.heading }
         ensures bytes { OnOk result (self.new.bytes ≡ header_block block_bytes self.old.heading) }
     {
@@ -125,9 +127,11 @@ impl BatchBuilder {
     /// Writes the header block of the batch into its room, before the data that is there: 512 or 4,096 bytes. It
     /// allocates nothing.
     pub fn encode_before_data(&mut self, block_bytes: u32)
+        // There is room for a block of this size, and it can hold the header.
         requires block { (block_bytes ≡ 512) ⊎ (block_bytes ≡ 4096) }
         requires room { block_bytes ≤ length self.old.bytes }
         requires heading { IsHeading block_bytes self.old.heading }
+        // The heading never changes. Its header block replaces the first bytes, and the data after it is the same.
         ensures heading { self.new.heading ≡ self.old.heading }
         ensures bytes { self.new.bytes
             ≡ header_block block_bytes self.old.heading ++ drop block_bytes self.old.bytes }
@@ -214,9 +218,11 @@ impl BatchBuilder {
 
 /// Writes a header block over the bytes after the first `front`.
 fn write_header(header: &Header, bytes: &mut [u8], front: usize, block_bytes: usize)
+    // There is room for a block of this size, and it can hold the header.
     requires block { (block_bytes ≡ 512) ⊎ (block_bytes ≡ 4096) }
     requires room { front + block_bytes ≤ length bytes.old }
     requires heading { IsHeading block_bytes (heading_of header.now) }
+    // After the first `front` bytes comes the header block. What follows it is the same, and so is the length.
     ensures bytes { drop front bytes.new
         ≡ header_block block_bytes (heading_of header.now) ++ drop block_bytes
         (drop front bytes.old) }

@@ -102,12 +102,12 @@ impl Tables {
     }
 
     /// The first of the blocks from `from` on that are in a zone, with its place.
-    pub fn records_of(&mut self, zone: u32, from: u32) -> Option<(u32, Place)>
+    pub fn first_record(&mut self, zone: u32, from: u32) -> Option<(u32, Place)>
         requires { zone < self.old.map.zones }
         ensures first { result ≡ first_record self.old.map zone from }
         ensures kept { self.new ≡ self.old }
     {
-        self.map.records_of(zone, from)
+        self.map.first_record(zone, from)
     }
 
     /// How many logical blocks the mount was given: there are as many if no header has a size.
@@ -148,8 +148,10 @@ impl Tables {
     /// Makes room for the places of `count` blocks from `first` on, and to note them in a zone. Where an
     /// allocation fails, there is room for some of them.
     pub fn reserve(&mut self, zone: u32, first: u32, count: u32) -> Result<(), AllocError>
+        // The blocks are the disk's, and their numbers fit in 32 bits.
         requires in_range { first + count ≤ size_of self.old }
         requires few { first + count < 2 ^ 32 }
+        // Done, each is ready to be placed. Whatever it answers, nothing changes except which blocks are ready.
         ensures ok { OnOk result (AreReserved self.new.map first count) }
         ensures kept { SameButReady self.old self.new }
     {
@@ -238,10 +240,12 @@ impl Tables {
 
     /// Places a block that room was made for.
     pub fn place(&mut self, block: u32, place: Place)
+        // The block is the disk's and is ready to be placed, and all numbers are in range.
         requires in_range { block < size_of self.old }
         requires ready { IsReady self.old.map block }
         requires fits { place_address place + 1 < 2 ^ 63 }
         requires few { size_of self.old ≤ 2 ^ 31 }
+        // Then this is its place, and nothing else has changed.
         ensures { self.new ≡ with_places self.old (slice_set self.old.map.places block place) }
     {
         let moved = self.map.set(block, place);

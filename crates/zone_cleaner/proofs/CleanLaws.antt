@@ -4,7 +4,7 @@ use Rattle.std.specs.List.{slice_get}
 use Rattle.std.specs.Option.{option_map}
 use Rattle.std.proofs.lemmas.List.{length-append}
 use Rattle.zone_states.specs.declared.geometry.Geometry.{Geometry}
-use Rattle.logical_map.specs.Live.{first_record, live, records_of}
+use Rattle.logical_map.specs.Live.{blocks_in_zone, first_record, live}
 use Rattle.logical_map.specs.declared.place.Place.{Place}
 use Rattle.logical_map.specs.declared.place.Place.TheVariants as places
 use Rattle.zone_choice.specs.Agreement.{Agrees, MountedView, mounted_array}
@@ -111,7 +111,7 @@ pub gather_gives : (disk : MountedView) (c : CleanView) (block : ℕ) (place : P
     → GatherGives disk c (with_record c block (live_content (mounted_array disk) block place))
 gather_gives disk c block place is found few =
     let m = disk.tables.map in
-    let parts = found-parts (λ b. get_or m.places b places.None) (slice_get (records_of m c.victim c.cursor) 0) block place found in
+    let parts = found-parts (λ b. get_or m.places b places.None) (slice_get (blocks_in_zone m c.victim c.cursor) 0) block place found in
     let took = takes-next (mounted_array disk) m.zone_size c.victim c.cursor block m.places is.gathers.within parts.0 in
     let one : LiveRecord = record { block = block; content = live_content (mounted_array disk) block place } in
     record {
@@ -138,7 +138,7 @@ none-parts f (Some b) e = absurd (cc)
 pub untaken_none : (disk : MountedView) (c : CleanView) → first_record disk.tables.map c.victim c.cursor ≡ None → untaken disk.tables c ≡ 0
 untaken_none disk c none =
     let m = disk.tables.map in
-    takes-none m.zone_size c.victim c.cursor m.places (none-parts (λ b. get_or m.places b places.None) (slice_get (records_of m c.victim c.cursor) 0) none)
+    takes-none m.zone_size c.victim c.cursor m.places (none-parts (λ b. get_or m.places b places.None) (slice_get (blocks_in_zone m c.victim c.cursor) 0) none)
 
 -- the gathered records, and those not yet taken, are the live records of the victim
 pub live-parts : (disk : MountedView) (c : CleanView) → IsClean disk c → live disk.tables.map c.victim ≡ untaken disk.tables c + length c.gathered
@@ -151,6 +151,6 @@ pub gather-next : (disk : MountedView) (c : CleanView) (block : ℕ) (place : Pl
     → (block < size_of disk.tables) × (c.cursor ≤ block) × (place ≡ get_or disk.tables.map.places block places.None)
 gather-next disk c block place is found =
     let m = disk.tables.map in
-    let parts = found-parts (λ b. get_or m.places b places.None) (slice_get (records_of m c.victim c.cursor) 0) block place found in
+    let parts = found-parts (λ b. get_or m.places b places.None) (slice_get (blocks_in_zone m c.victim c.cursor) 0) block place found in
     let took = takes-next (mounted_array disk) m.zone_size c.victim c.cursor block m.places is.gathers.within parts.0 in
     (took.below, took.after, parts.1)

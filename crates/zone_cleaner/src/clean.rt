@@ -114,11 +114,13 @@ impl Clean {
     /// Empties the victim, whose records are all moved.
     pub(crate) fn empty_victim<D: Device>(&self, disk: &mut Mounted<D>) -> Result<(), CleanFault>
         requires { IsAtStep Step.Reset disk.old self.now }
+        // The array never changes. Done, the victim is empty, and the destination is the next zone.
         ensures ok { OnOk result (EmptiesVictim disk.old disk.new self.now.victim) }
         ensures err { IfErr result (λ fault. StepFails Step.Reset fault disk.old disk.new) }
+        // It completes one command at most.
         ensures completed { disk.new.drive.completed ≤ disk.old.drive.completed + 1 }
     {
-        let start = self.victim as u64 * disk.geometry().size as u64;
+        let start = disk.geometry().start_of(self.victim);
         if let Err(fault) = reset(disk.alloc, &mut disk.device, start) {
             return Err(fault_of(halt_of(fault)));
         }
@@ -128,15 +130,17 @@ impl Clean {
 
     /// What the clean does next.
     pub(crate) fn next_step<D: Device>(&self, disk: &mut Mounted<D>) -> Step
-        requires range { IsInRange disk.old.drive.geometry }
+        // The geometry is in range, and the victim is one of the zones.
+        requires in_range { IsInRange disk.old.drive.geometry }
         requires victim { self.now.victim < disk.old.tables.map.zones }
+        // It only looks: the step is the one that is due, and nothing changes.
         ensures step { result ≡ step_due disk.old self.now }
         ensures kept { disk.new ≡ disk.old }
     {
         if self.gathered.len() >= batch_most(&disk.geometry()) as usize {
             return Step::Move;
         }
-        if let Some((block, place)) = disk.tables.records_of(self.victim, self.cursor) {
+        if let Some((block, place)) = disk.tables.first_record(self.victim, self.cursor) {
             return Step::Gather(block, place);
         }
         last_step(disk.tables.second(), self.gathered.len())

@@ -39,7 +39,7 @@ impl Model for Cleaner {
 
 /// The zone of which a clean is due, if one is.
 fn due(tables: &Tables, geometry: &Geometry) -> Option<u32>
-    requires range { IsInRange geometry.now }
+    requires in_range { IsInRange geometry.now }
     requires zones { length tables.now.roles.empty ≡ tables.now.map.zones }
     ensures { FindsDue geometry.now tables.now result }
 {
@@ -96,12 +96,16 @@ impl Cleaner {
         host: Filling,
         batch: &BatchBuilder,
     ) -> Result<(), Halt>
+        // Tables, drive and clean agree, the batch is the next one, and the host zone has room for it.
         requires cleaned { AgreesWithClean disk.old self.old }
         requires host { disk.old.tables.roles.host ≡ Some host }
         requires built { IsBuilt disk.old.drive.geometry.block batch.now }
         requires can { CanPlace disk.old host.zone (built_for disk.old batch.now) }
+        // Done, it has appended the batch, and the clean has forgotten its blocks.
+        // Refused, the clean is the same, and nothing was appended, unless the drive stopped.
         ensures leaves { HostLeaves disk.old self.old host.zone (built_for disk.old batch.now)
             result disk.new self.new }
+        // It completes two commands at most.
         ensures completed { disk.new.drive.completed ≤ disk.old.drive.completed + 2 }
     {
         match append_batch(disk, host.zone, batch) {
@@ -116,9 +120,11 @@ impl Cleaner {
     /// Starts a clean, if one is due: of the sealed zone with the fewest live records, into the lowest empty
     /// zone. No command is sent.
     pub fn start<D: Device>(&mut self, disk: &mut Mounted<D>)
+        // No clean runs, the geometry is in range, and roles and map have the same number of zones.
         requires none { self.old ≡ None }
-        requires range { IsInRange disk.old.drive.geometry }
+        requires in_range { IsInRange disk.old.drive.geometry }
         requires zones { length disk.old.tables.roles.empty ≡ disk.old.tables.map.zones }
+        // The drive never changes. Either the clean that is due has begun, or none is due and nothing changed.
         ensures { TurnLeaves disk.old None (Ok tt) disk.new self.new }
     {
         let geometry = disk.geometry();

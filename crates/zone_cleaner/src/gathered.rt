@@ -85,12 +85,15 @@ fn fetch<D: Device>(
     address: u64,
 ) -> Result<(), CleanFault>
     requires { IsStoredAt disk.old block (Place.At address) }
+    // Whatever it answers, it has sent one Read at most, and tables, contents and heading are the same.
     ensures reads { OnlyReads disk.old disk.new }
     ensures heading { batch.new.heading ≡ batch.old.heading }
+    // Done, the block's bytes follow the bytes that the batch had.
     ensures ok { OnOk result
         (batch.new.bytes ≡ batch.old.bytes ++ slice_index_or (mounted_array disk.old) block []) }
     ensures length { OnOk result
         (length batch.new.bytes ≡ length batch.old.bytes + disk.old.drive.geometry.block) }
+    // Refused, the bytes are the same. It is out of memory, or the drive has stopped.
     ensures failed { OnErr result (batch.new.bytes ≡ batch.old.bytes) }
     ensures err { IfErr result (IsGatherFault disk.new.drive) }
 {
@@ -154,7 +157,9 @@ impl Gathered {
         address: u64,
     ) -> Result<(), CleanFault>
         requires { CanGather disk.old block (Place.At address) self.old.records }
+        // Whatever it answers, it has sent one Read at most, and tables and contents are the same.
         ensures reads { OnlyReads disk.old disk.new }
+        // Done, the record is the last one. Refused, the records are the same, and the fault has its cause.
         ensures ok { OnOk result
             (self.new.records ≡ self.old.records ++ data_record disk.old block ∷ []) }
         ensures failed { OnErr result (self.new.records ≡ self.old.records) }
@@ -219,11 +224,13 @@ impl Gathered {
 
     /// Builds the Move of the records. All is allocated then that its Append needs of them.
     pub fn build(&mut self, header: MoveHeader) -> Result<(), AllocError>
+        // One header block can name all the records, and each record's data is a whole block.
         requires block { (header.block_bytes ≡ 512) ⊎ (header.block_bytes ≡ 4096) }
         requires heading { IsHeading header.block_bytes
             (move_with header self.old.records).heading }
         requires few { AllByRecursion (λ r. r.block + 1 < 2 ^ 32) self.old.records }
         requires whole { AreOfLength header.block_bytes (gathered_data self.old.records) }
+        // The records never change. Done, the Move is built: its header block, and after it their data.
         ensures records { self.new.records ≡ self.old.records }
         ensures built { OnOk result
             (HoldsMove self.new.batch header.block_bytes (move_with header self.old.records)) }
@@ -304,15 +311,18 @@ fn head_move(
     batch: &mut BatchBuilder,
     header: MoveHeader,
 ) -> Result<(), AllocError>
+    // There is room for a header block, and it can name all the records.
     requires block { (header.block_bytes ≡ 512) ⊎ (header.block_bytes ≡ 4096) }
     requires room { header.block_bytes ≤ length batch.old.bytes }
     requires heading { IsHeading header.block_bytes
         (heading_for header (entries_for records.now.entries)) }
     requires few { AllByRecursion (λ b. b.0 + 1 < 2 ^ 32) records.now.entries }
+    // Done, the batch has this heading, and its bytes begin with the header block.
     ensures heading { OnOk result
         (batch.new.heading ≡ heading_for header (entries_for records.now.entries)) }
     ensures bytes { OnOk result
         (batch.new.bytes ≡ headed_bytes header.block_bytes batch.new.heading batch.old.bytes) }
+    // Whatever it answers, the data after the header block is the same, and so is the length.
     ensures kept { drop header.block_bytes batch.new.bytes
         ≡ drop header.block_bytes batch.old.bytes }
     ensures length { length batch.new.bytes ≡ length batch.old.bytes }

@@ -71,6 +71,7 @@ storable geometry in_range = record {
 
 -- a drive whose zones are stored so
 module _ (geometry : Geometry) (zones : List StoredZone) (completed refused appended : ℕ) (habit : Habit) (in_range : IsInRange geometry) (are : AreZones geometry zones) (most : completed ≤ 2 ^ 63) where
+  -- the drive in memory with these zones, counts and habit
   abbrev pub drive : MemoryDrive
   drive = record {
     state = record { geometry = geometry; zones = zones_of geometry.block zones; completed = completed; refused = refused; appended = appended; stopped = nat_le (2 ^ 63) completed };
@@ -88,12 +89,15 @@ module _ (geometry : Geometry) (zones : List StoredZone) (completed refused appe
     stopped = λ e. le-leb (2 ^ 63) completed (omega (arith, e));
   })
 
-  pub lawful-drive : IsLawful drive.state
+  -- a drive whose zones are stored so is lawful
+  lawful-drive : IsLawful drive.state
   lawful-drive = lawful-with zones (zones_of geometry.block zones) are refl
 
+  -- and so is a drive that equals it
   pub lawful-now : (now : MemoryDrive) → drive ≡ now → IsLawful now.state
   lawful-now now same = subst (λ (d : MemoryDrive). IsLawful d.state) same lawful-drive
 
+  -- bytes that pass a zone's checks could be written there, or refused where a resource is missing
   pub could-write : (number : ℕ) (bytes : List ℕ) (found : Result (Option ℕ) Status) → number < geometry.zones
       → None ≡ first_failing (append_bytes_checks geometry (zone_at (zones_of geometry.block zones) number) bytes)
       → RoomGives habit geometry (zones_of geometry.block zones) (zone_at (zones_of geometry.block zones) number) found → CouldWrite drive number bytes (result_err found)
@@ -102,6 +106,7 @@ module _ (geometry : Geometry) (zones : List StoredZone) (completed refused appe
       let leaves = leaves-written habit geometry zones number bytes closing in_range are below checks gives in
       (with_zones drive (write_effect geometry (with_room (zones_of geometry.block zones) closing) number (length bytes / geometry.block) bytes), (closing, gives, refl), lawful-with _ _ leaves.are leaves.in_blocks)
 
+  -- a zone could be opened, or the Open refused where a resource is missing
   pub could-open : (number : ℕ) (found : Result (Option ℕ) Status) → number < geometry.zones
       → RoomGives habit geometry (zones_of geometry.block zones) (zone_at (zones_of geometry.block zones) number) found → CouldOpen drive number (result_err found)
   could-open number (Err status) below gives = (drive, (gives, refl), lawful-drive)
@@ -115,6 +120,7 @@ module _ (geometry : Geometry) (zones : List StoredZone) (completed refused appe
       let leaves = leaves-sent geometry zones number action other in_range are below in
       lawful-with _ _ leaves.are leaves.in_blocks
 
+  -- an action that is sent to all zones gives a lawful drive
   pub could-send-all : (action : Action) → IsLawful (with_zones drive (map (sent_zone action) (zones_of geometry.block zones))).state
   could-send-all action = lawful-with (map (sent_stored action) zones) _ (are-all geometry zones action in_range are) (zones_of-sent geometry.block action zones)
 

@@ -5,7 +5,7 @@ use Rattle.logical_map.specs.declared.place.Place.{Place}
 use Rattle.logical_map.specs.declared.place.Place.TheVariants as places
 use Rattle.drive_survey.specs.declared.fault.MountFault.{MountFault}
 use Rattle.remount.specs.Kept.{KeepsMountable}
-use Rattle.drive_survey.specs.Scan.{FailsBy}
+use Rattle.drive_survey.specs.Scan.{IsInterruption}
 use Rattle.zone_states.specs.Geometry.{IsInRange}
 use Rattle.drive_port.specs.Calls.{block_count, data_blocks}
 use Rattle.drive_port.specs.Drive.{DriveState}
@@ -125,7 +125,7 @@ pub record IsMounted (old : DriveState) (n : ℕ) (disk : DiskView) : Type 0 whe
 pub record Remounts (old : DiskView) (result : Result (Unit {0}) MountFault) (new : DiskView) : Type 0 where
   pub flat : FlatRemount (flat_of old) result (flat_of new)
   pub mounts : OnOk result (MountsDisk old.drive (given_size old) new)
-  pub cause : IfErr result (FailsBy (λ _. ⊥) new.drive)
+  pub cause : IfErr result (IsInterruption new.drive)
   pub kept : KeepsMountable (given_size old) old.drive new.drive
   pub given : given_size new ≡ given_size old
   pub mountable : IsMountable new.drive (given_size new)

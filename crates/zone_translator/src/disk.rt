@@ -75,11 +75,13 @@ fn new_cleaner<D: Device>(disk: &Mounted<D>) -> Cleaner
 
 /// Finds the tables again on the drive. After a refusal they are the old ones.
 fn mount_again<D: Device>(disk: &mut Mounted<D>) -> Result<(), MountFault>
+    // Done, the tables are what a mount finds. Refused, they do not change, and the fault has its cause.
     ensures ok { OnOk result
         (Mounts disk.old.drive disk.new.drive disk.old.tables.given disk.new.tables) }
     ensures err { IfErr result
         (FailsBy (MountFails disk.old.drive disk.old.tables.given) disk.new.drive) }
     ensures tables { OnErr result (disk.new.tables ≡ disk.old.tables) }
+    // Whatever it answers, a drive that could be mounted still can be, with the same array.
     ensures kept { KeepsMountable disk.old.tables.given disk.old.drive disk.new.drive }
 {
     match mount(disk.alloc, &mut disk.device, disk.tables.given() as u64) {
@@ -181,16 +183,20 @@ impl<D: Device + Drop> Disk<D> {
         self.status
     }
 
-    /// One batch of a write. After a refusal none of the blocks that are left is written; after a stop a front of them
-    /// may be.
+    /// One batch of a write. After a refusal none of the blocks that are left is written; after a stop the first of
+    /// them may be.
     fn write_some(&mut self, rest: Rest) -> Result<u32, DiskFault>
+        // The disk serves, and what is left is in range: one block at least, with whole blocks of data.
         requires serving { self.old.status ≡ Serving }
         requires can { CanWrite (mounted_of self.old) rest }
+        // Done, it has written the first of the blocks left. Refused, it may have, and the fault has its cause.
         ensures wrote { IfOk result (WroteSome self.old rest.entry self.new) }
         ensures err { IfErr result (RefusedSome self.old rest.entry self.new) }
+        // Whatever it answers, the drive can be mounted, and the size is the same. Its batch is as long as it can be.
         ensures kept { KeepsDisk self.old self.new }
         ensures size { disk_size self.new ≡ disk_size self.old }
         ensures cut { KeepsCut self.old.drive rest.entry self.new.drive }
+        // It adds no turns to a clean that ran, and costs at most the commands of one batch.
         ensures clean { KeepsCleaning (mounted_of self.old) self.old.clean result
             (mounted_of self.new) self.new.clean }
         ensures completed { CompletesAtMost self.old
@@ -208,13 +214,13 @@ impl<D: Device + Drop> Disk<D> {
     /// Writes n blocks from `first` on, batch by batch.
     fn write_all(&mut self, first: u64, blocks: u64, content: Content) -> Result<(), DiskFault>
         requires whole { HasBlocks self.old.drive.geometry.block blocks content }
+        // It answers as a flat array does. The drive can be mounted again, and each batch is as long as it can be.
         ensures answers { Answers self.old
             (write_content self.old first blocks content.entry) result self.new }
         ensures stores { Stores (is_trim content.entry) self.old first blocks result self.new }
-        ensures turns { OnOk result (disk_turns self.new ≤ disk_turns self.old) }
-        ensures clean { self.new.status ≡ Serving → KeepsClean self.old self.new }
-        ensures completed { CompletesAtMost self.old
-            (write_commands (is_trim content.entry) self.old blocks) self.new }
+        // It completes at most that many commands and, unless the drive stops, adds no turns to a clean that runs.
+        ensures costs { CostsAtMost self.old
+            (write_commands (is_trim content.entry) self.old blocks) result self.new }
     {
         if self.is_done(first, blocks)? {
             return Ok(());
@@ -238,13 +244,17 @@ impl<D: Device + Drop> Disk<D> {
 
     /// One block of a read, shown after what `into` holds.
     fn read_one(&mut self, block: u32, into: &mut Vec<u8>) -> Result<(), DiskFault>
+        // The block is the disk's, and the disk serves.
         requires in_range { block < disk_size self.old }
         requires serving { self.old.status ≡ Serving }
+        // Whatever it answers, the array is the same, and the drive can be mounted again.
         ensures keeps { KeepsByRead self.old self.new }
+        // Done, it has added the block's bytes, and the disk still serves. Refused, the fault has its cause.
         ensures ok { OnOk result (into.new.items ≡ into.old.items
             ++ slice_index_or (disk_array self.old) block []) }
         ensures serving { OnOk result (self.new.status ≡ Serving) }
         ensures err { IfErr result (ReadStops self.old block self.new) }
+        // It completes one command at most.
         ensures completed { CompletesAtMost self.old 1 self.new }
     {
         match read_block(&mut self.mounted, block, into) {
@@ -258,9 +268,11 @@ impl<D: Device + Drop> Disk<D> {
 
     /// Whether the disk serves calls, or which fault it answers to each.
     fn check_serving(&self) -> Result<(), DiskFault>
+        // It answers what a flat array knows beforehand. Done, the disk serves; refused, the fault has its cause.
         ensures known { answer_while self.now.status ≡ refusal_before result }
         ensures serving { OnOk result (self.now.status ≡ Serving) }
         ensures cause { IfErr result (DiskCause self.now) }
+        // In both cases the drive can be mounted.
         ensures sound { IsSound self.now }
     {
         match self.status {
@@ -273,12 +285,15 @@ impl<D: Device + Drop> Disk<D> {
     /// Whether a read or a write of n blocks is done before it begins: it is where n is 0. One past the
     /// end is refused, and so is each while the disk does not serve.
     fn is_done(&self, first: u64, blocks: u64) -> Result<bool, DiskFault>
+        // It answers what a flat array knows beforehand.
         ensures known { known_range (flat_of self.now) first blocks ≡ answer_before result }
+        // If the call continues, its blocks are in range, the disk serves, and the array has the disk's size.
         ensures in_range { IfOk result (λ done. done ≡ false
             → (1 ≤ blocks) × (first + blocks ≤ disk_size self.now)) }
         ensures serving { IfOk result (λ done. done ≡ false → self.now.status ≡ Serving) }
         ensures long { IfOk result (λ done. done ≡ false
             → length (disk_array self.now) ≡ disk_size self.now) }
+        // If it is done, it names no block. A refusal has its cause, and the drive can be mounted in any case.
         ensures none { IfOk result (λ done. done ≡ true → blocks ≡ 0) }
         ensures cause { IfErr result (DiskCause self.now) }
         ensures sound { IsSound self.now }
@@ -296,8 +311,8 @@ impl<D: Device + Drop> Disk<D> {
 
     /// Writes `blocks` blocks of one byte from `first` on.
     ///
-    /// After a refusal on its way a front of them is written. After `OutOfMemory` or `Spent` the
-    /// disk continues; after `Stopped` a mount of the restarted drive finds the front.
+    /// After a refusal midway the first blocks are written, perhaps none or all. After `OutOfMemory` or `Spent` the
+    /// disk continues; after `Stopped` a mount of the restarted drive finds them.
     pub fn fill(&mut self, first: u64, blocks: u64, byte: u8) -> Result<(), DiskFault>
         ensures answers { Answers self.old
             (fill self.old.drive.geometry.block first blocks byte) result self.new }
@@ -310,12 +325,15 @@ impl<D: Device + Drop> Disk<D> {
 
     /// Writes these bytes from the block `first` on: any whole number of blocks.
     ///
-    /// After a refusal on its way a front of the blocks is written, as after one of a `fill`.
+    /// After a refusal midway the first blocks are written, perhaps none or all, as after one of a `fill`.
     pub fn write(&mut self, first: u64, bytes: &[u8]) -> Result<(), DiskFault>
         requires whole { AreBlocksOf self.old bytes.now }
+        // It answers as a flat array does. Whatever it answers, the drive can be mounted again.
         ensures answers { Answers self.old (write_bytes self.old first bytes.now) result self.new }
+        // Done, the newest records of these blocks have data. In any case each batch is as long as it can be.
         ensures stores { Stores false self.old first
             (count_of_blocks self.old bytes.now) result self.new }
+        // It completes at most that many commands and, unless the drive stops, adds no turns to a clean that runs.
         ensures costs { CostsAtMost self.old
             (write_commands false self.old (count_of_blocks self.old bytes.now)) result self.new }
     {
@@ -326,7 +344,7 @@ impl<D: Device + Drop> Disk<D> {
     /// Makes `blocks` blocks from `first` on zeros, by records that say so: their old data is needed no more.
     /// Blocks that were never written get such records, too.
     ///
-    /// After a refusal on its way a front of the blocks is trimmed, as after one of a `fill`.
+    /// After a refusal midway the first blocks are trimmed, perhaps none or all, as after one of a `fill`.
     pub fn trim(&mut self, first: u64, blocks: u64) -> Result<(), DiskFault>
         ensures answers { Answers self.old
             (trim self.old.drive.geometry.block first blocks) result self.new }
@@ -339,10 +357,13 @@ impl<D: Device + Drop> Disk<D> {
 
     /// Whether a growth to `blocks` blocks is refused before it begins.
     fn check_growth(&self, blocks: u64) -> Result<(), DiskFault>
+        // It answers what a flat array knows beforehand.
         ensures known { known_growth (flat_of self.now) blocks ≡ refusal_before result }
+        // If the growth continues, the size is not below the disk's, the reserve allows it, and the disk serves.
         ensures grows { OnOk result ((disk_size self.now ≤ blocks)
             × FitsReserve self.now.drive.geometry blocks) }
         ensures serving { OnOk result (self.now.status ≡ Serving) }
+        // A refusal has its cause, and the drive can be mounted in any case.
         ensures cause { IfErr result (DiskCause self.now) }
         ensures sound { IsSound self.now }
     {
@@ -360,8 +381,10 @@ impl<D: Device + Drop> Disk<D> {
     ///
     /// After a refusal the disk has its old size. After `Stopped` the drive has the old size or the new one.
     pub fn grow(&mut self, blocks: u64) -> Result<(), DiskFault>
+        // It answers as a flat array does, and the drive can be mounted again. Done, a header has the new size.
         ensures answers { Answers self.old (grow blocks) result self.new }
         ensures says { OnOk result (SaysSize self.old blocks self.new) }
+        // Done, or if a clean ran before, no turns are added. It costs at most the commands of one batch.
         ensures turns { OnOk result (disk_turns self.new ≤ disk_turns self.old) }
         ensures clean { is_some self.old.clean ≡ true → disk_turns self.new ≤ disk_turns self.old }
         ensures completed { CompletesAtMost self.old
@@ -437,9 +460,11 @@ impl<D: Device + Drop> Disk<D> {
     /// A report of all zones of the drive, as Zone Management Receive gives it (Zoned Namespace Command
     /// Set 1.1, section 3.4.2): a head of 64 bytes and a descriptor of 64 bytes for each zone.
     pub fn report(&mut self) -> Result<Vec<u8>, DiskFault>
+        // It answers as a flat array does, and the drive can be mounted again. Done, the report is whole.
         ensures answers { Answers self.old report (done_of result) self.new }
         ensures zones { IfOk result
             (λ bytes. ReportsAll self.old.drive bytes.items self.new.drive) }
+        // As many turns of a clean are left as before, and one command is completed at most.
         ensures turns { disk_turns self.new ≡ disk_turns self.old }
         ensures completed { CompletesAtMost self.old 1 self.new }
     {

@@ -23,8 +23,10 @@ pub fn write_keeps_others()
 /// What was answered is found again. Whatever is called of a disk, and whatever ends it, its drive can be mounted again
 /// once it is restarted. The disk that is mounted then has the array that was left: `answers` of each call says which.
 pub fn answered_is_found()
+    // The drive can be mounted again: after a mount, and after each call and remount, whatever they answer.
     ensures mounted { MountedCan }
     ensures called { CalledCan }
     ensures remounted { RemountedCan }
+    // Once restarted, it can be mounted, and each mount finds the array that was left.
     ensures found { LeftIsFound }
 {}

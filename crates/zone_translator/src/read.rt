@@ -26,13 +26,17 @@ pub(crate) fn read_block<D: Device>(
     block: u32,
     into: &mut Vec<u8>,
 ) -> Result<(), DiskFault>
+    // Tables and drive agree, and the block is the disk's.
     requires agrees { Agrees disk.old }
     requires in_range { block < size_of disk.old.tables }
+    // Whatever it answers, array and tables are the same, and tables and drive agree.
     ensures kept { KeepsArray disk.old disk.new }
     ensures tables { disk.new.tables ≡ disk.old.tables }
+    // Done, it has added the block's bytes. Refused, it is out of memory, or the drive stopped at a block with data.
     ensures ok { OnOk result (into.new.items ≡ into.old.items
         ++ slice_index_or (mounted_array disk.old) block []) }
     ensures err { IfErr result (IsBlockFault disk.new block) }
+    // It completes one command at most.
     ensures completed { disk.new.drive.completed ≤ disk.old.drive.completed + 1 }
 {
     let Place::At(address) = disk.tables.place_of(block) else {

@@ -16,10 +16,13 @@ const DESCRIPTOR_DWORDS: u64 = 16;
 /// A report of all zones of the drive, with room for a descriptor of each.
 pub(crate) fn report_all<D: Device>(disk: &mut Mounted<D>) -> Result<Vec<u8>, DiskFault>
     requires agrees { Agrees disk.old }
+    // Whatever it answers, array and tables are the same, and tables and drive agree.
     ensures kept { KeepsArray disk.old disk.new }
     ensures tables { disk.new.tables ≡ disk.old.tables }
+    // Done, the bytes are a report of all zones. Refused, it is out of memory, or the drive has stopped.
     ensures zones { IfOk result (λ bytes. ReportsAll disk.old.drive bytes.items disk.new.drive) }
     ensures err { IfErr result (IsReadFault disk.new.drive) }
+    // It completes one command at most.
     ensures completed { disk.new.drive.completed ≤ disk.old.drive.completed + 1 }
 {
     let zones = disk.geometry().zones as u64;

@@ -62,7 +62,7 @@ pub(crate) struct Rest<'a> {
 
 /// How many of the blocks left the next batch takes.
 fn batch_count(geometry: &Geometry, host: Filling, left: u32, trim: bool) -> u32
-    requires range { IsInRange geometry.now }
+    requires in_range { IsInRange geometry.now }
     requires room { host.written + 2 ≤ geometry.now.capacity }
     ensures { result ≡ batch_count geometry.now host left trim }
 {
@@ -83,9 +83,11 @@ fn next_sequence<D: Device>(disk: &Mounted<D>) -> u64
 /// The zone that the next batch goes to. A batch needs a sequence number, too.
 fn find_room<D: Device>(disk: &mut Mounted<D>, cleaner: &mut Cleaner) -> Result<Filling, DiskFault>
     requires agrees { AgreesWithClean disk.old cleaner.old }
+    // The array never changes. Done, there is room and a sequence is left; refused, the fault has its cause.
     ensures leaves { RoomLeaves disk.old disk.new cleaner.new result }
     ensures ok { IfOk result (IsRoom disk.new) }
     ensures cause { IfErr result (IsCause disk.new.drive disk.new.tables.next) }
+    // It adds no turns to a clean that ran, and costs at most one command more than a whole clean.
     ensures clean { KeepsCleaning disk.old cleaner.old result disk.new cleaner.new }
     ensures completed { disk.new.drive.completed + 1
         ≤ disk.old.drive.completed + 2 * disk.old.drive.geometry.capacity }
@@ -122,10 +124,12 @@ fn start_batch<D: Device>(
     first: u32,
     count: u32,
 ) -> Result<(), AllocError>
-    requires range { IsInRange disk.now.drive.geometry }
+    // The geometry and the disk's size are in range, and one header can name all the blocks.
+    requires in_range { IsInRange disk.now.drive.geometry }
     requires few { first + count < 2 ^ 32 }
     requires size { IsSize (size_of disk.now.tables) }
     requires room { count ≤ entry_room disk.now.drive.geometry.block }
+    // Done, the batch is the disk's next one, and its bytes are the header block.
     ensures heading { OnOk result (batch.new.heading ≡ next_heading disk.now trim first count) }
     ensures bytes { OnOk result (batch.new.bytes ≡ header_of disk.now trim first count) }
 {
@@ -139,6 +143,7 @@ fn start_batch<D: Device>(
 fn add_content(batch: &mut BatchBuilder, content: Content, count: usize) -> Result<(), AllocError>
     requires within { HasBytes count content }
     requires few { count < 2 ^ 62 }
+    // The heading never changes. Done, the data follows the bytes that the batch had; a trim adds none.
     ensures heading { batch.new.heading ≡ batch.old.heading }
     ensures bytes { OnOk result (batch.new.bytes ≡ batch.old.bytes
         ++ bytes_of count content.entry) }
@@ -158,12 +163,15 @@ fn build_batch<D: Device>(
     host: Filling,
     rest: Rest,
 ) -> Result<u32, AllocError>
+    // Tables and drive agree, the host zone has room, a sequence is left, and the rest can be written.
     requires agrees { Agrees disk.old }
     requires room { IsRoom disk.old host }
     requires can { CanWrite disk.old rest }
+    // Done, the batch can be appended, and has as many of the blocks left as it can take.
     ensures ok { IfOk result (IsNextBatch disk.new host rest.entry batch.new) }
     ensures count { IfOk result
         (λ count. count ≡ next_count disk.old.drive.geometry host rest.entry) }
+    // Whatever it answers, nothing of the disk changes except which blocks are ready to be placed.
     ensures drive { disk.new.drive ≡ disk.old.drive }
     ensures kept { SameButReady disk.old.tables disk.new.tables }
 {
@@ -187,13 +195,17 @@ pub(crate) fn next_batch<D: Device>(
     batch: &mut BatchBuilder,
     rest: Rest,
 ) -> Result<u32, DiskFault>
+    // Tables, drive and clean agree, and the rest can be written.
     requires agrees { AgreesWithClean disk.old cleaner.old }
     requires can { CanWrite disk.old rest }
+    // Done, it has written the first of the blocks left. Refused, it has written none, unless the drive stopped.
     ensures leaves { WritesRest disk.old rest.entry result disk.new cleaner.new }
     ensures count { IfOk result (IsTaken disk.old.drive.geometry rest.entry) }
-    ensures cut { KeepsCut disk.old.drive rest.entry disk.new.drive }
     ensures cause { IfErr result (IsCause disk.new.drive disk.new.tables.next) }
+    // Its batch is as long as it can be, and it adds no turns to a clean that ran.
+    ensures cut { KeepsCut disk.old.drive rest.entry disk.new.drive }
     ensures clean { KeepsCleaning disk.old cleaner.old result disk.new cleaner.new }
+    // It costs at most the commands of one batch.
     ensures completed { disk.new.drive.completed
         ≤ disk.old.drive.completed + batch_commands disk.old.drive.geometry }
 {
@@ -212,11 +224,14 @@ pub(crate) fn grow_batch<D: Device>(
     batch: &mut BatchBuilder,
     blocks: u32,
 ) -> Result<(), DiskFault>
+    // Tables, drive and clean agree, the size is not below the disk's, and the reserve allows it.
     requires agrees { AgreesWithClean disk.old cleaner.old }
     requires grows { size_of disk.old.tables ≤ blocks }
     requires reserve { FitsReserve disk.old.drive.geometry blocks }
+    // Done, the disk has this size, and a header says so. Refused, the array is the same, unless the drive stopped.
     ensures leaves { GrowLeaves disk.old disk.new cleaner.new blocks result }
     ensures cause { IfErr result (IsCause disk.new.drive disk.new.tables.next) }
+    // It adds no turns to a clean that ran, and costs at most the commands of one batch.
     ensures clean { KeepsCleaning disk.old cleaner.old result disk.new cleaner.new }
     ensures completed { disk.new.drive.completed
         ≤ disk.old.drive.completed + batch_commands disk.old.drive.geometry }

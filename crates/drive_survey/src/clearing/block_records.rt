@@ -38,6 +38,7 @@ fn hold_blocks(
     own: &[KeptRecord],
 ) -> Result<(), AllocError>
     requires none { HasNoRecord table.old }
+    // Done, the table has these blocks, too, and still no record. What it keeps of the zones is the same.
     ensures none { OnOk result (HasNoRecord table.new) }
     ensures more { OnOk result (HoldsMore table.old table.new) }
     ensures holds { OnOk result (HoldsEach table.new own.now) }
@@ -58,8 +59,10 @@ fn hold_zone(
     heads: &ZoneHeads,
 ) -> Result<(), AllocError>
     requires none { HasNoRecord table.old }
+    // Done, the table has no block less, and still no record.
     ensures none { OnOk result (HasNoRecord table.new) }
     ensures more { OnOk result (HoldsMore table.old table.new) }
+    // It keeps the newest records of this zone, at most one for each entry. Of other zones it keeps the same.
     ensures covers { OnOk result (CoversHeads table.new zone heads.now) }
     ensures few { OnOk result (length (own_of table.new zone) ≤ length heads.now.entries) }
     ensures others { OnOk result ((q : ℕ) → q ≢ zone → get nat_cmp table.new.own q ≡ get nat_cmp table.old.own q) }
@@ -76,9 +79,11 @@ fn hold_moved(
     table: &mut BlockRecords,
     scanned: &[ScannedZone],
 ) -> Result<(), AllocError>
+    // The table has no record yet. Of some zones it keeps the newest records, one for each entry at most.
     requires none { HasNoRecord table.old }
     requires few { AreFew scanned.now table.old }
     requires own { AreOwn scanned.now table.old }
+    // Done, that is still so, and the zones of Moves from an older zone are among these zones.
     ensures none { OnOk result (HasNoRecord table.new) }
     ensures few { OnOk result (AreFew scanned.now table.new) }
     ensures own { OnOk result (AreOwn scanned.now table.new) }
@@ -155,6 +160,7 @@ fn note_all(
     scanned: &[ScannedZone],
 ) -> Result<(), AllocError>
     requires kept { AreOwn scanned.now table.old }
+    // Done, the table has no block less, and keeps the same of the zones. Only these records were put in.
     ensures more { OnOk result (HoldsMore table.old table.new) }
     ensures own { OnOk result (table.new.own ≡ table.old.own) }
     ensures noted { OnOk result (length scanned.now < 2 ^ 32 → NotesNewest (heads_in scanned.now) table.old table.new) }

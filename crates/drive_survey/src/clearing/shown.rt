@@ -61,6 +61,7 @@ fn read_data<D: Device>(
     ensures ok { OnOk result (found.zone < length (D.drive device.old).zones
         → found.offset < length (readable_at (D.drive device.old) found.zone)
         → into.new.items ≡ block_of (D.drive device.old) found.zone found.offset) }
+    // It fails only if the drive stops or memory runs out. One command at most is sent. Zones hold what they held.
     ensures err { IfErr result (IsInterruption (D.drive device.new)) }
     ensures kept { KeepsZones (D.drive device.old) (D.drive device.new) }
     ensures completed { (D.drive device.new).completed ≤ (D.drive device.old).completed + 1 }
@@ -88,6 +89,7 @@ fn read_shown<D: Device>(
     requires zones { AreKnown (D.drive device.old) zones.now }
     ensures ok { OnOk result ((found : Option Record) → kept ≡ option_map kept_record found
         → IfStands (D.drive device.old) found → into.new.items ≡ shown (D.drive device.old).geometry.block found) }
+    // It fails only if the drive stops or memory runs out. One command at most is sent. Zones hold what they held.
     ensures err { IfErr result (IsInterruption (D.drive device.new)) }
     ensures kept { KeepsZones (D.drive device.old) (D.drive device.new) }
     ensures completed { (D.drive device.new).completed ≤ (D.drive device.old).completed + 1 }
@@ -110,6 +112,7 @@ fn show_same<D: Device>(
 ) -> Result<bool, MountFault>
     requires zones { AreKnown (D.drive device.old) zones.now }
     ensures ok { IfOk result (TellsRivals (D.drive device.old) rivals) }
+    // It fails only if the drive stops or memory runs out. Two commands at most are sent. Zones hold what they held.
     ensures err { IfErr result (IsInterruption (D.drive device.new)) }
     ensures kept { KeepsZones (D.drive device.old) (D.drive device.new) }
     ensures completed { (D.drive device.new).completed ≤ (D.drive device.old).completed + 2 }
@@ -149,9 +152,12 @@ pub(crate) fn first_needed<D: Device>(
     buffers: &mut Buffers,
 ) -> Result<Option<u32>, MountFault>
     requires zones { AreKnown (D.drive device.old) zones.now }
+    // Done, the block is right, if the table holds all records of the blocks of this zone.
     ensures ok { IfOk result (LooksFor (D.drive device.old) table.now zone) }
+    // It fails only if the drive stops or memory runs out. Whatever it answers, zones hold what they held.
     ensures err { IfErr result (IsInterruption (D.drive device.new)) }
     ensures kept { KeepsZones (D.drive device.old) (D.drive device.new) }
+    // It takes two commands at most for each record that is kept of the zone.
     ensures completed { (D.drive device.new).completed
         ≤ (D.drive device.old).completed + 2 * length (own_of table.now zone) }
 {

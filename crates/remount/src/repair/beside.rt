@@ -27,14 +27,17 @@ fn finish_other<D: Device>(
     torn: u32,
     zone: u32,
 ) -> Result<(), MountFault>
+    // The survey knows the drive, whose vacant zones are Empty. Its only torn zone is `torn`.
     requires known { (n : ℕ) × Knows (D.drive device.old) n (drive_logs (D.drive device.old)) survey.old }
     requires vacant { AreVacantEmpty survey.old.zones.items (drive_logs (D.drive device.old)) }
     requires torn { IsOnlyTorn (drive_logs (D.drive device.old))
         (zone_tails (contents (D.drive device.old).zones)) torn }
     requires in_range { zone < length survey.old.zones.items }
+    // Done, this zone is finished if that was due. No batch has changed, and no zone was opened.
     ensures ok { OnOk result ((n : ℕ) → Knows (D.drive device.old) n (drive_logs (D.drive device.old)) survey.old
         → SettlesZone n (D.drive device.old) (D.drive device.new) survey.old survey.new torn zone) }
     ensures noted { OnOk result (NotesNoneOpen survey.old.zones.items survey.new.zones.items) }
+    // It fails only if the drive stops or memory runs out. A drive that can be mounted stays so, with the same array.
     ensures err { IfErr result (IsInterruption (D.drive device.new)) }
     ensures kept { (n : ℕ) → KeepsMountable n (D.drive device.old) (D.drive device.new) }
 {
@@ -54,13 +57,17 @@ pub(crate) fn finish_beside<D: Device>(
     survey: &mut Survey,
     torn: u32,
 ) -> Result<(), MountFault>
+    // The drive is cleared, and this is its one torn zone.
     requires cleared { IsCleared (D.drive device.old) survey.old.given survey.old }
     requires torn { IsOnlyTorn (drive_logs (D.drive device.old))
         (zone_tails (contents (D.drive device.old).zones)) torn }
+    // Done, it is still cleared, with the same batches. Only the torn zone may be opened or Closed.
     ensures cleared { OnOk result (IsCleared (D.drive device.new) survey.old.given survey.new) }
     ensures left { OnOk result (SettlesOthers (D.drive device.old) (D.drive device.new) torn) }
     ensures noted { OnOk result (NotesNoneOpen survey.old.zones.items survey.new.zones.items) }
+    // It fails only if the drive stops or memory runs out.
     ensures err { IfErr result (IsInterruption (D.drive device.new)) }
+    // Whatever it answers, no command was refused. The drive can still be mounted, with the same array.
     ensures kept { KeepsMountable survey.old.given (D.drive device.old) (D.drive device.new) }
 {
     for zone in 0..survey.zones.len() as u32 {
@@ -95,8 +102,10 @@ pub(crate) fn close_alone<D: Device>(
     reported: ReportedZone,
 ) -> Result<(), MountFault>
     requires known { IsKnown (D.drive device.old) zone reported }
+    // Done, the zone is not open, if only one zone may be. If more may be, nothing is sent.
     ensures shut { OnOk result ((D.drive device.old).geometry.open < 2 → IsShut (D.drive device.new).zones zone) }
     ensures spared { 2 ≤ (D.drive device.old).geometry.open → D.drive device.new ≡ D.drive device.old }
+    // It fails only if the drive stops or memory runs out. No zone was opened, and all hold what they held.
     ensures err { IfErr result (IsInterruption (D.drive device.new)) }
     ensures kept { KeepsShut (D.drive device.old) (D.drive device.new) }
 {

@@ -91,16 +91,19 @@ fn copy_record<D: Device>(
     place: Place,
     next: &mut NextMove,
 ) -> Result<(), MountFault>
+    // The zone is as reported, and the place, if it has data, is one of its readable blocks.
     requires known { IsKnown (D.drive device.old) zone.number zone.reported }
     requires place { IsBlockAt (zone.number * (D.drive device.old).geometry.size) zone.reported.blocks place }
-    ensures heading { next.new.batch.heading ≡ next.old.batch.heading }
+    // Done, the data is added: a whole block, or nothing for a trim.
     ensures bytes { OnOk result (next.new.batch.bytes ≡ next.old.batch.bytes ++ concat
         (blocks_listed (said_at (readable_at (D.drive device.old) zone.number)
         (zone.number * (D.drive device.old).geometry.size) place))) }
     ensures whole { OnOk result (AllByRecursion (λ block. length block ≡ (D.drive device.old).geometry.block)
         (blocks_listed (said_at (readable_at (D.drive device.old) zone.number)
         (zone.number * (D.drive device.old).geometry.size) place))) }
+    // It fails only if the drive stops or memory runs out. The heading is the same, and zones hold what they held.
     ensures err { IfErr result (IsInterruption (D.drive device.new)) }
+    ensures heading { next.new.batch.heading ≡ next.old.batch.heading }
     ensures kept { KeepsZones (D.drive device.old) (D.drive device.new) }
 {
     let Place::At(address) = place else {
@@ -120,15 +123,18 @@ fn copy_records<D: Device>(
     blocks: &[u32],
     next: &mut NextMove,
 ) -> Result<(), MountFault>
+    // The zone is as reported, and all places with data are readable blocks of it.
     requires known { IsKnown (D.drive device.old) zone.number zone.reported }
     requires places { AllByRecursion (IsReadableAt tables.now
         (zone.number * (D.drive device.old).geometry.size) zone.reported.blocks) blocks.now }
-    ensures heading { next.new.batch.heading ≡ next.old.batch.heading }
+    // Done, the data of all these blocks is added, each a whole block.
     ensures bytes { OnOk result (next.new.batch.bytes ≡ next.old.batch.bytes ++ concat
         (moved_data (source_of (D.drive device.old) tables.now zone.number) blocks.now)) }
     ensures whole { OnOk result (AllByRecursion (λ block. length block ≡ (D.drive device.old).geometry.block)
         (moved_data (source_of (D.drive device.old) tables.now zone.number) blocks.now)) }
+    // It fails only if the drive stops or memory runs out. The heading is the same, and zones hold what they held.
     ensures err { IfErr result (IsInterruption (D.drive device.new)) }
+    ensures heading { next.new.batch.heading ≡ next.old.batch.heading }
     ensures kept { KeepsZones (D.drive device.old) (D.drive device.new) }
 {
     for block in blocks {
@@ -189,6 +195,7 @@ fn build_move<D: Device>(
     number: usize,
     next: &mut NextMove,
 ) -> Result<(), MountFault>
+    // The plan has this Move, with a sequence in range, data that can be read, and a header that fits.
     requires known { IsKnown (D.drive device.old) plan.now.torn plan.now.reported }
     requires most { 1 ≤ plan.now.most }
     requires few { number < move_count plan.now }
@@ -197,8 +204,10 @@ fn build_move<D: Device>(
         (plan.now.torn * (D.drive device.old).geometry.size) plan.now.reported.blocks) (named_by plan.now number) }
     requires heading { IsHeading (D.drive device.old).geometry.block
         (move_by (source_of (D.drive device.old) tables.now plan.now.torn) plan.now number).heading }
+    // Done, the bytes are exactly this Move.
     ensures built { OnOk result (IsBuiltAs (D.drive device.old).geometry.block
         (move_by (source_of (D.drive device.old) tables.now plan.now.torn) plan.now number) next.new.batch) }
+    // It fails only if the drive stops or memory runs out. Whatever it answers, zones hold what they held.
     ensures err { IfErr result (IsInterruption (D.drive device.new)) }
     ensures kept { KeepsZones (D.drive device.old) (D.drive device.new) }
 {
@@ -221,6 +230,7 @@ fn push_built(
     batch: &BatchBuilder,
     block_bytes: u32,
 ) -> Result<(), AllocError>
+    // The batch is built whole, and the entries and blocks of the zone can still be counted in 32 bits.
     requires block { 512 ≤ block_bytes }
     requires heading { IsHeading block_bytes batch.now.heading }
     requires built { IsBuilt block_bytes batch.now }
@@ -242,11 +252,14 @@ fn append_move<D: Device>(
     batch: &BatchBuilder,
 ) -> Result<(), MountFault>
     requires can { CanTake (D.drive device.old) zone batch.now }
+    // Done, the zone has the whole batch.
     ensures ok { OnOk result (TakesFirst (D.drive device.old) (D.drive device.new) zone
         (built (D.drive device.old).geometry.block batch.now)
         (batch_size (built (D.drive device.old).geometry.block batch.now))) }
+    // Else the zone has a front of it, or the drive can be mounted as before, with the same array.
     ensures left { IfErr result (λ _. TakesSome (D.drive device.old) (D.drive device.new) zone
         (built (D.drive device.old).geometry.block batch.now)) }
+    // It fails only if the drive stops or memory runs out.
     ensures err { IfErr result (IsInterruption (D.drive device.new)) }
 {
     let start = device.geometry().start_of(zone);
@@ -265,12 +278,15 @@ fn make_move<D: Device>(
     number: usize,
     moves: &mut Moves,
 ) -> Result<(), MountFault>
+    // All Moves before it are made, and it is one of the plan.
     requires at { (n : ℕ) × (start : DriveState)
         × IsAtMove n start (D.drive device.old) tables.now plan.now number moves.old.heads }
     requires few { number < move_count plan.now }
+    // Done, it is made, too, and its header is known.
     ensures ok { OnOk result ((n : ℕ) (start : DriveState)
         → IsAtMove n start (D.drive device.old) tables.now plan.now number moves.old.heads
         → IsAtMove n start (D.drive device.new) tables.now plan.now (number + 1) moves.new.heads) }
+    // It fails only if the drive stops or memory runs out. A drive that can be mounted stays so, with the same array.
     ensures err { IfErr result (IsInterruption (D.drive device.new)) }
     ensures kept { (n : ℕ) (start : DriveState)
         → IsAtMove n start (D.drive device.old) tables.now plan.now number moves.old.heads
@@ -289,10 +305,13 @@ pub(crate) fn make_moves<D: Device>(
     plan: &MovePlan,
     tables: &Tables,
 ) -> Result<ZoneHeads, MountFault>
+    // The plan repairs the drive, and no Move is made yet.
     requires at { (n : ℕ) × IsAtMove n (D.drive device.old) (D.drive device.old) tables.now plan.now 0 no_heads }
+    // Done, the zone of the Moves holds all of them, and no torn tail.
     ensures ok { IfOk result (λ heads. (n : ℕ)
         → IsAtMove n (D.drive device.old) (D.drive device.old) tables.now plan.now 0 no_heads
         → IsAtMove n (D.drive device.old) (D.drive device.new) tables.now plan.now (move_count plan.now) heads) }
+    // It fails only if the drive stops or memory runs out. A drive that can be mounted stays so, with the same array.
     ensures err { IfErr result (IsInterruption (D.drive device.new)) }
     ensures kept { (n : ℕ) → IsAtMove n (D.drive device.old) (D.drive device.old) tables.now plan.now 0 no_heads
         → KeepsMountable n (D.drive device.old) (D.drive device.new) }

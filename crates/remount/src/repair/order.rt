@@ -4,7 +4,7 @@ ghost use Rattle.drive_port.specs.Contents.{contents};
 ghost use Rattle.drive_array.specs.ZoneLogs.{drive_logs, sequences, zone_tails};
 ghost use Rattle.drive_survey.specs.Heads.{greatest_sequence, heads_of};
 ghost use Rattle.drive_survey.specs.Known.{Finds, Knows};
-ghost use Rattle.remount.specs.Mount.{IsCleared, IsPlan};
+ghost use Rattle.remount.specs.Mount.{IsCleared, IsRepairPlan};
 ghost use Rattle.remount.specs.Moving.{IsMovePlan, early_size, others, ordered};
 ghost use Rattle.drive_survey.specs.Reported.{KeepsZones};
 ghost use Rattle.drive_survey.specs.Scan.{IsInterruption, heads_in};
@@ -31,10 +31,13 @@ fn why_needed<D: Device>(
     survey: &Survey,
     zone: u32,
 ) -> Result<Finding, MountFault>
+    // The survey knows the drive with all its batches, and this is one of its zones.
     requires known { Knows (D.drive device.old) survey.now.given (drive_logs (D.drive device.old)) survey.now }
     requires zone { zone < length (D.drive device.old).zones }
+    // Done, the finding is right for the batches of the drive.
     ensures ok { IfOk result (Finds (D.drive device.old).geometry.block survey.now.given
         (drive_logs (D.drive device.old)) zone) }
+    // It fails only if the drive stops or memory runs out. Whatever it answers, zones hold what they held.
     ensures err { IfErr result (IsInterruption (D.drive device.new)) }
     ensures kept { KeepsZones (D.drive device.old) (D.drive device.new) }
 {
@@ -90,10 +93,13 @@ pub(crate) fn plan_moves<D: Device>(
     repair: &Repair,
     into: u32,
 ) -> Result<MovePlan, MountFault>
+    // The drive is cleared, and the repair is planned for its one torn zone.
     requires cleared { IsCleared (D.drive device.old) survey.now.given survey.now }
-    requires plan { IsPlan (D.drive device.old).geometry survey.now.given (drive_logs (D.drive device.old))
+    requires plan { IsRepairPlan (D.drive device.old).geometry survey.now.given (drive_logs (D.drive device.old))
         (zone_tails (contents (D.drive device.old).zones)) repair.now }
+    // Done, these Moves have all that is live in that zone. It is not half clean until the last is made.
     ensures ok { IfOk result (IsMovePlan (D.drive device.old) survey.now.given survey.now repair.now into) }
+    // It fails only if the drive stops or memory runs out. Whatever it answers, zones hold what they held.
     ensures err { IfErr result (IsInterruption (D.drive device.new)) }
     ensures kept { KeepsZones (D.drive device.old) (D.drive device.new) }
 {

@@ -25,10 +25,12 @@ pub(crate) fn empty_torn<D: Device>(
 ) -> Result<(), MountFault>
     requires done { (n : ℕ) × (start : DriveState) × (tables : TablesView) × (heads : HeadsView)
         × IsAtMove n start (D.drive device.old) tables plan.now (move_count plan.now) heads }
+    // Done, the zone of the Moves has the records, and the drive can be mounted, with the same array.
     ensures ok { OnOk result ((n : ℕ) (start : DriveState) (tables : TablesView) (heads : HeadsView)
         → IsAtMove n start (D.drive device.old) tables plan.now (move_count plan.now) heads
         → EmptiesTorn n start (D.drive device.new) plan.now
         (moves_before (source_of start tables plan.now.torn) plan.now (move_count plan.now))) }
+    // It fails only if the drive stops or memory runs out. A drive that can be mounted stays so, with the same array.
     ensures err { IfErr result (IsInterruption (D.drive device.new)) }
     ensures kept { (n : ℕ) (start : DriveState) (tables : TablesView) (heads : HeadsView)
         → IsAtMove n start (D.drive device.old) tables plan.now (move_count plan.now) heads
@@ -44,6 +46,7 @@ pub(crate) fn empty_torn<D: Device>(
 /// What a report tells of a zone that was empty, after this many blocks were appended to it.
 fn filled_zone(blocks: u32, capacity: u32) -> ReportedZone
     requires { 1 ≤ blocks }
+    // It is Full if these blocks fill it, and else opened.
     ensures usage { usage_of result.state ≡ usage_with capacity blocks }
     ensures blocks { result.blocks ≡ blocks }
     ensures opened { is_open result.state ≡ false → usage_of result.state ≡ full }
@@ -68,18 +71,21 @@ pub(crate) fn note_repair(
     heads: ZoneHeads,
     capacity: u32,
 )
+    // The survey has both zones, and the Moves take a block at least.
     requires torn { plan.now.torn < length survey.old.zones.items }
     requires into { plan.now.into < length survey.old.zones.items }
     requires count { length survey.old.scanned.items ≡ length survey.old.zones.items }
     requires some { 1 ≤ heads.blocks }
+    // It knows the repaired drive then, and all vacant zones are noted as Empty.
     ensures known { (n : ℕ) (start new : DriveState) (made : List Batch) → start.geometry.capacity ≡ capacity
         → heads ≡ heads_of made → Knows start n (drive_logs start) survey.old
         → EmptiesTorn n start new plan.now made → Knows new n (drive_logs new) survey.new }
-    ensures noted { (zone : ℕ) → IsNotedOpen survey.new.zones.items zone
-        → IsNotedOpen survey.old.zones.items zone ⊎ (zone ≡ plan.now.into) }
     ensures vacant { (n : ℕ) (start new : DriveState) (made : List Batch)
         → Knows start n (drive_logs start) survey.old → AreVacantEmpty survey.old.zones.items (drive_logs start)
         → EmptiesTorn n start new plan.now made → AreVacantEmpty survey.new.zones.items (drive_logs new) }
+    // Only the zone of the Moves is newly noted as open.
+    ensures noted { (zone : ℕ) → IsNotedOpen survey.new.zones.items zone
+        → IsNotedOpen survey.old.zones.items zone ⊎ (zone ≡ plan.now.into) }
 {
     let written = filled_zone(heads.blocks(), capacity);
     survey.zones[plan.into as usize] = written;

@@ -9,7 +9,7 @@ ghost use Rattle.zone_choice.specs.Tables.{size_of};
 ghost use Rattle.drive_array.specs.ZoneLogs.{zone_tails};
 ghost use Rattle.drive_survey.specs.declared.fault.MountFault.TheVariants as faults;
 ghost use Rattle.drive_survey.specs.Known.{Knows};
-ghost use Rattle.remount.specs.Mount.{CannotRepair, Plans};
+ghost use Rattle.remount.specs.Mount.{CannotRepair, PlansRepair};
 ghost use Rattle.remount.specs.Torn.{IsNextTorn, WasSurveyed, data_count_at, data_in, is_torn_in, is_torn_zone};
 
 use crate::repair::Repair;
@@ -63,15 +63,17 @@ fn data_blocks(place: Place) -> u32
 fn live_blocks(alloc: Global, tables: &mut Tables, zone: u32) -> Result<LiveBlocks, AllocError>
     requires few { size_of tables.old ≤ 2 ^ 31 }
     requires zone { zone < tables.old.map.zones }
+    // Done, all blocks with a place in the zone are listed, and it is counted how many have data.
     ensures blocks { IfOk result (λ live. live.blocks.items
         ≡ blocks_in tables.old.map.zone_size zone 0 tables.old.map.places) }
     ensures data { IfOk result (λ live. live.with_data ≡ data_in tables.old.map.zone_size zone tables.old.map.places) }
+    // Whatever it answers, the tables are unchanged.
     ensures kept { tables.new ≡ tables.old }
 {
     let mut blocks = Vec::new(alloc);
     let mut with_data = 0;
     let mut from = 0;
-    while let Some((block, place)) = tables.records_of(zone, from) {
+    while let Some((block, place)) = tables.first_record(zone, from) {
         blocks.push(block)?;
         with_data += data_blocks(place);
         from = block + 1;
@@ -97,9 +99,11 @@ pub fn plan_repair(
     geometry: &Geometry,
 ) -> Result<Option<Repair>, MountFault>
     requires surveyed { WasSurveyed geometry.now survey.now.given survey.now }
+    // Done, this is the repair that the surveyed drive needs, if any, and it can be carried out.
     ensures ok { IfOk result (λ plan. (drive : DriveState) (logs : List (List Batch))
         → drive.geometry ≡ geometry.now → Knows drive survey.now.given logs survey.now
-        → Plans geometry.now survey.now.given logs (zone_tails (contents drive.zones)) plan) }
+        → PlansRepair geometry.now survey.now.given logs (zone_tails (contents drive.zones)) plan) }
+    // It fails only if memory runs out or the drive cannot be repaired. The fault says why.
     ensures err { IfErr result (λ fault. (fault ≡ faults.OutOfMemory)
         ⊎ ((drive : DriveState) (logs : List (List Batch)) → drive.geometry ≡ geometry.now
         → Knows drive survey.now.given logs survey.now

@@ -91,8 +91,10 @@ fn place_batches(
 ) -> Result<(), AllocError>
     requires few { size_of tables.old ≤ 2 ^ 31 }
     requires sorted { IsNonDecreasingBy (λ (batch : ListedBatch). batch.head.sequence) batches.items }
+    // Done, each block has the place of the newest of these records, if no block had a place.
     ensures places { OnOk result (PlacesNewest zone_size [] tables.old.map.places
         → PlacesNewest zone_size (all_listed (heads_in scanned.now) batches.items) tables.new.map.places) }
+    // Whatever it answers, the sizes of the tables and the given number are the same.
     ensures kept { SameButPlaces tables.old tables.new }
 {
     let mut batches = batches;
@@ -124,9 +126,11 @@ pub fn place_records(
     survey: &Survey,
     geometry: &Geometry,
 ) -> Result<Tables, AllocError>
+    // Done, the places are right for the surveyed drive.
     ensures placed { IfOk result (λ tables. (drive : DriveState) (logs : List (List Batch))
         → drive.geometry ≡ geometry.now → Knows drive survey.now.given logs survey.now
         → IsPlaced geometry.now survey.now.given logs tables) }
+    // The number of zones is from the geometry, and the given number from the survey.
     ensures zones { IfOk result (λ tables. tables.map.zones ≡ geometry.now.zones) }
     ensures given { IfOk result (λ tables. tables.given ≡ survey.now.given) }
 {

@@ -10,14 +10,14 @@ use Rattle.drive_check.proofs.CheckLaws.{all-usable, lists-before, lists-some, u
 use Rattle.drive_check.proofs.checking.list_faults.Goals as goal
 
 pub unusable_zones-requires : goal.unusable_zones-requires
-unusable_zones-requires g c = rw c.deref.ensures.value (few-zones _ _ _ c.requires.range c.requires.lawful c.in_ok-zones.ensures.ok)
+unusable_zones-requires g c = rw c.deref.ensures.value (few-zones _ _ _ c.requires.in_range c.requires.lawful c.in_ok-zones.ensures.ok)
 
 pub returns-then-not-is_empty-clause-ok : goal.returns-then-not-is_empty-clause-ok
 returns-then-not-is_empty-clause-ok g c =
     let none = c.no_findings-findings.ensures.clean.others in
     let some : c.in_ok-findings.field-0.items ≢ [] = λ nil. let bad = sym c.if-not-is_empty.true ∙ c.is_empty.ensures ∙ eq-eqb _ 0 (c.in_ok-findings.field-0.ok.0 ∙ ap length nil) in absurd (cc) in
     record {
-      range = c.requires.range;
+      range = c.requires.in_range;
       unusable = c.in_ok-findings.ensures ∙ ap (λ (rs : List ReportedZone). found_in unusable_reported rs) c.deref.ensures.value ∙ unusable-found _ _ _ c.in_ok-zones.ensures.ok;
       zones = lists-some _ _ _ c.in_ok-findings.field-0.items some (record { partly_written = none.partly_written; batches = none.batches; repeated = none.repeated; past_end = none.past_end; torn = none.torn });
     }
@@ -26,7 +26,7 @@ pub list_zones-requires-clause-known : goal.list_zones-requires-clause-known
 list_zones-requires-clause-known g c =
     let nil : c.in_ok-findings.field-0.items ≡ [] = nil_from_length _ (sym c.in_ok-findings.field-0.ok.0 ∙ eqb-true _ 0 (sym c.is_empty.ensures ∙ c.if-not-is_empty.false)) in
     let usable = all-usable 0 c.in_ok-zones.zones.items (sym (ap (λ (rs : List ReportedZone). found_in unusable_reported rs) c.deref.ensures.value) ∙ sym c.in_ok-findings.ensures ∙ nil) in
-    rw c.deref-2.ensures.value (known-all _ _ c.in_ok-zones.zones.items c.requires.range c.report_zones.ensures.kept c.in_ok-zones.ensures.ok usable)
+    rw c.deref-2.ensures.value (known-all _ _ c.in_ok-zones.zones.items c.requires.in_range c.report_zones.ensures.kept c.in_ok-zones.ensures.ok usable)
 
 pub list_zones-requires-clause-partly : goal.list_zones-requires-clause-partly
 list_zones-requires-clause-partly g c =
@@ -44,7 +44,7 @@ returns-clause-ok g c =
     let nil : c.in_ok-findings.field-0.items ≡ [] = nil_from_length _ (sym c.in_ok-findings.field-0.ok.0 ∙ eqb-true _ 0 (sym c.is_empty.ensures ∙ c.if-not-is_empty.false)) in
     let same : found.unusable.items ≡ c.in_ok-findings.field-0.items = ap (λ v. v.items) c.list_zones.ensures.unusable in
     record {
-      range = c.requires.range;
+      range = c.requires.in_range;
       unusable = same ∙ c.in_ok-findings.ensures ∙ ap (λ (rs : List ReportedZone). found_in unusable_reported rs) c.deref.ensures.value ∙ unusable-found _ _ _ c.in_ok-zones.ensures.ok;
       zones = subst (ListsBy old c.args.given found) (sym (same ∙ nil)) (lists-before _ _ c.args.given found c.report_zones.ensures.kept c.in_ok-list_zones.ensures.ok);
     }

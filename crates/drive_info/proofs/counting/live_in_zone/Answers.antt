@@ -7,22 +7,22 @@ loop-block-init c = live-to-none c.args.tables.now c.args.zone
 
 pub counting_record-live-requires : goal.counting_record-live-requires
 counting_record-live-requires c =
-    let next = live-to-next c.args.tables.now c.loop-block.tables c.records_of.new.self c.args.zone c.loop-block.live c.loop-block.from c.in-Some.block c.in-Some.place c.loop-block.invariant c.in-Some.ensures.first c.records_of.ensures.kept in
+    let next = live-to-next c.args.tables.now c.loop-block.tables c.first_record.new.self c.args.zone c.loop-block.live c.loop-block.from c.in-Some.block c.in-Some.place c.loop-block.invariant c.in-Some.ensures.first c.first_record.ensures.kept in
     omega (arith, next.fits, c.requires.few)
 
 pub overflow_add-from : goal.overflow_add-from
 overflow_add-from c =
-    let next = live-to-next c.args.tables.now c.loop-block.tables c.records_of.new.self c.args.zone c.loop-block.live c.loop-block.from c.in-Some.block c.in-Some.place c.loop-block.invariant c.in-Some.ensures.first c.records_of.ensures.kept in
+    let next = live-to-next c.args.tables.now c.loop-block.tables c.first_record.new.self c.args.zone c.loop-block.live c.loop-block.from c.in-Some.block c.in-Some.place c.loop-block.invariant c.in-Some.ensures.first c.first_record.ensures.kept in
     omega (arith, next.in_range, c.requires.few)
 
 pub loop-block-smaller : goal.loop-block-smaller
 loop-block-smaller c =
-    let next = live-to-next c.args.tables.now c.loop-block.tables c.records_of.new.self c.args.zone c.loop-block.live c.loop-block.from c.in-Some.block c.in-Some.place c.loop-block.invariant c.in-Some.ensures.first c.records_of.ensures.kept in
+    let next = live-to-next c.args.tables.now c.loop-block.tables c.first_record.new.self c.args.zone c.loop-block.live c.loop-block.from c.in-Some.block c.in-Some.place c.loop-block.invariant c.in-Some.ensures.first c.first_record.ensures.kept in
     omega (arith, next.in_range, next.after)
 
 pub loop-block-preserved : goal.loop-block-preserved
 loop-block-preserved c =
-    let next = live-to-next c.args.tables.now c.loop-block.tables c.records_of.new.self c.args.zone c.loop-block.live c.loop-block.from c.in-Some.block c.in-Some.place c.loop-block.invariant c.in-Some.ensures.first c.records_of.ensures.kept in
+    let next = live-to-next c.args.tables.now c.loop-block.tables c.first_record.new.self c.args.zone c.loop-block.live c.loop-block.from c.in-Some.block c.in-Some.place c.loop-block.invariant c.in-Some.ensures.first c.first_record.ensures.kept in
     rw c.counting_record-live.ensures next.more
 
 pub returns-clause-written : goal.returns-clause-written

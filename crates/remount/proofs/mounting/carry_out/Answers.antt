@@ -2,7 +2,7 @@ use Rattle.std.proofs.Common.{ℕ, ◌≡◌, sym, subst, ◌∙◌}
 use Rattle.std.specs.Prelude.{OnOk}
 use Rattle.drive_port.specs.Contents.{contents}
 use Rattle.drive_array.specs.ZoneLogs.{drive_logs, zone_tails}
-use Rattle.remount.specs.Mount.{IsRepaired, LeavesCleared, LeavesPlanned, Plans}
+use Rattle.remount.specs.Mount.{IsRepaired, LeavesCleared, LeavesPlanned, PlansRepair}
 use Rattle.remount.proofs.BesideLaws.{carried-zones}
 use Rattle.remount.proofs.CallLaws.{on-two}
 use Rattle.remount.proofs.KeepLaws.{keeps-mountable-both}
@@ -17,7 +17,7 @@ pub repair_torn-requires-clause-plan : goal.repair_torn-requires-clause-plan
 repair_torn-requires-clause-plan g c =
     let is = empties _ _ _ c.args.plan.now.half_clean.items c.empty_zones.new.survey c.in_ok-empty_zones.ensures.cleared c.in_ok-empty_zones.ensures.left c.empty_zones.ensures.kept in
     let middle = g.D.Device.drive c.empty_zones.new.device in
-    subst (λ (k : ℕ). Plans middle.geometry k (drive_logs middle) (zone_tails (contents middle.zones)) c.args.plan.now.repair) (sym is.known.given_is) (emptied-plans _ _ _ c.args.survey.now _ c.args.plan.now c.requires.planned is)
+    subst (λ (k : ℕ). PlansRepair middle.geometry k (drive_logs middle) (zone_tails (contents middle.zones)) c.args.plan.now.repair) (sym is.known.given_is) (emptied-plans _ _ _ c.args.survey.now _ c.args.plan.now c.requires.planned is)
 
 pub returns-in_err-repair_torn-clause-kept : goal.returns-in_err-repair_torn-clause-kept
 returns-in_err-repair_torn-clause-kept g c =

@@ -41,7 +41,7 @@ place_blocks-blocks-requires-clause-size g c =
 pub place_blocks-blocks-requires-clause-fits : goal.place_blocks-blocks-requires-clause-fits
 place_blocks-blocks-requires-clause-fits g c =
     let can = rw (← c.disk.view_is) at c.requires.can in
-    address-fits _ _ c.disk.inside.tables c.args.zone _ c.in-Ok.address c.args.batch.now c.bytes.result.now can (rw (c.geometry.ensures, ← c.disk.view_is) refl) c.in-Ok.ensures.appended
+    address-fits _ _ c.disk.inside.tables c.args.zone _ c.in-Ok.address c.args.batch.now c.bytes.result.now can (rw (c.start_of-start.ensures, c.geometry.ensures, ← c.disk.view_is) refl) c.in-Ok.ensures.appended
 
 pub appended-requires-clause-fits : goal.appended-requires-clause-fits
 appended-requires-clause-fits g c =
@@ -60,7 +60,7 @@ halt_of-requires g c =
     let can = rw (← c.disk.view_is) at c.requires.can in
     let alone = rw (← c.disk.view_is) at c.requires.alone in
     let e = c.in-Err.ensures in
-    (place_halts _ _ c.disk.inside.tables c.args.zone _ c.args.batch.now c.bytes.result.now c.in-Err.fault c.bytes.ensures built can alone (rw (c.geometry.ensures, ← c.disk.view_is) refl) e.gives e.kept e.leaves e.obeys e.taken).halt
+    (place_halts _ _ c.disk.inside.tables c.args.zone _ c.args.batch.now c.bytes.result.now c.in-Err.fault c.bytes.ensures built can alone (rw (c.start_of-start.ensures, c.geometry.ensures, ← c.disk.view_is) refl) e.gives e.kept e.leaves e.obeys e.taken).halt
 
 pub returns-in-Ok-clause-leaves : goal.returns-in-Ok-clause-leaves
 returns-in-Ok-clause-leaves g c =
@@ -70,7 +70,7 @@ returns-in-Ok-clause-leaves g c =
     let size = size-built (g.D.Device.drive c.disk.inside.device).geometry.block _ c.args.batch.now c.entries.result.now c.entries.ensures c.place_blocks-blocks.ensures.blocks in
     let tables = placed-tables c.grow_to.new.tables c.place_blocks-blocks.new.tables c.appended.new.self c.args.zone c.in-Ok.address c.place_blocks-blocks.result c.args.batch.now c.entries.result.now c.entries.ensures c.place_blocks-blocks.ensures.placed c.appended.ensures in
     rw (← c.disk.view_is)
-    (place_writes _ _ c.disk.inside.tables c.grow_to.new.tables c.appended.new.self c.args.zone _ c.in-Ok.address c.place_blocks-blocks.result c.args.batch.now c.bytes.result.now c.bytes.ensures built can alone (rw (c.geometry.ensures, ← c.disk.view_is) refl)
+    (place_writes _ _ c.disk.inside.tables c.grow_to.new.tables c.appended.new.self c.args.zone _ c.in-Ok.address c.place_blocks-blocks.result c.args.batch.now c.bytes.result.now c.bytes.ensures built can alone (rw (c.start_of-start.ensures, c.geometry.ensures, ← c.disk.view_is) refl)
     c.in-Ok.ensures.appended c.in-Ok.ensures.leaves c.append.ensures.obeys.lawful size (rw c.size.ensures at c.grow_to.ensures) tables)
 
 pub returns-in-Err-clause-leaves : goal.returns-in-Err-clause-leaves
@@ -79,5 +79,5 @@ returns-in-Err-clause-leaves g c =
     let can = rw (← c.disk.view_is) at c.requires.can in
     let alone = rw (← c.disk.view_is) at c.requires.alone in
     let e = c.in-Err.ensures in
-    let halts = place_halts _ _ c.disk.inside.tables c.args.zone _ c.args.batch.now c.bytes.result.now c.in-Err.fault c.bytes.ensures built can alone (rw (c.geometry.ensures, ← c.disk.view_is) refl) e.gives e.kept e.leaves e.obeys e.taken in
+    let halts = place_halts _ _ c.disk.inside.tables c.args.zone _ c.args.batch.now c.bytes.result.now c.in-Err.fault c.bytes.ensures built can alone (rw (c.start_of-start.ensures, c.geometry.ensures, ← c.disk.view_is) refl) e.gives e.kept e.leaves e.obeys e.taken in
     rw c.halt_of.ensures (subst (λ (m : MountedView). BatchLeaves m (mounted (g.D.Device.drive c.append.new.device) c.disk.inside.tables) c.args.zone (built_for m c.args.batch.now) (Err (fault_halt c.in-Err.fault))) c.disk.view_is halts.leaves)

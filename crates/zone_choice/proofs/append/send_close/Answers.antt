@@ -18,7 +18,7 @@ pub halt_of-requires : goal.halt_of-requires
 halt_of-requires g c =
     let agrees = rw (← c.disk.view_is) at c.requires.agrees in
     let e = c.in-Err.ensures in
-    (close_halts _ _ c.disk.inside.tables c.args.zone _ c.in-Some.other c.in-Err.fault agrees (sym c.in-Some.ensures) (rw (c.geometry-geometry.ensures, ← c.disk.view_is) at c.if-other-geometry.false) (rw (c.geometry-geometry.ensures, ← c.disk.view_is) refl) e.gives c.close.ensures.kept e.leaves e.obeys e.taken).halt
+    (close_halts _ _ c.disk.inside.tables c.args.zone _ c.in-Some.other c.in-Err.fault agrees (sym c.in-Some.ensures) (rw (c.geometry-geometry.ensures, ← c.disk.view_is) at c.if-other-geometry.false) (rw (c.start_of.ensures, c.geometry-geometry.ensures, ← c.disk.view_is) refl) e.gives c.close.ensures.kept e.leaves e.obeys e.taken).halt
 
 pub returns-clause-leaves : goal.returns-clause-leaves
 returns-clause-leaves g c =
@@ -26,11 +26,11 @@ returns-clause-leaves g c =
     let filling = rw (← c.disk.view_is) at c.requires.filling in
     let beside = sym c.in-Some.ensures in
     rw (← c.disk.view_is)
-    (inr (c.in-Some.other, beside, other_closed _ _ c.disk.inside.tables c.args.zone _ c.in-Some.other agrees filling beside (rw (c.geometry-geometry.ensures, ← c.disk.view_is) refl) c.close.ensures.kept c.in_default-close.ensures.leaves c.close.ensures.obeys.lawful c.in_default-close.ensures.closed.counts))
+    (inr (c.in-Some.other, beside, other_closed _ _ c.disk.inside.tables c.args.zone _ c.in-Some.other agrees filling beside (rw (c.start_of.ensures, c.geometry-geometry.ensures, ← c.disk.view_is) refl) c.close.ensures.kept c.in_default-close.ensures.leaves c.close.ensures.obeys.lawful c.in_default-close.ensures.closed.counts))
 
 pub returns-in-Err-clause-leaves : goal.returns-in-Err-clause-leaves
 returns-in-Err-clause-leaves g c =
     let agrees = rw (← c.disk.view_is) at c.requires.agrees in
     let e = c.in-Err.ensures in
-    let halts = close_halts _ _ c.disk.inside.tables c.args.zone _ c.in-Some.other c.in-Err.fault agrees (sym c.in-Some.ensures) (rw (c.geometry-geometry.ensures, ← c.disk.view_is) at c.if-other-geometry.false) (rw (c.geometry-geometry.ensures, ← c.disk.view_is) refl) e.gives c.close.ensures.kept e.leaves e.obeys e.taken in
+    let halts = close_halts _ _ c.disk.inside.tables c.args.zone _ c.in-Some.other c.in-Err.fault agrees (sym c.in-Some.ensures) (rw (c.geometry-geometry.ensures, ← c.disk.view_is) at c.if-other-geometry.false) (rw (c.start_of.ensures, c.geometry-geometry.ensures, ← c.disk.view_is) refl) e.gives c.close.ensures.kept e.leaves e.obeys e.taken in
     rw c.halt_of.ensures (subst (λ (m : MountedView). CloseBesideLeaves m.drive m.tables c.args.zone (g.D.Device.drive c.close.new.device) (Err (fault_halt c.in-Err.fault))) c.disk.view_is halts.leaves)

@@ -22,7 +22,7 @@ halt_of-requires g c =
     let capacity = rw (← c.disk.view_is) at c.requires.few in
     let few = host-few _ c.disk.inside.tables c.args.host host agrees in
     let other = rw (c.geometry-geometry.ensures, ← c.disk.view_is) at c.if-host-geometry.false in
-    (finish_halts _ _ c.disk.inside.tables c.args.host _ c.in-Err.fault agrees host (rw (c.geometry-geometry.ensures, ← c.disk.view_is) refl) (omega (arith, capacity, agrees.geometry.capacity)) (omega (arith, few, other))
+    (finish_halts _ _ c.disk.inside.tables c.args.host _ c.in-Err.fault agrees host (rw (c.start_of.ensures, c.geometry-geometry.ensures, ← c.disk.view_is) refl) (omega (arith, capacity, agrees.geometry.capacity)) (omega (arith, few, other))
     c.in-Err.ensures.gives c.in-Err.ensures.kept c.in-Err.ensures.leaves c.in-Err.ensures.obeys c.in-Err.ensures.taken).halt
 
 pub returns-in-Err-clause-leaves : goal.returns-in-Err-clause-leaves
@@ -32,7 +32,7 @@ returns-in-Err-clause-leaves g c =
     let capacity = rw (← c.disk.view_is) at c.requires.few in
     let few = host-few _ c.disk.inside.tables c.args.host host agrees in
     let other = rw (c.geometry-geometry.ensures, ← c.disk.view_is) at c.if-host-geometry.false in
-    let halts = finish_halts _ _ c.disk.inside.tables c.args.host _ c.in-Err.fault agrees host (rw (c.geometry-geometry.ensures, ← c.disk.view_is) refl) (omega (arith, capacity, agrees.geometry.capacity)) (omega (arith, few, other))
+    let halts = finish_halts _ _ c.disk.inside.tables c.args.host _ c.in-Err.fault agrees host (rw (c.start_of.ensures, c.geometry-geometry.ensures, ← c.disk.view_is) refl) (omega (arith, capacity, agrees.geometry.capacity)) (omega (arith, few, other))
     c.in-Err.ensures.gives c.in-Err.ensures.kept c.in-Err.ensures.leaves c.in-Err.ensures.obeys c.in-Err.ensures.taken in
     let after = mounted (g.D.Device.drive c.finish.new.device) c.disk.inside.tables in
     rw (c.fault_of.ensures, c.halt_of.ensures) (subst (λ (before : MountedView). RetireLeaves before after (Err (disk_fault (fault_halt c.in-Err.fault)))) c.disk.view_is halts.leaves)
@@ -45,7 +45,7 @@ returns-in-Err-clause-err g c =
     let few = host-few _ c.disk.inside.tables c.args.host host agrees in
     let other = rw (c.geometry-geometry.ensures, ← c.disk.view_is) at c.if-host-geometry.false in
     rw (c.fault_of.ensures, c.halt_of.ensures)
-    (finish_halts _ _ c.disk.inside.tables c.args.host _ c.in-Err.fault agrees host (rw (c.geometry-geometry.ensures, ← c.disk.view_is) refl) (omega (arith, capacity, agrees.geometry.capacity)) (omega (arith, few, other))
+    (finish_halts _ _ c.disk.inside.tables c.args.host _ c.in-Err.fault agrees host (rw (c.start_of.ensures, c.geometry-geometry.ensures, ← c.disk.view_is) refl) (omega (arith, capacity, agrees.geometry.capacity)) (omega (arith, few, other))
     c.in-Err.ensures.gives c.in-Err.ensures.kept c.in-Err.ensures.leaves c.in-Err.ensures.obeys c.in-Err.ensures.taken).cause
 
 pub returns-clause-leaves : goal.returns-clause-leaves
@@ -56,5 +56,5 @@ returns-clause-leaves g c =
     let capacity = rw (← c.disk.view_is) at c.requires.few in
     let few = host-few _ t c.args.host host agrees in
     let other = rw (c.geometry-geometry.ensures, ← c.disk.view_is) at c.if-host-geometry.false in
-    rw (← c.disk.view_is) (keeps-finish _ _ t _ c.args.host _ agrees host (rw (c.geometry-geometry.ensures, ← c.disk.view_is) refl) (omega (arith, capacity, agrees.geometry.capacity)) (omega (arith, few, other))
+    rw (← c.disk.view_is) (keeps-finish _ _ t _ c.args.host _ agrees host (rw (c.start_of.ensures, c.geometry-geometry.ensures, ← c.disk.view_is) refl) (omega (arith, capacity, agrees.geometry.capacity)) (omega (arith, few, other))
     c.in_default.ensures.finished (finish-opens {V = Unit {0}} (g.D.Device.drive c.disk.inside.device) (g.D.Device.drive c.finish.new.device) _ (Ok tt) c.in_default.ensures.leaves) c.finish.ensures.obeys.lawful c.seal-2.ensures)

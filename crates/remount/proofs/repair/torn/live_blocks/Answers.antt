@@ -4,17 +4,17 @@ use Rattle.remount.proofs.repair.torn.live_blocks.Goals as goal
 
 pub overflow_add-from : goal.overflow_add-from
 overflow_add-from c =
-    let next = live-next c.args.tables.now c.loop-block.tables c.records_of.new.self c.args.zone c.loop-block.blocks.items c.loop-block.with_data c.loop-block.from c.in-Some.block c.in-Some.place c.loop-block.invariant c.in-Some.ensures.first c.records_of.ensures.kept in
+    let next = live-next c.args.tables.now c.loop-block.tables c.first_record.new.self c.args.zone c.loop-block.blocks.items c.loop-block.with_data c.loop-block.from c.in-Some.block c.in-Some.place c.loop-block.invariant c.in-Some.ensures.first c.first_record.ensures.kept in
     omega (arith, next.in_range, c.requires.few)
 
 pub loop-block-smaller : goal.loop-block-smaller
 loop-block-smaller c =
-    let next = live-next c.args.tables.now c.loop-block.tables c.records_of.new.self c.args.zone c.loop-block.blocks.items c.loop-block.with_data c.loop-block.from c.in-Some.block c.in-Some.place c.loop-block.invariant c.in-Some.ensures.first c.records_of.ensures.kept in
+    let next = live-next c.args.tables.now c.loop-block.tables c.first_record.new.self c.args.zone c.loop-block.blocks.items c.loop-block.with_data c.loop-block.from c.in-Some.block c.in-Some.place c.loop-block.invariant c.in-Some.ensures.first c.first_record.ensures.kept in
     omega (arith, next.in_range, next.after)
 
 pub loop-block-preserved : goal.loop-block-preserved
 loop-block-preserved c =
-    let next = live-next c.args.tables.now c.loop-block.tables c.records_of.new.self c.args.zone c.loop-block.blocks.items c.loop-block.with_data c.loop-block.from c.in-Some.block c.in-Some.place c.loop-block.invariant c.in-Some.ensures.first c.records_of.ensures.kept in
+    let next = live-next c.args.tables.now c.loop-block.tables c.first_record.new.self c.args.zone c.loop-block.blocks.items c.loop-block.with_data c.loop-block.from c.in-Some.block c.in-Some.place c.loop-block.invariant c.in-Some.ensures.first c.first_record.ensures.kept in
     rw (c.in_ok-push.ensures.items, c.data_blocks-with_data.ensures) next.more
 
 pub returns-clause-blocks : goal.returns-clause-blocks

@@ -11,7 +11,7 @@ halt_of-requires g c =
     let at = rw (← c.disk.view_is) at c.requires in
     let due = reset-due (mounted old c.disk.inside.tables) (batch_most old.geometry) c.args.self.now at.due in
     let e = c.in-Err.ensures in
-    (reset_fails old _ c.disk.inside.tables c.args.self.now _ c.in-Err.fault at.agrees at.clean_is due (rw (c.geometry.ensures, ← c.disk.view_is, ← c.self.view_is) refl) e.gives e.kept e.leaves e.obeys e.taken).halt
+    (reset_fails old _ c.disk.inside.tables c.args.self.now _ c.in-Err.fault at.agrees at.clean_is due (rw (c.start_of-start.ensures, c.geometry.ensures, ← c.disk.view_is, ← c.self.view_is) refl) e.gives e.kept e.leaves e.obeys e.taken).halt
 
 pub returns-in-Err-clause-err : goal.returns-in-Err-clause-err
 returns-in-Err-clause-err g c =
@@ -20,7 +20,7 @@ returns-in-Err-clause-err g c =
     let due = reset-due (mounted old c.disk.inside.tables) (batch_most old.geometry) c.args.self.now at.due in
     let e = c.in-Err.ensures in
     rw (c.fault_of.ensures, c.halt_of.ensures, ← c.disk.view_is)
-    (reset_fails old _ c.disk.inside.tables c.args.self.now _ c.in-Err.fault at.agrees at.clean_is due (rw (c.geometry.ensures, ← c.disk.view_is, ← c.self.view_is) refl) e.gives e.kept e.leaves e.obeys e.taken).fails
+    (reset_fails old _ c.disk.inside.tables c.args.self.now _ c.in-Err.fault at.agrees at.clean_is due (rw (c.start_of-start.ensures, c.geometry.ensures, ← c.disk.view_is, ← c.self.view_is) refl) e.gives e.kept e.leaves e.obeys e.taken).fails
 
 pub returns-clause-ok : goal.returns-clause-ok
 returns-clause-ok g c =
@@ -28,4 +28,4 @@ returns-clause-ok g c =
     let at = rw (← c.disk.view_is) at c.requires in
     let due = reset-due (mounted old c.disk.inside.tables) (batch_most old.geometry) c.args.self.now at.due in
     let e = c.in_default.ensures in
-    rw (← c.disk.view_is) (reset_done old _ c.disk.inside.tables c.end_clean.new.self c.args.self.now _ at.agrees at.clean_is due (rw (c.geometry.ensures, ← c.disk.view_is, ← c.self.view_is) refl) e.reset e.leaves e.obeys.lawful (rw (← c.self.view_is) c.end_clean.ensures))
+    rw (← c.disk.view_is) (reset_done old _ c.disk.inside.tables c.end_clean.new.self c.args.self.now _ at.agrees at.clean_is due (rw (c.start_of-start.ensures, c.geometry.ensures, ← c.disk.view_is, ← c.self.view_is) refl) e.reset e.leaves e.obeys.lawful (rw (← c.self.view_is) c.end_clean.ensures))

@@ -24,8 +24,8 @@ returns-in_err-is_done-clause-answers g c = record {
 pub returns-in_err-is_done-clause-stores : goal.returns-in_err-is_done-clause-stores
 returns-in_err-is_done-clause-stores g c = record { named = search rules; says = search rules; early = search rules; cut = cut-old c.args.self.now.drive.geometry (c.args.first + c.args.blocks - 1) (logs_of c.args.self.now) }
 
-pub returns-in_err-is_done-clause-clean : goal.returns-in_err-is_done-clause-clean
-returns-in_err-is_done-clause-clean g c = λ serves. same-clean c.args.self.now
+pub returns-in_err-is_done-clause-costs : goal.returns-in_err-is_done-clause-costs
+returns-in_err-is_done-clause-costs g c = record { turns = search rules; clean = λ serves. same-clean c.args.self.now; completed = omega arith }
 
 pub returns-then-branch-clause-answers : goal.returns-then-branch-clause-answers
 returns-then-branch-clause-answers g c = record {
@@ -45,8 +45,8 @@ returns-then-branch-clause-stores g c =
       cut = cut-old c.args.self.now.drive.geometry (c.args.first + c.args.blocks - 1) (logs_of c.args.self.now);
     }
 
-pub returns-then-branch-clause-clean : goal.returns-then-branch-clause-clean
-returns-then-branch-clause-clean g c = λ serves. same-clean c.args.self.now
+pub returns-then-branch-clause-costs : goal.returns-then-branch-clause-costs
+returns-then-branch-clause-costs g c = record { turns = omega arith; clean = λ serves. same-clean c.args.self.now; completed = omega arith }
 
 -- ---- batch by batch
 
@@ -144,22 +144,21 @@ returns-in-Err-clause-stores g c =
       cut = cut-step disk.drive.geometry c.loop-done.self.drive.geometry (logs_of disk) (c.args.first + c.args.blocks - 1) _ (logs_of c.loop-done.self) (logs_of c.write_some.new.self) so_far.0.geometry (omega (arith, so_far.3)) (c.in-Err.ensures.cut (logs_of disk)) so_far.9;
     }
 
-pub returns-in-Err-clause-clean : goal.returns-in-Err-clause-clean
-returns-in-Err-clause-clean g c =
+pub returns-in-Err-clause-costs : goal.returns-in-Err-clause-costs
+returns-in-Err-clause-costs g c =
     let so_far = c.loop-done.invariant in
     let disk = c.args.self.now in
     let now = c.loop-done.self in
     let new = c.write_some.new.self in
     let lost = c.in-Err.ensures in
-    λ serves. refused-clean (mounted_of disk) (mounted_of now) (mounted_of new) disk.clean now.clean new.clean disk.status new.status c.in-Err.fault (lost.kept.geometry ∙ so_far.0.geometry) so_far.10 lost.clean (sym lost.err.status ∙ serves)
-
-pub returns-in-Err-clause-completed : goal.returns-in-Err-clause-completed
-returns-in-Err-clause-completed g c =
-    let so_far = c.loop-done.invariant in
-    let one = batches-some (is_trim c.args.content) c.args.self.now (c.args.blocks - c.loop-done.done) c.is_done.ensures.sound.range (omega (arith, c.loop-done-test.true)) in
-    let each = batch_commands c.args.self.now.drive.geometry in
-    let last = spend (most_batches (is_trim c.args.content) c.args.self.now (c.args.blocks - c.loop-done.done)) 0 each _ c.write_some.new.self.drive.completed _ (omega (arith, one)) (rw so_far.0.geometry at c.in-Err.ensures.completed) so_far.8 in
-    omega (arith, last)
+    let one = batches-some (is_trim c.args.content) disk (c.args.blocks - c.loop-done.done) c.is_done.ensures.sound.range (omega (arith, c.loop-done-test.true)) in
+    let each = batch_commands disk.drive.geometry in
+    let last = spend (most_batches (is_trim c.args.content) disk (c.args.blocks - c.loop-done.done)) 0 each _ new.drive.completed _ (omega (arith, one)) (rw so_far.0.geometry at lost.completed) so_far.8 in
+    record {
+      turns = tt;
+      clean = λ serves. refused-clean (mounted_of disk) (mounted_of now) (mounted_of new) disk.clean now.clean new.clean disk.status new.status c.in-Err.fault (lost.kept.geometry ∙ so_far.0.geometry) so_far.10 lost.clean (sym lost.err.status ∙ serves);
+      completed = omega (arith, last);
+    }
 
 -- ---- all is done
 
@@ -186,15 +185,13 @@ returns-clause-stores g c =
       cut = so_far.9;
     }
 
-pub returns-clause-turns : goal.returns-clause-turns
-returns-clause-turns g c =
+pub returns-clause-costs : goal.returns-clause-costs
+returns-clause-costs g c =
     let so_far = c.loop-done.invariant in
     let disk = c.args.self.now in
     let new = c.loop-done.self in
-    turns-on (mounted_of disk) (mounted_of new) disk.clean new.clean disk.status new.status so_far.0.geometry so_far.10.turns
-
-pub returns-clause-clean : goal.returns-clause-clean
-returns-clause-clean g c =
-    let disk = c.args.self.now in
-    let new = c.loop-done.self in
-    λ serves. done-clean (mounted_of disk) (mounted_of new) disk.clean new.clean disk.status new.status c.loop-done.invariant.10
+    record {
+      turns = turns-on (mounted_of disk) (mounted_of new) disk.clean new.clean disk.status new.status so_far.0.geometry so_far.10.turns;
+      clean = λ serves. done-clean (mounted_of disk) (mounted_of new) disk.clean new.clean disk.status new.status so_far.10;
+      completed = omega (arith, so_far.8);
+    }

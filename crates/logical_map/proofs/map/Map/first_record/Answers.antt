@@ -5,7 +5,7 @@ use Rattle.logical_map.specs.declared.place.Place.TheVariants as places
 use Rattle.logical_map.specs.Pages.{page_of}
 use Rattle.logical_map.specs.Places.{MapView}
 use Rattle.logical_map.proofs.Listing.{all-at}
-use Rattle.logical_map.proofs.map.Map.records_of.Goals as goal
+use Rattle.logical_map.proofs.map.Map.first_record.Goals as goal
 
 pub returns-clause-first : goal.returns-clause-first
 returns-clause-first c =
