@@ -47,4 +47,4 @@ pub use records::{KeptRecord, entry_record, is_trim};
 pub use reported::{ReportedZone, fault_of, report_zones};
 pub use scan::{ReadableZone, ScannedZone, read_block, scan_zone, scan_zones};
 pub use sequences::greatest_sequence;
-pub use survey::{Survey, count_partly_written, is_partly_written, survey_drive};
+pub use survey::{Survey, count_partly_written, greatest_size, is_partly_written, survey_drive};

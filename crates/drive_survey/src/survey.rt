@@ -77,7 +77,7 @@ pub fn count_partly_written(zones: &[ReportedZone]) -> usize
 }
 
 /// The greatest size that a header says, if one says a size.
-fn greatest_size(scanned: &[ScannedZone]) -> Option<u32>
+pub fn greatest_size(scanned: &[ScannedZone]) -> Option<u32>
     ensures { result ≡ greatest_in (heads_in scanned.now) }
 {
     let mut size = None;

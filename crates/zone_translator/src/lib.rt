@@ -27,7 +27,7 @@
 
 mod disk;
 mod fault;
-mod laws;
+pub mod laws;
 mod read;
 mod report;
 mod room;
