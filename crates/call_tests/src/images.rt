@@ -90,7 +90,7 @@ fn writes_a_beginning_of_an_image(rt: HostRuntime) -> Result<(), Fail> {
 }
 
 // The faults of a file, and their lines.
-const FAULT_LINES: [(FileFault, &str); 12] = [
+const FAULT_LINES: [(FileFault, &str); 14] = [
     (FileFault::Image(ImageFault::Magic), "fault image 1 Magic\n"),
     (
         FileFault::Image(ImageFault::Geometry),
@@ -116,6 +116,8 @@ const FAULT_LINES: [(FileFault, &str); 12] = [
         FileFault::Image(ImageFault::OutOfMemory),
         "fault image 10 OutOfMemory\n",
     ),
+    (FileFault::Long(88), "fault image 8 Long\n"),
+    (FileFault::Earlier(88), "fault file\n"),
     (FileFault::Damaged(96), "fault file\n"),
     (FileFault::Zones, "fault file\n"),
 ];

@@ -4,7 +4,9 @@
 use crate::runs::FINISH;
 use clap::error::ErrorKind;
 use command_line::{Task, task_of};
-use disk_jobs::{DiskSize, Gate, Job, JobInput, do_job, explain, size_notes, write_program_fault};
+use disk_jobs::{
+    DiskSize, Gate, Job, JobInput, LineCount, do_job, explain, size_notes, write_program_fault,
+};
 use std::alloc::{AllocError, Global};
 use std::fs;
 use std::fs::File;
@@ -58,18 +60,17 @@ fn answer<R: Files<File = File> + Abort>(
 ) -> (Vec<u8>, String) {
     let job = job(rt, alloc, line).expect(rt, "a job");
     let gate = Gate::open();
-    let mut input = JobInput::new(alloc, &gate, lines);
+    let count = LineCount::new();
+    let mut input = JobInput::new(alloc, &gate, &count, lines);
     let mut written = Vec::new(alloc);
     let done = do_job(rt, alloc, &job, &mut input, &mut written);
     let mut told = String::new(alloc);
     if let Some(fault) = done.fault() {
         write_program_fault(alloc, fault, &mut written).expect(rt, "memory");
     }
-    for ended in [done.job, done.saved] {
+    for ended in [done.job, done.saved.map(|_| ())] {
         if let Err(fault) = ended {
-            let text = explain(alloc, &job, fault, input.line(), done.mounting).expect(
-                rt, "memory",
-            );
+            let text = explain(alloc, &job, fault, &mut input, done.mounting).expect(rt, "memory");
             told.push_str(&text).expect(rt, "memory");
             told.push('\n').expect(rt, "memory");
         }
@@ -122,7 +123,7 @@ const WORDS: [(&str, Option<ErrorKind>); 19] = [
     ),
     ("--blocks 9 --blocks 9", Some(ErrorKind::ArgumentConflict)),
     ("--blocks 9 --zone 4", Some(ErrorKind::UnknownArgument)),
-    ("--blocks 9 --habit Lazy", Some(ErrorKind::InvalidValue)),
+    ("--blocks 9 --habit Lazy", None),
     ("--blocks 9 --habit", Some(ErrorKind::InvalidValue)),
     ("--blocks 9 more", Some(ErrorKind::UnknownArgument)),
     ("--report", Some(ErrorKind::MissingRequiredArgument)),
@@ -197,7 +198,7 @@ fn says_why_words_are_refused(rt: HostRuntime) -> Result<(), Fail> {
         panic!(rt; "the words were taken");
     };
     let text = format!(in rt.alloc(); "{error}")?;
-    let front = "error: the value of '--blocks' is not in decimal digits\n";
+    let front = "error: invalid value '+5' for '--blocks': a number in decimal digits alone\n";
     assert!(rt; text.starts_with(front));
     Ok(())
 }
@@ -242,7 +243,7 @@ const STOPPED_LATER: &str =
      --active 2 --open 2 --blocks 9 --stop-after 2";
 
 // What standard error says of a fault: with a byte order mark, a carriage return, a tab, and words that are wrong.
-const TOLD: [(&str, &[u8], &str); 14] = [
+const TOLD: [(&str, &[u8], &str); 16] = [
     (DISK, b"read 0 1\n", ""),
     (
         STOPPED_AT_ONCE,
@@ -252,7 +253,17 @@ const TOLD: [(&str, &[u8], &str); 14] = [
     (
         STOPPED_LATER,
         b"fill 0 1 aa\nfill 0 1 bb\n",
-        "at the line `fill 0 1 bb`: the drive has stopped, after 2 commands, of which the mount took 1",
+        "at line 2, `fill 0 1 bb`: the drive has stopped, after 2 commands, of which the mount took 1",
+    ),
+    (
+        STOPPED_LATER,
+        b"# a comment\nfill 0 1 aa\n\nfill 0 1 bb",
+        "at line 4, `fill 0 1 bb`: the drive has stopped, after 2 commands, of which the mount took 1",
+    ),
+    (
+        STOPPED_LATER,
+        b"fill 0 1 aa\nfill 0 1 bb\nread 0 1\n\nread 0 1",
+        "at line 2, `fill 0 1 bb`: the drive has stopped, after 2 commands, of which the mount took 1",
     ),
     (
         "zonedisk report --image missing.image",
@@ -387,6 +398,14 @@ start 16 state Empty pointer 16 capacity 6
 start 24 state Empty pointer 24 capacity 6
 ";
 
+// The same once a run has restarted the drive and saved it.
+const CLOSED: &[u8] = b"zones 4
+start 0 state Full pointer - capacity 6
+start 8 state Closed pointer 10 capacity 6
+start 16 state Empty pointer 16 capacity 6
+start 24 state Empty pointer 24 capacity 6
+";
+
 const FINISHED: &[u8] = b"zones 4
 start 0 state Full pointer - capacity 6
 start 8 state Closed pointer 10 capacity 6
@@ -460,7 +479,7 @@ const FILE_JOBS: [(&str, &[u8], &[u8], u64); 16] = [
     (READ_ONLY, b"read 0 1\nfill 0 1 BB\n", REFUSED, 4192),
     (COUNTED, b"read 0 1\n", COUNTS, 4192),
     (STRICT, b"read 0 1\n", b"0 aa*512\nok\n", 4192),
-    (REPORT, b"", OPENED, 4192),
+    (REPORT, b"", CLOSED, 4192),
     (NVME, b"none\n", b"fault line 1\n", 4192),
     (NVME, FINISH, b"00000000000000000000000001000000\n", 4192),
     (REPORT, b"", FINISHED, 4192),
@@ -500,13 +519,12 @@ fn narrow_image(alloc: Global) -> Result<Vec<u8>, AllocError> {
     Ok(bytes)
 }
 
-// The same after a fill of block 0 with the byte A1: zone 0 is Implicitly Opened, with a header and the block.
-fn filled_image(alloc: Global) -> Result<Vec<u8>, AllocError> {
+// The same after a fill of block 0 with the byte A1: zone 0 is in this state, with a header and the block.
+fn filled_image(alloc: Global, state: u8) -> Result<Vec<u8>, AllocError> {
     let mut bytes = narrow_image(alloc)?;
     bytes.truncate(64);
-    bytes.extend_from_slice(
-        b"\x02\0\0\0\x02\0\0\0ZLOGBAT1\x02\0\x01\0\x01\0\0\0\x01\0\0\0\0\0\0\0",
-    )?;
+    bytes.push(state)?;
+    bytes.extend_from_slice(b"\0\0\0\x02\0\0\0ZLOGBAT1\x02\0\x01\0\x01\0\0\0\x01\0\0\0\0\0\0\0")?;
     bytes.extend_from_slice(b"\0\0\0\0\x02\0\0\0")?;
     bytes.resize(72 + 512, 0)?;
     bytes.resize(72 + 1024, 0xa1)?;
@@ -519,10 +537,16 @@ fn check_narrow_image<R: Files + Alloc + Abort>(rt: &R, want: &[u8]) {
     assert_eq!(rt; bytes.as_slice(), want);
 }
 
+// The codes of Implicitly Opened and Closed.
+const OPENED_STATE: u8 = 2;
+
+const CLOSED_STATE: u8 = 4;
+
 // What a run that stops before its first command writes.
 const HALTED: &[u8] = b"fault mount 10 Halted\n";
 
-// Such a run does not touch the file, and neither does one that only reads.
+// Such a run does not touch a drive at rest. An open zone it closes, as a restart does. A run that only reads does not
+// touch the file.
 #[test]
 fn keeps_each_byte_where_a_run_stops_at_once(rt: HostRuntime) -> Result<(), Fail> {
     let empty = narrow_image(rt.alloc())?;
@@ -531,13 +555,14 @@ fn keeps_each_byte_where_a_run_stops_at_once(rt: HostRuntime) -> Result<(), Fail
     check_written(&rt, rt.alloc(), &[(STOPPED_NARROW, b"read 0 1\n", HALTED)]);
     check_narrow_image(&rt, &empty);
     check_written(&rt, rt.alloc(), &[(RUN_NARROW, b"fill 0 1 A1\n", b"ok\n")]);
-    check_written(&rt, rt.alloc(), &[(STOPPED_NARROW, b"read 0 1\n", HALTED)]);
     check_told(
         &rt,
         rt.alloc(),
         &[(READ_NARROW, b"read 0 1\ntrim 0 1\n", NOT_A_READ)],
     );
-    check_narrow_image(&rt, &filled_image(rt.alloc())?);
+    check_narrow_image(&rt, &filled_image(rt.alloc(), OPENED_STATE)?);
+    check_written(&rt, rt.alloc(), &[(STOPPED_NARROW, b"read 0 1\n", HALTED)]);
+    check_narrow_image(&rt, &filled_image(rt.alloc(), CLOSED_STATE)?);
     fs::remove_file(&rt, "narrow.image").expect(&rt, "to remove the file");
     Ok(())
 }
@@ -574,7 +599,7 @@ const BESIDE_A_FOLDER: [(&str, &[u8], &[u8]); 6] = [
     (
         "zonedisk report --image kept.image.new",
         b"",
-        b"fault image 9 Input\n",
+        b"fault file\n",
     ),
     (RUN_KEPT, b"fill 0 1 AA\n", b"ok\n"),
     (RUN_KEPT, b"read 0 1\n", b"0 aa*512\nok\n"),
@@ -628,7 +653,7 @@ fn keeps_the_changes_where_a_save_fails(rt: HostRuntime) -> Result<(), Fail> {
             b"ok\n0 aa*512\nok\nfault file\n",
         ),
         (&run, b"fill 1 1 BB\nnone\n", b"ok\nfault line 2\n"),
-        (&run, b"read 0 2\n", b"0 aa*512\n1 bb*512\nok\n"),
+        (&run, b"read 0 2\n", b"0 aa*512\n1 bb*512\nok\nfault file\n"),
         (
             &nvme,
             FINISH,
@@ -637,11 +662,10 @@ fn keeps_the_changes_where_a_save_fails(rt: HostRuntime) -> Result<(), Fail> {
         (&report, b"", KEPT),
     ];
     check_written(&rt, alloc, &written);
-    let kept =
-        "is not written anew, and keeps all that it holds: no new file can be made in its folder";
-    let why = "File name too long (os error 36)";
+    let kept = "is never written anew, since the name of a new file would be too long";
     let told = format!(in alloc;
-        "line 2: word 1 has to be read, fill, write, trim, idle, grow or remount\n{name} {kept}: {why}"
+        "line 2: word 1 has to be read, fill, write, trim, idle, grow or remount\n\
+        {name} {kept}: it keeps its image and all changes"
     )?;
     check_told(&rt, alloc, &[(&run, b"fill 2 1 CC\nnone\n", &told)]);
     fs::remove_file(&rt, name.as_str())?;
@@ -657,12 +681,13 @@ const RUN_SYNCED: &str = "zonedisk run --image read.image --blocks 9 --sync";
 
 const NVME_SYNCED: &str = "zonedisk nvme --image read.image --sync";
 
-// A run that changes nothing does not touch the file. After a change a new file takes its place.
+// A run that changes nothing does not touch the file of a drive at rest. After a change a new file takes its place.
 #[test]
 fn leaves_a_file_alone_that_is_only_read(rt: HostRuntime) -> Result<(), Fail> {
     let alloc = rt.alloc();
     check_written(&rt, alloc, &[(FORMAT_READ, b"", b"ok\n")]);
     check_written(&rt, alloc, &[(RUN_SYNCED, b"fill 0 1 AA\n", b"ok\n")]);
+    check_written(&rt, alloc, &[(RUN_READ, b"read 0 1\n", b"0 aa*512\nok\n")]);
     let first = fs::metadata(&rt, "read.image")?.ino();
     check_written(&rt, alloc, &[(RUN_READ, b"read 0 1\n", b"0 aa*512\nok\n")]);
     check_written(&rt, alloc, &[(NVME_SYNCED, b"# no entry\n", b"")]);

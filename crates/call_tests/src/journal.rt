@@ -6,7 +6,7 @@ ghost use Rattle.nvme_wire.specs.Entry.{IsAdmitted};
 use disk_files::{FailAfter, LineReader};
 use disk_runs::run_trace;
 use drive_images::write_image;
-use drive_journal::{FileFault, Held, Journaling, Store, Unknown, open_drive};
+use drive_journal::{FileFault, Held, Journaling, START, Store, Unknown, open_drive};
 use drive_port::{Device, read_extending};
 use nvme_wire::{Action, Command, Completion, Status};
 use std::alloc::Global;
@@ -30,12 +30,17 @@ const IMAGE: usize = 64 + 3 * 8;
 // Where each of the five changes ends.
 const ENDS: [usize; 6] = [
     IMAGE,
-    IMAGE + 592,
-    IMAGE + 1184,
-    IMAGE + 1776,
-    IMAGE + 1856,
-    IMAGE + 1936,
+    IMAGE + 600,
+    IMAGE + 1200,
+    IMAGE + 1800,
+    IMAGE + 1888,
+    IMAGE + 1976,
 ];
+
+// How long the file is after the five changes, and where the head of the last of them ends.
+const ALL: usize = IMAGE + 1976;
+
+const LAST_DATA: usize = IMAGE + 1888 + 80;
 
 // The blocks of the first two zones after as many changes.
 const BLOCKS: [(usize, usize); 6] = [(0, 0), (1, 0), (1, 1), (2, 1), (2, 1), (0, 1)];
@@ -101,7 +106,7 @@ fn five_changes(alloc: Global) -> Result<Vec<u8>, Fail> {
     let drive = Drive::new(alloc, GEOMETRY)?;
     let mut bytes = Vec::new(alloc);
     write_image(&drive, &mut bytes)?;
-    let mut device = Journaling::new(alloc, drive, Unknown::new(bytes));
+    let mut device = Journaling::new(alloc, drive, Unknown::new(bytes), START);
     run_five(alloc, &mut device);
     let (_, store) = device.into_parts();
     Ok(store.into_inner())
@@ -132,7 +137,7 @@ fn blocks_of(drive: &Drive) -> (usize, usize) {
     blocks
 }
 
-// The file gives the drive after these changes, and is an image if there were none.
+// The file gives the drive after these changes, and is an image if nothing is after it.
 fn holds(alloc: Global, bytes: &[u8], changes: usize) -> bool
     requires { changes < 6 }
 {
@@ -145,7 +150,7 @@ fn holds(alloc: Global, bytes: &[u8], changes: usize) -> bool
         }
     }
     let has_blocks = blocks_of(&opened.drive) == BLOCKS[changes];
-    has_blocks && opened.is_image == (changes == 0) && opened.whole == ENDS[changes] as u64
+    has_blocks && opened.is_image == (bytes.len() == IMAGE) && opened.whole == ENDS[changes] as u64
 }
 
 #[test]
@@ -164,32 +169,78 @@ fn opens_a_file_that_is_cut_anywhere(rt: HostRuntime) -> Result<(), Fail> {
 }
 
 #[test]
-fn opens_a_file_with_a_damaged_byte_up_to_it(rt: HostRuntime) -> Result<(), Fail> {
+fn tells_a_damaged_byte_from_a_cut(rt: HostRuntime) -> Result<(), Fail> {
     let mut bytes = five_changes(rt.alloc())?;
     for at in IMAGE..bytes.len() {
         bytes[at] ^= 0x10;
         let before = changes_within(at as u64);
+        let place = ENDS[before] as u64;
         match open_drive(rt.alloc(), &mut bytes.as_slice()) {
-            Ok(opened) => assert_eq!(rt; opened.whole, ENDS[before] as u64),
-            Err(FileFault::Damaged(place)) => assert_eq!(rt; place, ENDS[before] as u64),
-            Err(_) => assert_eq!(rt; before, 0),
+            // Nothing follows the last change, and its head is right.
+            Ok(opened) => assert!(rt; opened.whole == place && before == 4 && at >= LAST_DATA),
+            Err(FileFault::Long(end)) => assert!(rt; end == place && at < IMAGE + 8),
+            Err(fault) => {
+                assert_eq!(rt; fault, FileFault::Damaged(place));
+                assert!(rt; at >= IMAGE + 8 && (before < 4 || at < LAST_DATA));
+            }
         }
         bytes[at] ^= 0x10;
     }
     Ok(())
 }
 
+// The third change of a run was cut off, and a change of another run is in its place. The fourth and the fifth of the
+// first run are still after it, and are not read.
+#[test]
+fn does_not_read_the_changes_of_another_run(rt: HostRuntime) -> Result<(), Fail> {
+    let alloc = rt.alloc();
+    let all = five_changes(alloc)?;
+    assert_eq!(rt; all.len(), ALL);
+    let mut front = &all[..IMAGE + 1300];
+    let opened = open_drive(alloc, &mut front)?;
+    assert_eq!(rt; opened.whole, ENDS[2] as u64);
+    let kept = Vec::from_slice(alloc, &all[..IMAGE + 1200])?;
+    let mut device = Journaling::new(alloc, opened.drive, Unknown::new(kept), opened.sum);
+    let mut none = Vec::new(alloc);
+    assert!(rt; is_done(&mut device, append_at(0), &[0xbb; 512], &mut none));
+    let (_, store) = device.into_parts();
+    let mut bytes = store.into_inner();
+    assert_eq!(rt; bytes.len(), ENDS[3]);
+    assert_eq!(rt;
+        open_drive(alloc, &mut bytes.as_slice())?.whole,
+        ENDS[3] as u64
+    );
+    bytes.extend_from_slice(&all[IMAGE + 1800..])?;
+    match open_drive(alloc, &mut bytes.as_slice()) {
+        Ok(_) => assert!(rt; false),
+        Err(fault) => assert_eq!(rt; fault, FileFault::Damaged(ENDS[3] as u64)),
+    }
+    Ok(())
+}
+
+#[test]
+fn tells_changes_of_the_version_before(rt: HostRuntime) -> Result<(), Fail> {
+    let mut bytes = five_changes(rt.alloc())?;
+    assert_eq!(rt; bytes.len(), ALL);
+    bytes[IMAGE + 7] = b'1';
+    match open_drive(rt.alloc(), &mut bytes.as_slice()) {
+        Ok(_) => assert!(rt; false),
+        Err(fault) => assert_eq!(rt; fault, FileFault::Earlier(IMAGE as u64)),
+    }
+    Ok(())
+}
+
 #[test]
 fn a_store_that_fails_holds_what_was_answered(rt: HostRuntime) -> Result<(), Fail> {
-    for left in 0..1940 {
+    for left in 0..1980 {
         let drive = Drive::new(rt.alloc(), GEOMETRY)?;
         let mut bytes = Vec::new(rt.alloc());
         write_image(&drive, &mut bytes)?;
         let writer = FailAfter::in_steps(bytes, left, 100);
-        let mut device = Journaling::new(rt.alloc(), drive, Unknown::new(writer));
+        let mut device = Journaling::new(rt.alloc(), drive, Unknown::new(writer), START);
         let answered = run_five(rt.alloc(), &mut device);
         let (_, store) = device.into_parts();
-        assert_eq!(rt; Store::<Drive>::has_failed(&store), left < 1936);
+        assert_eq!(rt; Store::<Drive>::has_failed(&store), left < 1976);
         let written = store.into_inner().inner;
         assert_eq!(rt; answered, changes_within((IMAGE + left) as u64));
         assert!(rt; holds(rt.alloc(), &written, answered.min(5)));
@@ -201,7 +252,7 @@ fn a_store_that_fails_holds_what_was_answered(rt: HostRuntime) -> Result<(), Fai
 fn reads_what_it_wrote(rt: HostRuntime) -> Result<(), Fail> {
     let alloc = rt.alloc();
     let drive = Drive::new(alloc, GEOMETRY)?;
-    let mut device = Journaling::new(alloc, drive, Unknown::new(Vec::new(alloc)));
+    let mut device = Journaling::new(alloc, drive, Unknown::new(Vec::new(alloc)), START);
     let mut none = Vec::new(alloc);
     assert!(rt; is_done(&mut device, append_at(0), &[0xaa; 512], &mut none));
     let mut read = Vec::new(alloc);
@@ -227,10 +278,10 @@ fn a_store_in_memory_holds_what_it_was_given(rt: HostRuntime) -> Result<(), Fail
 fn a_store_in_memory_is_written_anew(rt: HostRuntime) -> Result<(), Fail> {
     let drive = Drive::new(rt.alloc(), GEOMETRY)?;
     let store = Held::of_drive(rt.alloc(), &drive, IMAGE)?;
-    let mut device = Journaling::new(rt.alloc(), drive, store);
+    let mut device = Journaling::new(rt.alloc(), drive, store, START);
     assert_eq!(rt; run_five(rt.alloc(), &mut device), 5);
     let (_, store) = device.into_parts();
-    assert_eq!(rt; store.bytes().len(), IMAGE + 3 * 512 + 160);
+    assert_eq!(rt; store.bytes().len(), IMAGE + 3 * 512 + 176);
     let opened = open_drive(rt.alloc(), &mut store.bytes())?;
     assert!(rt; !opened.is_image);
     assert_eq!(rt; blocks_of(&opened.drive), BLOCKS[5]);
@@ -241,7 +292,7 @@ fn a_store_in_memory_is_written_anew(rt: HostRuntime) -> Result<(), Fail> {
 const LINES: &[u8] = b"fill 0 1 11\nfill 1 1 22\nfill 0 1 33\ntrim 1 1\nfill 2 1 44\n";
 
 // Where each of the changes ends: a header, and a block of data except for the trim.
-const LINE_ENDS: [usize; 5] = [1104, 2208, 3312, 3904, 5008];
+const LINE_ENDS: [usize; 5] = [1112, 2224, 3336, 3936, 5048];
 
 // What the array reads after as many lines.
 const ARRAYS: [&[u8]; 6] = [
@@ -273,7 +324,7 @@ fn run_until(alloc: Global, left: usize) -> Result<(usize, Vec<u8>), Fail> {
     let mut bytes = Vec::new(alloc);
     write_image(&drive, &mut bytes)?;
     let writer = FailAfter::in_steps(bytes, left, 100);
-    let device = Journaling::new(alloc, drive, Unknown::new(writer));
+    let device = Journaling::new(alloc, drive, Unknown::new(writer), START);
     let (device, replies) = run_lines(alloc, device, LINES);
     let (_, store) = device.into_parts();
     Ok((replies.len() / 3, store.into_inner().inner))
@@ -289,7 +340,7 @@ fn lines_within(bytes: usize) -> usize
 
 #[test]
 fn a_store_that_fails_holds_the_lines_that_were_answered(rt: HostRuntime) -> Result<(), Fail> {
-    for left in 0..5009 {
+    for left in 0..5049 {
         let (answered, bytes) = run_until(rt.alloc(), left)?;
         let lines = lines_within(left);
         assert_eq!(rt; answered, lines);

@@ -13,7 +13,7 @@ use std::test::Fail;
 use tool_jobs::{ToolFault, ToolJob, do_tool_job};
 
 // Which words of tools are refused, and how.
-const WORDS: [(&str, Option<ErrorKind>); 39] = [
+const WORDS: [(&str, Option<ErrorKind>); 40] = [
     ("zonedisk export --image a", None),
     (
         "zonedisk export --image a --first 3 --count 2 --progress",
@@ -56,10 +56,10 @@ const WORDS: [(&str, Option<ErrorKind>); 39] = [
     ("zonedisk plan --image a", None),
     ("zonedisk plan --image a --share 80 --json", None),
     ("zonedisk plan --image a --amplification 3 --svg", None),
-    ("zonedisk plan", Some(ErrorKind::ValueValidation)),
+    ("zonedisk plan", Some(ErrorKind::MissingRequiredArgument)),
     (
         "zonedisk plan --block 512 --zones 4 --size 8 --capacity 6 --transfer 4 --active 2",
-        Some(ErrorKind::ValueValidation),
+        Some(ErrorKind::MissingRequiredArgument),
     ),
     (
         "zonedisk plan --block 512 --zones 4 --size 8 --capacity 6 --transfer 4 --active 2 --open 2",
@@ -93,8 +93,9 @@ const WORDS: [(&str, Option<ErrorKind>); 39] = [
         Some(ErrorKind::ArgumentConflict),
     ),
     ("zonedisk report --image a --state Full --json", None),
+    ("zonedisk report --image a --state full", None),
     (
-        "zonedisk report --image a --state full",
+        "zonedisk report --image a --state half",
         Some(ErrorKind::ValueValidation),
     ),
     (
@@ -122,6 +123,90 @@ const WORDS: [(&str, Option<ErrorKind>); 39] = [
 fn reads_the_words_of_tools(rt: HostRuntime) {
     for (line, kind) in &WORDS {
         assert_eq!(rt; refusal(&rt, rt.alloc(), line), *kind);
+    }
+}
+
+// What is told of refused words: the word, what is taken in its place, and the usage of the subcommand.
+const REFUSED_WORDS: [(&str, &str); 7] = [
+    (
+        "zonedisk report --image a --state half",
+        "error: invalid value 'half' for '--state'
+  [possible values: Empty, ImplicitlyOpened, ExplicitlyOpened, Closed, ReadOnly, Full, Offline]
+
+Usage: zonedisk report [OPTIONS] --image <P>
+
+For more information, try '--help'.
+",
+    ),
+    (
+        "zonedisk run --image a --blocks +9",
+        "error: invalid value '+9' for '--blocks': a number in decimal digits alone
+
+Usage: zonedisk run [OPTIONS] --image <P> --blocks <N>
+
+For more information, try '--help'.
+",
+    ),
+    (
+        "zonedisk plan --bytes 1GiB",
+        "error: invalid value '1GiB' for '--bytes': a number, then K, M, G or T, or none of them
+
+Usage: zonedisk plan [OPTIONS]
+
+For more information, try '--help'.
+",
+    ),
+    (
+        "zonedisk plan --image a --share 80 --zones 4",
+        "error: the option '--image' cannot be used with '--zones'
+
+Usage: zonedisk plan [OPTIONS]
+
+For more information, try '--help'.
+",
+    ),
+    (
+        "zonedisk report --image a --svg --state Full",
+        "error: the option '--svg' cannot be used with '--state'
+
+Usage: zonedisk report [OPTIONS] --image <P>
+
+For more information, try '--help'.
+",
+    ),
+    (
+        "zonedisk entry erase",
+        "error: invalid value 'erase' for '<COMMAND>'
+  [possible values: append, read, write, flush, close, finish, open, reset, offline, report]
+
+Usage: zonedisk entry [OPTIONS] <COMMAND>
+
+For more information, try '--help'.
+",
+    ),
+    (
+        "zonedisk entry append --data abc",
+        "error: invalid value 'abc' for '--data': pairs of hexadecimal digits
+
+Usage: zonedisk entry [OPTIONS] <COMMAND>
+
+For more information, try '--help'.
+",
+    ),
+];
+
+// The text of a refusal.
+fn told_of(rt: &impl Abort, alloc: Global, line: &str) -> String {
+    match task(rt, alloc, line) {
+        Ok(_) => String::new(alloc),
+        Err(error) => format!(in alloc; "{error}").expect(rt, "memory"),
+    }
+}
+
+#[test]
+fn tells_refused_words(rt: HostRuntime) {
+    for (line, text) in &REFUSED_WORDS {
+        assert_eq!(rt; told_of(&rt, rt.alloc(), line).as_str(), *text);
     }
 }
 
@@ -198,6 +283,7 @@ const FRESH: &[u8] = b"the drive can be mounted\n";
 
 const FRESH_JSON: &[u8] = b"{
   \"batches\": [],
+  \"faults\": [],
   \"mountable\": true,
   \"partly_written\": 0,
   \"past_end\": [],
@@ -211,8 +297,7 @@ const FRESH_JSON: &[u8] = b"{
 // Both zones are told, and the first of them is why a mount is refused.
 const FAULTY: &[u8] =
     b"refused: zone 0 holds no batch at block 0: the header does not begin with ZLOGBAT1
-batches of zone 0: zone 0 holds no batch at block 0: the header does not begin with ZLOGBAT1
-batches of zone 1: zone 1 holds no batch at block 0: the header does not begin with ZLOGBAT1
+zone 1 holds no batch at block 0: the header does not begin with ZLOGBAT1
 ";
 
 // Both zones were open before the restart.

@@ -1,3 +1,4 @@
+use crate::faults::{FoundFault, found_faults};
 use drive_check::Findings;
 use serde_json::{Value, json};
 use std::alloc::{AllocError, Global};
@@ -39,6 +40,35 @@ fn past_end_json(alloc: Global, findings: &Findings) -> Result<Value, AllocError
     Ok(Value::Array(list))
 }
 
+/// A number, or null.
+fn number_json(number: Option<u32>) -> Value {
+    match number {
+        Some(number) => Value::from(u64::from(number)),
+        None => Value::Null,
+    }
+}
+
+/// One fault: the number and the name of its kind, where it is, whether a mount is refused by it, and what it is.
+fn fault_json(alloc: Global, fault: &FoundFault) -> Result<Value, AllocError> {
+    json!(in alloc; {
+        "number": u64::from(fault.kind.number),
+        "name": fault.kind.name,
+        "zone": number_json(fault.zone),
+        "offset": number_json(fault.offset),
+        "refuses": fault.refuses,
+        "text": fault.text.as_str(),
+    })
+}
+
+/// All faults of a drive that is refused.
+fn faults_json(alloc: Global, findings: &Findings) -> Result<Value, AllocError> {
+    let mut list = Vec::new(alloc);
+    for fault in &found_faults(alloc, findings)? {
+        list.push(fault_json(alloc, fault)?)?;
+    }
+    Ok(Value::Array(list))
+}
+
 /// Why a mount is refused, or null.
 fn refusal_json(alloc: Global, findings: &Findings) -> Result<Value, AllocError> {
     let Some(refusal) = findings.refusal else {
@@ -48,7 +78,8 @@ fn refusal_json(alloc: Global, findings: &Findings) -> Result<Value, AllocError>
     Value::try_from_str(alloc, text.as_str())
 }
 
-/// The findings as JSON: an object with `mountable`, `refusal` and the lists of faults.
+/// The findings as JSON: an object with `mountable`, `refusal`, all `faults`, and what they are in lists by
+/// their kinds.
 pub fn findings_json(alloc: Global, findings: &Findings) -> Result<String, AllocError> {
     let refusal = refusal_json(alloc, findings)?;
     let unusable = zones_json(alloc, &findings.unusable)?;
@@ -56,8 +87,10 @@ pub fn findings_json(alloc: Global, findings: &Findings) -> Result<String, Alloc
     let repeated = repeated_json(alloc, findings)?;
     let past_end = past_end_json(alloc, findings)?;
     let torn = zones_json(alloc, &findings.torn)?;
+    let faults = faults_json(alloc, findings)?;
     let all = json!(in alloc; {
         "mountable": findings.refusal.is_none(),
+        "faults": faults,
         "refusal": refusal,
         "unusable": unusable,
         "partly_written": findings.partly_written as u64,

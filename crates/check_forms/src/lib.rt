@@ -11,6 +11,7 @@
 //! Tests: the rows of `tool_rows`.
 #![tactic(auto)]
 
+mod faults;
 mod json;
 mod text;
 

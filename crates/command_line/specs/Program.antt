@@ -63,9 +63,9 @@ stops = optional (number (codes "stop-after") below_2_63) ∷ optional (number (
 abbrev pub aims : List Rule
 aims = optional blocks ∷ optional (number (codes "share") below_2_63) ∷ optional (number (codes "amplification") below_2_63) ∷ []
 
--- the option of a habit, by the names that it takes; without it the habit is lazy
+-- the option of a habit, by the names that it takes, in any case of their letters; without it the habit is lazy
 abbrev pub habit : Bor (List (Bor Text)) → Rule
-habit names = record (optional (with_parser (parsers.Names names) (valued (codes "habit")))) { defaults = codes "lazy" ∷ [] }
+habit names = record (optional (with_parser (parsers.Names names) (valued (codes "habit")))) { ignore_case = true; defaults = codes "lazy" ∷ [] }
 
 abbrev pub habit_names : List Text
 habit_names = codes "lazy" ∷ codes "closing" ∷ codes "strict" ∷ []

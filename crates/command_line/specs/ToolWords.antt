@@ -3,7 +3,7 @@ use Rattle.std.specs.Prelude.{◌≡◌, ◌<◌, ◌^◌, ◌*◌, ◌==◌, if
 use Rattle.std.specs.Prelude.{MatchOption, codes, min, string_bytes}
 use Rattle.clap.specs.Words.{Row, Text, first_of}
 use Rattle.nvme_wire.specs.declared.zone_state.ZoneState.{ZoneState}
-use Rattle.zone_report.specs.ReportText.{state_text}
+use Rattle.report_forms.specs.Named.{is_name_of}
 use Rattle.write_plan.specs.declared.aims.Aim.{Aim}
 use Rattle.write_plan.specs.declared.aims.Aim.TheVariants as aims
 use Rattle.tool_jobs.specs.declared.checking.CheckForm.{CheckForm}
@@ -44,9 +44,9 @@ pub record AsksForInfo (rows : List Row) (job : InfoJob) : Type 0 where
 
 -- ---- report, in other forms than all of its lines
 
--- the state with the name that was given, if one was
+-- the state with the name that was given, in any case of its letters, if one was
 abbrev pub HasStateIf : List Row → Option ZoneState → Type 0
-HasStateIf rows state = MatchOption (first_of (codes "state") rows) (state ≡ None) (λ name. IsSomeAnd state (λ s. name ≡ state_text s))
+HasStateIf rows state = MatchOption (first_of (codes "state") rows) (state ≡ None) (λ word. IsSomeAnd state (λ s. is_name_of word s ≡ true))
 
 -- which options a form is asked for by
 abbrev pub state_asked : Option ZonesForm → Option ZoneState

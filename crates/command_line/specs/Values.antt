@@ -3,7 +3,7 @@ use Rattle.std.specs.Prelude.{◌≡◌, ◌⊎◌, ◌<◌, ◌^◌, ℕ, Bool,
 use Rattle.std.specs.Prelude.{Result, codes, is_none, length, min}
 use Rattle.std.specs.List.{list_all}
 use Rattle.std.specs.Char.{is_ascii_digit}
-use Rattle.std.specs.Str.{bytes_eq}
+use Rattle.std.specs.Str.{bytes_eq, str_eq_ignore_ascii_case}
 use Rattle.std.specs.Str.Parse.{digits_value}
 use Rattle.clap.specs.Words.{Row, Text, first_of, one_of}
 use Rattle.zone_states.specs.declared.geometry.Geometry.{Geometry}
@@ -53,10 +53,11 @@ is_missing rows name = is_none (first_of name rows)
 abbrev pub lacks_all : List Row → List Text → Bool
 lacks_all rows names = list_all (is_missing rows) names
 
+-- the habit that a word names, in any case of its letters
 abbrev pub named_habit : Text → Habit
 named_habit word =
-    if bytes_eq word (codes "closing") then habits.Closing
-    else if bytes_eq word (codes "strict") then habits.Strict else habits.Lazy
+    if str_eq_ignore_ascii_case word (codes "closing") then habits.Closing
+    else if str_eq_ignore_ascii_case word (codes "strict") then habits.Strict else habits.Lazy
 
 abbrev pub HasHabit : List Row → Habit → Type 0
 HasHabit rows habit = MatchOption (first_of (codes "habit") rows) (habit ≡ habits.Lazy) (λ word. habit ≡ named_habit word)

@@ -244,6 +244,7 @@ fn habit_option<'a>(alloc: Global, habits: &'a [&'a str]) -> Arg<'a>
         .help("Which zones the drive closes by itself")
         .action(ArgAction::Set)
         .value_parser(habits)
+        .ignore_case(true)
         .default_value("lazy")
 }
 
@@ -316,7 +317,7 @@ fn import_command<'a>(alloc: Global) -> Result<Command<'a>, AllocError>
     ensures { IfOk result (λ new. IsCommand import_words new) }
 {
     let first = "The block that the first one is written to; 0 without it";
-    let sparse = "Trims blocks of zeros, so that they take no room";
+    let sparse = "Trims blocks of zeros, so that their data take no room";
     Command::new(alloc, "import")
         .about("Writes whole blocks from standard input to the drive in a file")
         .after_help(IMPORT_EXAMPLE)
@@ -524,4 +525,30 @@ pub fn program<'a>(alloc: Global, habits: &'a [&'a str]) -> Result<Command<'a>, 
     let command = with_subcommand(command, entry_command(alloc))?;
     let command = with_subcommand(command, fresh_command(alloc, habits))?;
     with_subcommand(command, fresh_raw_command(alloc, habits))
+}
+
+/// The subcommand with this name, as its usage shows it, or the whole program where there is none.
+pub fn subcommand_named<'a>(
+    alloc: Global,
+    habits: &'a [&'a str],
+    name: &str,
+) -> Result<Command<'a>, AllocError> {
+    let command = match name {
+        "format" => format_command(alloc)?,
+        "run" => run_command(alloc, habits)?,
+        "nbd" => nbd_command(alloc, habits)?,
+        "export" => export_command(alloc)?,
+        "import" => import_command(alloc)?,
+        "report" => report_command(alloc)?,
+        "check" => check_command(alloc)?,
+        "info" => info_command(alloc)?,
+        "plan" => plan_command(alloc)?,
+        "nvme" => nvme_command(alloc, habits)?,
+        "entry" => entry_command(alloc)?,
+        "fresh" => fresh_command(alloc, habits)?,
+        "fresh-raw" => fresh_raw_command(alloc, habits)?,
+        _ => return program(alloc, habits),
+    };
+    let whole = format!(in alloc; "zonedisk {name}")?;
+    command.bin_name(&whole)
 }

@@ -23,6 +23,7 @@
 
 mod command;
 mod entries;
+mod refusal;
 mod task;
 mod tools;
 mod words;

@@ -105,6 +105,17 @@ pub fn state_if_given(matches: &ArgMatches<'_>) -> Result<Option<ZoneState>, Wor
     }
 }
 
+/// Which two options of a report are not taken together, of these and, where they are, of `--state`.
+fn two_forms(brief: bool, json: bool, svg: bool) -> WordFault {
+    match (brief, json, svg) {
+        (true, true, _) => WordFault::Both("brief", "json"),
+        (true, false, true) => WordFault::Both("brief", "svg"),
+        (true, false, false) => WordFault::Both("brief", "state"),
+        (false, true, _) => WordFault::Both("json", "svg"),
+        (false, false, _) => WordFault::Both("svg", "state"),
+    }
+}
+
 /// How zones are shown, if not by all lines of a report.
 pub fn zones_form(matches: &ArgMatches<'_>) -> Result<Option<ZonesForm>, WordFault>
     ensures { Finds (HasZonesForm (rows_of (found_of matches.now))) result }
@@ -121,8 +132,33 @@ pub fn zones_form(matches: &ArgMatches<'_>) -> Result<Option<ZonesForm>, WordFau
         (true, false, false, None) => Ok(Some(ZonesForm::Brief)),
         (false, true, false, state) => Ok(Some(ZonesForm::Json(state))),
         (false, false, true, None) => Ok(Some(ZonesForm::Svg)),
-        _ => Err(WordFault::Both),
+        _ => Err(two_forms(brief, json, svg)),
     }
+}
+
+/// The options of a plan that have a value, but for `--bytes`: those of its drive first.
+const PLAN_OPTIONS: [&str; 11] = [
+    "block",
+    "zones",
+    "size",
+    "capacity",
+    "transfer",
+    "active",
+    "open",
+    "image",
+    "blocks",
+    "share",
+    "amplification",
+];
+
+/// The first of these options that was given, or the last one.
+fn first_given(matches: &ArgMatches<'_>) -> &'static str {
+    for name in PLAN_OPTIONS {
+        if !is_missing(matches, name) {
+            return name;
+        }
+    }
+    "amplification"
 }
 
 /// The drive that a plan is for.
@@ -133,7 +169,7 @@ fn planned_drive(alloc: Global, matches: &ArgMatches<'_>) -> Result<PlannedDrive
         return Ok(PlannedDrive::Shape(geometry(matches)?));
     }
     if !lacks_parts(matches) {
-        return Err(WordFault::Both);
+        return Err(WordFault::Both("image", first_given(matches)));
     }
     Ok(PlannedDrive::Image(image(alloc, matches)?))
 }
@@ -153,7 +189,9 @@ fn aim(matches: &ArgMatches<'_>) -> Result<Aim, WordFault>
             let hundredths = whole.saturating_mul(100);
             Ok(Aim::Amplification(u32::try_from(hundredths).unwrap_or(u32::MAX)))
         }
-        _ => Err(WordFault::Both),
+        (Some(_), Some(_), _) => Err(WordFault::Both("blocks", "share")),
+        (Some(_), None, Some(_)) => Err(WordFault::Both("blocks", "amplification")),
+        (None, Some(_), Some(_)) => Err(WordFault::Both("share", "amplification")),
     }
 }
 
@@ -165,7 +203,7 @@ fn plan_form(matches: &ArgMatches<'_>) -> Result<PlanForm, WordFault>
         (false, false) => Ok(PlanForm::Table),
         (true, false) => Ok(PlanForm::Json),
         (false, true) => Ok(PlanForm::Svg),
-        (true, true) => Err(WordFault::Both),
+        (true, true) => Err(WordFault::Both("json", "svg")),
     }
 }
 
@@ -225,13 +263,18 @@ fn format_bytes(matches: &ArgMatches<'_>, text: &str) -> Result<u64, WordFault>
     requires { first_of (codes "bytes") (rows_of (found_of matches.now)) ≡ Some text.now }
     ensures { Finds (AsksForFormat (rows_of (found_of matches.now))) result }
 {
-    let has_flag = is_set(matches, "json") || is_set(matches, "svg");
-    if has_flag || !lacks_plan(matches) {
-        return Err(WordFault::Both);
+    if is_set(matches, "json") {
+        return Err(WordFault::Both("bytes", "json"));
+    }
+    if is_set(matches, "svg") {
+        return Err(WordFault::Both("bytes", "svg"));
+    }
+    if !lacks_plan(matches) {
+        return Err(WordFault::Both("bytes", first_given(matches)));
     }
     match size_in(text) {
         Some(bytes) => Ok(bytes),
-        None => Err(WordFault::Digits("bytes")),
+        None => Err(WordFault::Size),
     }
 }
 

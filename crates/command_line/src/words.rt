@@ -3,16 +3,16 @@ ghost use Rattle.std.specs.List.{list_all};
 ghost use Rattle.std.specs.Char.{is_ascii_digit};
 ghost use Rattle.clap.specs.Words.{first_of, found_of, rows_of, subcommand_rows_of};
 ghost use Rattle.command_line.specs.Values.{Finds, HasFlag, HasGeometry, HasHabit, HasImage, HasNumber};
-ghost use Rattle.command_line.specs.Values.{HasNumberIf, HasNumberOr, HasStop, IsNumber};
+ghost use Rattle.command_line.specs.Values.{HasNumberIf, HasNumberOr, HasStop, IsNumber, named_habit};
 ghost use Rattle.command_line.specs.Words.{AsksFor, AsksForCopy, AsksForJob, AsksForNbd, IsAnswerTo};
 ghost use Rattle.command_line.specs.declared.words.WordFault.TheVariants.{Memory};
 
 use crate::command::{HABITS, program};
 use crate::entries::entry_words;
+use crate::refusal::refusal;
 use crate::task::Task;
 use crate::tools::{check_job, info_job, plan_tool, zones_form};
-use clap::error::ErrorKind;
-use clap::{ArgMatches, Command, Error};
+use clap::{ArgMatches, Error};
 use copy_jobs::{CopyJob, ExportJob, ImportJob};
 use disk_jobs::{Habit, Job, Stop};
 use nbd_jobs::NbdJob;
@@ -23,18 +23,23 @@ use zone_states::Geometry;
 /// Why words that the program takes are no task.
 #[derive(Clone, Copy)]
 pub enum WordFault {
-    /// They lack a subcommand or an option. The parser refuses such words before.
+    /// They lack a subcommand or a word of it. The parser refuses such words before.
     Missing,
+    /// They lack the option with this name. The parser refuses such words before, but for a plan, which may take
+    /// others.
+    Lacks(&'static str),
     /// The value of the option with this name is not in decimal digits, or needs too many bits.
     Digits(&'static str),
+    /// The number of bytes of a plan is no number, or has another unit.
+    Size,
     /// The state of zones has no such name.
     State,
     /// No command has this name.
     Command,
     /// The data is not in pairs of hexadecimal digits.
     Bytes,
-    /// Two options were given of which one alone is taken.
-    Both,
+    /// These two options were given, which are not taken together.
+    Both(&'static str, &'static str),
     /// An allocation failed.
     Memory,
 }
@@ -88,7 +93,7 @@ fn number(matches: &ArgMatches<'_>, name: &'static str) -> Result<u64, WordFault
     ensures { Finds (HasNumber 64 (rows_of (found_of matches.now)) name.entry.now) result }
 {
     let Some(digits) = given(matches, name) else {
-        return Err(WordFault::Digits(name));
+        return Err(WordFault::Lacks(name));
     };
     match number_in(digits) {
         Some(number) => Ok(number),
@@ -142,14 +147,26 @@ fn stop_of(matches: &ArgMatches<'_>) -> Result<Stop, WordFault>
     })
 }
 
+/// The habit with this name, in any case of its letters.
+fn named_habit(word: &str) -> Habit
+    ensures { result ≡ named_habit word.now }
+{
+    if word.eq_ignore_ascii_case("closing") {
+        return Habit::Closing;
+    }
+    if word.eq_ignore_ascii_case("strict") {
+        return Habit::Strict;
+    }
+    Habit::Lazy
+}
+
 /// The habit of the drive.
 fn habit_of(matches: &ArgMatches<'_>) -> Habit
     ensures { HasHabit (rows_of (found_of matches.now)) result }
 {
     match given(matches, "habit") {
-        Some("closing") => Habit::Closing,
-        Some("strict") => Habit::Strict,
-        _ => Habit::Lazy,
+        Some(word) => named_habit(word),
+        None => Habit::Lazy,
     }
 }
 
@@ -351,41 +368,6 @@ fn asked(alloc: Global, matches: &ArgMatches<'_>) -> Result<Task, WordFault>
     }
 }
 
-/// The text to show of a refusal. There is none where memory ran out.
-fn refusal(alloc: Global, program: &mut Command<'_>, fault: WordFault) -> Result<Error, AllocError>
-    ensures { IfOk result (λ _. fault ≢ Memory) }
-{
-    match fault {
-        WordFault::Missing => {
-            program.error(
-                ErrorKind::MissingSubcommand,
-                "a subcommand or an option is wanted",
-            )
-        }
-        WordFault::Digits(name) => {
-            let text = format!(in alloc; "the value of '--{name}' is not in decimal digits")?;
-            program.error(ErrorKind::ValueValidation, &text)
-        }
-        WordFault::State => program.error(
-            ErrorKind::ValueValidation,
-            "the value of '--state' is not the name of a state",
-        ),
-        WordFault::Command => program.error(
-            ErrorKind::ValueValidation,
-            "the word after 'entry' is not the name of a command",
-        ),
-        WordFault::Bytes => program.error(
-            ErrorKind::ValueValidation,
-            "the value of '--data' is not in pairs of hexadecimal digits",
-        ),
-        WordFault::Both => program.error(
-            ErrorKind::ArgumentConflict,
-            "two of the options are not taken together",
-        ),
-        WordFault::Memory => Err(AllocError),
-    }
-}
-
 /// The task that the words ask for; the first word is the program's name.
 ///
 /// Words that ask for no task, a request for help among them, are refused with the text to show.
@@ -396,6 +378,6 @@ pub fn task_of(alloc: Global, words: &[String]) -> Result<Task, Error>
     let matches = program.try_get_matches_from_mut(words)?;
     match asked(alloc, &matches) {
         Ok(task) => Ok(task),
-        Err(fault) => Err(refusal(alloc, &mut program, fault)?),
+        Err(fault) => Err(refusal(alloc, &matches, fault)?),
     }
 }

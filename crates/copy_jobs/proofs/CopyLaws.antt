@@ -1,7 +1,6 @@
 -- A copy of the drive in a file, whatever ended it.
 use Rattle.std.proofs.Common.{ℕ, Option, List, Result, Ok, Err}
 use Rattle.drive_port.specs.Drive.{DriveState}
-use Rattle.block_copies.specs.declared.fault.ExportFault.{ExportFault}
 use Rattle.block_copies.specs.declared.fault.ImportFault.{ImportFault}
 use Rattle.copy_jobs.specs.DriveCopies.{ImportsDisk, ImportsDrive, import_end}
 use Rattle.copy_jobs.specs.declared.job.ImportJob.{ImportJob}

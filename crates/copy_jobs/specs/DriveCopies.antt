@@ -1,15 +1,17 @@
 -- Copies of the drive in a file: what is written of its blocks, and what an import leaves in the file.
-use Rattle.std.specs.Prelude.{◌≡◌, ℕ, ◌-◌, max, Bool, List, Option, Some, None, Result, Ok, Err, IfSome}
+use Rattle.std.specs.Prelude.{◌≡◌, ℕ, ◌-◌, ◌||◌, if◌then◌else◌, max, Bool, Option, Some, None, Result, Ok, Err, IfSome}
 use Rattle.drive_port.specs.Drive.{DriveState}
 use Rattle.drive_journal.specs.File.{IsStored}
 use Rattle.drive_journal.specs.FileFaults.{IsFileFault}
-use Rattle.drive_store.specs.Kept.{IsRestarted}
+use Rattle.drive_store.specs.Kept.{IsRestarted, stays}
+use Rattle.drive_store.specs.declared.file_end.FileEnd.{FileEnd}
 use Rattle.drive_store.specs.declared.kept_drive.Begun.{Begun}
 use Rattle.zone_drive.specs.declared.habit.Habit.TheVariants.{Lazy}
+use Rattle.zone_drive.specs.Habits.{MemoryDrive}
 use Rattle.zone_translator.specs.View.{DiskView, KeepsDisk, disk_size}
 use Rattle.disk_runs.specs.Run.{Known}
 use Rattle.disk_jobs.specs.Saved.{IsHandedBack}
-use Rattle.nbd_jobs.specs.Serving.{IsNotServed, IsServed}
+use Rattle.nbd_jobs.specs.Mounted.{IsNotServed, IsServed}
 use Rattle.nbd_jobs.specs.declared.fault.NbdFault.{NbdFault}
 use Rattle.block_copies.specs.Copies.{Exports, Imports}
 use Rattle.block_copies.specs.declared.fault.ExportFault.{ExportFault}
@@ -87,13 +89,27 @@ pub record LeavesImported (job : ImportJob) (input rest : Known) (old : DriveSta
   pub back : IsHandedBack failed drive left.drive.state
   pub stored : IfSome held (λ bytes. IsStored bytes drive)
 
--- the same of the drive that the bytes of a file hold, restarted
+-- The same of the drive that the bytes of a file hold, restarted. It is told whether the file was the image of that drive at rest.
 pub record ImportsFile (job : ImportJob) (file input rest : Known) (taken : Result ℕ CopyFault) (left : Left) (held : Known) (failed : Bool) : Type 0 where
   pub begun : Begun
   pub begins : IsRestarted file Lazy begun
+  pub was_image : left.was_image ≡ begun.is_image
   pub leaves : LeavesImported job input rest begun.drive.state taken left held failed
 
 -- the file holds no drive, and nothing is read
 abbrev pub ImportsNothing : Known → Known → Known → Result ℕ CopyFault → Type 0
 ImportsNothing file input rest (Err fault) = IsUnread file fault × (rest ≡ input)
 ImportsNothing file input rest (Ok count) = ⊥
+
+-- ---- the file
+
+-- What is saved of an import: the drive that it left, also after a fault. Nothing is saved where the file stays as it is, nor where the store failed:
+-- then the file has all changes before.
+abbrev pub imported_drive_to_save : FileEnd → Option Left → Option MemoryDrive
+imported_drive_to_save end None = None
+imported_drive_to_save end (Some left) = if (left.failed || stays end left.was_image) then None else Some left.drive
+
+-- an import whose file failed is told by that fault
+abbrev pub import_told : Result ℕ CopyFault → Option CopyFault → Result ℕ CopyFault
+import_told taken (Some failed) = Err failed
+import_told taken None = taken

@@ -22,6 +22,16 @@ pub struct Left {
     /// Whether the store failed. Then it has all changes before that one, and the drive that counts is the one that it
     /// holds.
     pub failed: bool,
+    /// Whether the file was the image of the drive at rest, before the import.
+    pub was_image: bool,
+}
+
+/// A drive whose changes go to a store.
+#[derive(Drop)]
+struct Stored<S: Store<Drive> + Drop> {
+    device: Journaling<Drive, S>,
+    /// Whether the file was the image of the drive at rest.
+    was_image: bool,
 }
 
 /// How an import ended, as it is told.
@@ -56,17 +66,19 @@ fn import_mounted<D: Device + Drop, R: Read>(
 fn import_kept<S: Store<Drive> + Drop, R: Read>(
     alloc: Global,
     job: &ImportJob,
-    device: Journaling<Drive, S>,
+    stored: Stored<S>,
     reader: &mut R,
 ) -> (Left, S, Result<u64, CopyFault>)
-    ensures { LeavesImported job.now (R.remaining reader.old) (R.remaining reader.new)
-        device.drive result.2 result.0 (S.held result.1) (S.failed result.1) }
+    ensures leaves { LeavesImported job.now (R.remaining reader.old) (R.remaining reader.new)
+        stored.device.drive result.2 result.0 (S.held result.1) (S.failed result.1) }
+    ensures was_image { result.0.was_image ≡ stored.was_image }
 {
-    let (device, taken) = import_mounted(alloc, job, device, reader);
+    let (device, taken) = import_mounted(alloc, job, stored.device, reader);
     let (drive, store) = device.into_parts();
     let left = Left {
         drive,
         failed: store.has_failed(),
+        was_image: stored.was_image,
     };
     (left, store, taken)
 }
@@ -93,7 +105,10 @@ pub fn import_drive<I: Read + Drop, S: Store<Drive> + Drop, R: Read>(
         Ok(begun) => begun,
         Err(fault) => return (None, store, Err(CopyFault::Image(fault))),
     };
-    let device = keep(alloc, begun, store);
-    let (left, store, taken) = import_kept(alloc, job, device, reader);
+    let stored = Stored {
+        was_image: begun.is_image,
+        device: keep(alloc, begun, store),
+    };
+    let (left, store, taken) = import_kept(alloc, job, stored, reader);
     (Some(left), store, taken)
 }

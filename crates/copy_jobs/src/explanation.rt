@@ -7,9 +7,15 @@ use std::alloc::{AllocError, Global};
 pub fn explain(alloc: Global, job: &CopyJob, fault: CopyFault) -> Result<String, AllocError> {
     let path = job.image();
     match (job, fault) {
-        (CopyJob::Export(_), CopyFault::Mount(NbdFault::NoSize { .. })) => {
+        (CopyJob::Export(_), CopyFault::Mount(NbdFault::Unwritten { .. })) => {
             format!(in alloc;
                 "{path}: nothing was written to the drive, so it has no logical blocks"
+            )
+        }
+        (CopyJob::Export(_), CopyFault::Mount(NbdFault::NoSize { most })) => {
+            format!(in alloc;
+                "{path}: the drive was written, but its headers say no size: a write by `run --blocks N`, N from 1 to {most}, \
+                makes them say it"
             )
         }
         (_, CopyFault::Image(fault)) => format!(in alloc; "{path}: {fault}"),

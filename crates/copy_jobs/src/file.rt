@@ -4,16 +4,14 @@ use crate::drive_export::export_drive;
 use crate::drive_import::{Left, import_drive};
 use crate::fault::CopyFault;
 use crate::job::{ExportJob, ImportJob};
+use crate::saving::{import_told, imported_drive_to_save};
 use block_copies::ExportFault;
 use disk_jobs::{Counted, Watched};
-use drive_store::{
-    ChangesFile, DriveFile, FileFault, Saving, image_to_read, image_to_save, save_if_any,
-};
+use drive_store::{ChangesFile, DriveFile, FileFault, Saved, Saving, image_to_read, image_to_save};
 use std::alloc::Global;
 use std::fs::File;
 use std::io::{BufReader, Read, Write};
 use std::rt::Files;
-use zone_drive::Drive;
 
 /// How an import ended, and how its drive was saved. Both can fail.
 #[derive(Clone, Copy, Debug, PartialEq, Eq)]
@@ -21,7 +19,7 @@ pub struct Imported {
     /// How many blocks were taken.
     pub taken: Result<u64, CopyFault>,
     /// Of the drive. It is `Ok` if there is none to save.
-    pub saved: Result<(), CopyFault>,
+    pub saved: Result<Saved, CopyFault>,
 }
 
 impl Imported {
@@ -29,7 +27,7 @@ impl Imported {
     fn unread(fault: CopyFault) -> Imported {
         Imported {
             taken: Err(fault),
-            saved: Ok(()),
+            saved: Ok(Saved::IN_PLACE),
         }
     }
 }
@@ -65,24 +63,6 @@ pub fn do_export<F: Files<File = File> + Eprint, W: Write + Drop>(
     exported.and(sent.or(Err(CopyFault::Export(ExportFault::Output))))
 }
 
-/// What is saved of an import: the drive that it left, also after a fault. Nothing is saved if the file stays as it is,
-/// since it is unchanged or takes no more changes, nor if a change could not be written to it.
-fn drive_to_save(stays: bool, left: Option<Left>) -> Option<Drive> {
-    let left = left?;
-    if left.failed || stays {
-        return None;
-    }
-    Some(left.drive)
-}
-
-/// How an import ended: where a change could not be written to its file, that is told.
-fn import_told(taken: Result<u64, CopyFault>, failed: Option<FileFault>) -> Result<u64, CopyFault> {
-    match failed {
-        Some(fault) => Err(told(fault)),
-        None => taken,
-    }
-}
-
 /// Imports blocks to the drive of an open file, whose bytes are read from `bytes`.
 fn import_file<F: Files<File = File>, R: Read>(
     alloc: Global,
@@ -103,11 +83,7 @@ pub fn do_import<F: Files<File = File> + Eprint, R: Read + Drop>(
     job: &ImportJob,
     input: R,
 ) -> Imported {
-    let saving = Saving {
-        files,
-        alloc,
-        sync: true,
-    };
+    let saving = Saving { files, alloc };
     let (image, bytes) = match image_to_save(files, alloc, &job.image) {
         Ok(opened) => opened,
         Err(fault) => return Imported::unread(told(fault)),
@@ -117,10 +93,10 @@ pub fn do_import<F: Files<File = File> + Eprint, R: Read + Drop>(
     let (left, taken) = import_file(alloc, job, (&file, bytes), &mut input);
     // A fault is told by the file.
     let _ = file.write_out();
-    let taken = import_told(taken, file.fault());
-    let drive = drive_to_save(file.stays(), left);
+    let taken = import_told(taken, file.fault().map(told));
+    let drive = imported_drive_to_save(file.end(), left);
     Imported {
         taken,
-        saved: save_if_any(&saving, drive, &file.into_image()).map_err(told),
+        saved: file.save(drive).map_err(told),
     }
 }

@@ -17,7 +17,8 @@
 //! * [`import_drive`] restarts the drive in the file, mounts it and imports blocks to its disk. Whatever ends that, the
 //!   store holds the drive that is left, which can be mounted again. Without a mounted drive nothing is read.
 //!
-//! Nothing is promised of [`do_export`] and [`do_import`], since no contract says what a file holds.
+//! What is saved after an import, and when its file failed, is decided in `saving.rt`, by contract. Nothing else is
+//! promised of [`do_export`] and [`do_import`], since no contract says what a file holds.
 //!
 //! Tests: none yet.
 #![tactic(auto)]
@@ -28,6 +29,7 @@ mod explanation;
 mod fault;
 mod file;
 mod job;
+mod saving;
 
 pub use drive_export::export_drive;
 pub use drive_import::{Left, import_drive};

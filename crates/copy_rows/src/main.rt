@@ -3,9 +3,11 @@
 #![tactic(auto)]
 
 mod pieces;
+mod sizes;
 
 use std::test::Fail;
 
 fn main(rt: HostRuntime) -> Result<(), Fail> {
-    pieces::show_pieces(&rt)
+    pieces::show_pieces(&rt)?;
+    sizes::show_sizes(&rt)
 }

@@ -34,7 +34,7 @@ stores-nothing (jobs.FreshRaw geometry habit) old drive e = refl
 
 -- a job with a file begins with the drive that its store has once it was cut
 pub begins-stored : (job : Job) (held file : Known) (begun : Begun) → HoldsFile held file → BeginsOn job file begun → has_changes job ≡ true
-    → IfSome (front_of begun.whole held) (λ bytes. IsStoredWhole bytes begun.drive.state)
+    → IfSome (front_of begun.whole held) (λ bytes. IsStoredWhole bytes begun.drive.state begun.sum)
 begins-stored (jobs.Format path geometry force) held file begun same begins e = absurd (cc e)
 begins-stored (jobs.Run path blocks zones statistics stop habit sync read_only progress) held file begun same begins e = restarted-stored held file habit begun same begins
 begins-stored (jobs.Report path) held file begun same begins e = absurd (cc e)

@@ -4,6 +4,7 @@ use Rattle.std.specs.Io.KnownBytes.{Keeps}
 use Rattle.drive_survey.specs.declared.fault.MountFault.TheVariants as mounts
 use Rattle.disk_files.specs.Output.{AppendsFront}
 use Rattle.drive_images.specs.FaultText.{image_fault_text as image_text}
+use Rattle.drive_images.specs.declared.fault.ImageFault.TheVariants as images
 use Rattle.drive_journal.specs.declared.fault.FileFault.{FileFault as ReadFault}
 use Rattle.drive_journal.specs.declared.fault.FileFault.TheVariants as files
 use Rattle.disk_runs.specs.FaultText.{run_fault_text as run_text}
@@ -12,9 +13,12 @@ use Rattle.disk_runs.specs.declared.fault.RunFault.TheVariants as runs
 use Rattle.disk_jobs.specs.declared.fault.ProgramFault.{ProgramFault}
 use Rattle.disk_jobs.specs.declared.fault.ProgramFault.TheVariants as program
 
--- the fault of a file that holds no drive: of its image by a line of its own, and of its changes by the line of a file
+-- the fault of a file that holds no drive: of its image by a line of its own, bytes after the image by that of a long one,
+-- and its changes by the line of a file
 abbrev pub read_fault_text : ReadFault → List ℕ
 read_fault_text (files.Image fault) = image_text fault
+read_fault_text (files.Long at) = image_text images.Long
+read_fault_text (files.Earlier at) = codes "fault file\n"
 read_fault_text (files.Damaged at) = codes "fault file\n"
 read_fault_text files.Zones = codes "fault file\n"
 

@@ -28,7 +28,8 @@ use Rattle.disk_runs.specs.declared.fault.RunFault.{RunFault}
 use Rattle.disk_runs.specs.declared.fault.RunFault.TheVariants as runs
 use Rattle.disk_jobs.specs.declared.fault.ProgramFault.{ProgramFault}
 use Rattle.disk_jobs.specs.declared.fault.ProgramFault.TheVariants as program
-use Rattle.drive_store.specs.Kept.{IsReadIn, IsRestarted}
+use Rattle.drive_store.specs.Kept.{IsReadIn, IsRestarted, stays}
+use Rattle.drive_store.specs.declared.file_end.FileEnd.{FileEnd}
 use Rattle.drive_store.specs.declared.file_fault.FileFault.{FileFault}
 use Rattle.disk_jobs.specs.declared.job.Job.{Job}
 use Rattle.disk_jobs.specs.declared.job.Job.TheVariants as jobs
@@ -220,11 +221,12 @@ pub record LeavesDrive (job : Job) (bytes : Exchange) (old : DriveState) (ended 
   pub back : IsHandedBack failed drive left.drive.state
   pub stored : StoresDrive job before held drive
 
--- What a job leaves of the drive that it began with.
+-- What a job leaves of the drive that it began with. It is told whether the file was the image of that drive at rest.
 pub record LeftByLines (job : Job) (file : Known) (bytes : Exchange) (ended : Result (Unit {0}) RunFault) (left : Left)
     (before held : Known) (failed : Bool) : Type 0 where
   pub first : Begun
   pub begins : BeginsOn job file first
+  pub was_image : left.was_image ≡ first.is_image
   pub told : Known
   pub says : SaysFirst job bytes.written told
   pub leaves : LeavesDrive job (record bytes { written = told }) first.drive.state ended left before held failed
@@ -232,11 +234,13 @@ pub record LeftByLines (job : Job) (file : Known) (bytes : Exchange) (ended : Re
 -- ---- the file
 
 -- What is saved of a job, once what it wrote was sent: the drive that it left, also after a fault. A fresh drive is saved only if its `ok` was sent.
--- Nothing is saved where the file was only read or not changed, nor where a change could not be written: then the file has all changes before it.
-abbrev pub drive_to_save : Job → Result (Unit {0}) ProgramFault → Bool → Option Left → Option MemoryDrive
-drive_to_save job sent unchanged None = None
-drive_to_save (jobs.Format path geometry force) (Err fault) unchanged (Some left) = None
-drive_to_save job sent unchanged (Some left) = if (reads_only job || left.failed || unchanged) then None else Some left.drive
+-- Nothing is saved where the file was only read, nor where a change could not be written: then the file has all changes before it.
+-- Where no change was written, the file stays as it is only if it was the image of the drive at rest.
+abbrev pub drive_to_save : Job → Result (Unit {0}) ProgramFault → FileEnd → Option Left → Option MemoryDrive
+drive_to_save job sent end None = None
+drive_to_save (jobs.Format path geometry force) (Err fault) end (Some left) = None
+drive_to_save (jobs.Format path geometry force) (Ok sent) end (Some left) = Some left.drive
+drive_to_save job sent end (Some left) = if (reads_only job || left.failed || stays end left.was_image) then None else Some left.drive
 
 -- A job whose file failed during its lines is told by that fault: its lines met it as a drive that stopped, or as an output that failed.
 abbrev pub first_told : Result (Unit {0}) ProgramFault → Option FileFault → Result (Unit {0}) ProgramFault

@@ -1,10 +1,12 @@
 use crate::fault::ProgramFault;
+use crate::input::JobInput;
 use crate::job::Job;
 use crate::line_problem::{LineProblem, raw_problem, trace_problem};
 use crate::mounting::Mounting;
 use disk_files::LONGEST_LINE;
 use disk_runs::RunFault;
 use std::alloc::{AllocError, Global};
+use std::io::Read;
 use zone_translator::{DiskFault, MountFault};
 
 /// What is wrong with a line, if it is no raw line or none of a trace.
@@ -19,17 +21,36 @@ fn problem_of(job: &Job, line: &[u8], mounting: Mounting) -> Option<LineProblem>
 /// How many bytes of a line are shown.
 const SHOWN_BYTES: usize = 60;
 
-/// Where a drive or a disk refused: at a line, of which the beginning is shown, or before the first one.
-fn place(alloc: Global, line: &[u8]) -> Result<String, AllocError> {
-    if line.is_empty() {
-        return String::from_str(alloc, "before the first line");
-    }
+/// The beginning of a line, if it is text.
+fn shown_line(alloc: Global, line: &[u8]) -> Result<String, AllocError> {
     let shown = line.len().min(SHOWN_BYTES);
     match std::str::from_utf8(&line[..shown]) {
-        Ok(text) if shown < line.len() => format!(in alloc; "at the line `{text}..`"),
-        Ok(text) => format!(in alloc; "at the line `{text}`"),
-        Err(_) => String::from_str(alloc, "at the last line"),
+        Ok(text) if shown < line.len() => format!(in alloc; ", `{text}..`"),
+        Ok(text) => format!(in alloc; ", `{text}`"),
+        Err(_) => Ok(String::new(alloc)),
     }
+}
+
+/// Where a run ended: at a line, by its number as `fault line` counts, or before the first one.
+fn place<R: Read + Drop>(alloc: Global, input: &mut JobInput<'_, R>) -> Result<String, AllocError> {
+    if input.line().is_empty() {
+        return String::from_str(alloc, "before the first line");
+    }
+    let shown = shown_line(alloc, input.line())?;
+    let number = input.number();
+    format!(in alloc; "at line {number}{shown}")
+}
+
+/// Where memory ran out, once a line was read.
+fn explain_memory<R: Read + Drop>(
+    alloc: Global,
+    input: &mut JobInput<'_, R>,
+) -> Result<String, AllocError> {
+    if input.line().is_empty() {
+        return String::from_str(alloc, "out of memory");
+    }
+    let place = place(alloc, input)?;
+    format!(in alloc; "{place}: out of memory")
 }
 
 /// What a stop comes to that the job asks for: how many of the commands before it the mount took.
@@ -64,41 +85,43 @@ fn explain_line(
     }
 }
 
-fn explain_run(
+fn explain_run<R: Read + Drop>(
     alloc: Global,
     job: &Job,
     fault: RunFault,
-    line: &[u8],
+    input: &mut JobInput<'_, R>,
     mounting: Mounting,
 ) -> Result<String, AllocError> {
     match fault {
-        RunFault::Line(number) => explain_line(alloc, number, problem_of(job, line, mounting)),
+        RunFault::Line(number) => {
+            explain_line(alloc, number, problem_of(job, input.line(), mounting))
+        }
         RunFault::Long(number) => {
             format!(in alloc; "line {number} has more than {LONGEST_LINE} bytes")
         }
-        RunFault::Disk(fault) => format!(in alloc; "{}: {fault}", place(alloc, line)?),
-        RunFault::Mount(fault) => format!(in alloc; "{}: {fault}", place(alloc, line)?),
+        RunFault::Disk(fault) => format!(in alloc; "{}: {fault}", place(alloc, input)?),
+        RunFault::Mount(fault) => format!(in alloc; "{}: {fault}", place(alloc, input)?),
         RunFault::Geometry(fault) => format!(in alloc; "{fault}"),
         RunFault::Input => String::from_str(alloc, "standard input failed"),
         RunFault::Output => String::from_str(alloc, "standard output failed"),
-        RunFault::Memory => String::from_str(alloc, "out of memory"),
+        RunFault::Memory => explain_memory(alloc, input),
     }
 }
 
-/// One line for people that says what a fault is, without a line feed. `line` is the line that the job read last, and
-/// `mounting` what is known of its mount.
-pub fn explain(
+/// One line for people that says what a fault is, without a line feed. `input` has the line that the job read last, and
+/// no more lines afterwards. `mounting` is what is known of its mount.
+pub fn explain<R: Read + Drop>(
     alloc: Global,
     job: &Job,
     fault: ProgramFault,
-    line: &[u8],
+    input: &mut JobInput<'_, R>,
     mounting: Mounting,
 ) -> Result<String, AllocError> {
     let path = job.image().unwrap_or("the file");
     match fault {
         ProgramFault::Run(fault) => {
             let (told, stop) = (
-                explain_run(alloc, job, fault, line, mounting)?,
+                explain_run(alloc, job, fault, input, mounting)?,
                 explain_stop(alloc, job, fault, mounting)?,
             );
             format!(in alloc; "{told}{stop}")

@@ -6,7 +6,7 @@ ghost use Rattle.disk_jobs.specs.declared.fault.ProgramFault.TheVariants as prog
 
 use disk_files::{WriteFault, write_out};
 use disk_runs::{RunFault, write_fault};
-use drive_images::image_fault_line;
+use drive_images::{ImageFault, image_fault_line};
 use drive_journal::FileFault as ReadFault;
 use drive_store::FileFault;
 use std::alloc::{AllocError, Global};
@@ -72,6 +72,8 @@ fn read_fault_line(alloc: Global, fault: ReadFault) -> Result<Vec<u8>, AllocErro
 {
     match fault {
         ReadFault::Image(fault) => image_fault_line(alloc, fault),
+        ReadFault::Long(_) => image_fault_line(alloc, ImageFault::Long),
+        ReadFault::Earlier(_) => Vec::from_slice(alloc, b"fault file\n"),
         ReadFault::Damaged(_) => Vec::from_slice(alloc, b"fault file\n"),
         ReadFault::Zones => Vec::from_slice(alloc, b"fault file\n"),
     }

@@ -4,13 +4,13 @@ use crate::job::Job;
 use crate::lines::Left;
 use crate::mounting::Mounting;
 use crate::program::run_job;
-use crate::saving::{drive_to_save, first_told};
+use crate::saving::{drive_to_save, first_told, sent_after};
 use disk_files::LineReader;
 use disk_runs::RunFault;
 use drive_journal::Unknown;
 use drive_store::{
-    ChangesFile, ChangesOutput, DriveFile, FileFault, ImageFile, Saving, SentAfter, image_to_read,
-    image_to_save, open_to_format, save, save_if_any,
+    ChangesFile, ChangesOutput, DriveFile, FileEnd, FileFault, ImageFile, Saved, Saving,
+    image_to_read, image_to_save, open_to_format, save,
 };
 use std::alloc::Global;
 use std::fs::File;
@@ -25,7 +25,7 @@ pub struct Done {
     /// Of the job, with the replies that it sent.
     pub job: Result<(), ProgramFault>,
     /// Of the drive. It is `Ok` where the job leaves none to save.
-    pub saved: Result<(), ProgramFault>,
+    pub saved: Result<Saved, ProgramFault>,
     /// What is known of the mount, if there was one.
     pub mounting: Mounting,
 }
@@ -35,14 +35,17 @@ impl Done {
     fn unsaved(job: Result<(), ProgramFault>) -> Done {
         Done {
             job,
-            saved: Ok(()),
+            saved: Ok(Saved::IN_PLACE),
             mounting: Mounting::NONE,
         }
     }
 
     /// The fault that the program ends with: the first one.
     pub fn fault(&self) -> Option<ProgramFault> {
-        self.job.and(self.saved).err()
+        match self.job {
+            Ok(()) => self.saved.err(),
+            Err(fault) => Some(fault),
+        }
     }
 }
 
@@ -108,12 +111,7 @@ fn run_over<F: Files<File = File>, I: Read + Drop, R: Read + Drop, W: Write>(
     input: &mut LineReader<R>,
     output: &mut W,
 ) -> Ran {
-    let after = if job.sync() {
-        SentAfter::Sync
-    } else {
-        SentAfter::Write
-    };
-    let waiting = ChangesOutput::new(file, after, output);
+    let waiting = ChangesOutput::new(file, sent_after(job), output);
     let Ok(mut output) = BufWriter::new(saving.alloc, waiting) else {
         return (None, Err(ProgramFault::Run(RunFault::Memory)));
     };
@@ -142,10 +140,10 @@ fn run_with_changes<F: Files<File = File>, R: Read + Drop, W: Write>(
     let _ = file.write_out();
     let sent = first_told(ran, file.fault());
     let mounting = mounting(&left);
-    let drive = drive_to_save(job, sent, file.stays(), left);
+    let drive = drive_to_save(job, sent, file.end(), left);
     Done {
         job: sent,
-        saved: save_if_any(saving, drive, &file.into_image()).map_err(told),
+        saved: file.save(drive).map_err(told),
         mounting,
     }
 }
@@ -156,7 +154,7 @@ fn save_fresh<F: Files<File = File>>(
     path: &str,
     force: bool,
     drive: &Drive,
-) -> Result<(), FileFault> {
+) -> Result<Saved, FileFault> {
     let image = open_to_format(saving.files, saving.alloc, path, force)?;
     let saved = save(saving, drive, &image);
     if saved.is_err() {
@@ -173,7 +171,7 @@ fn format<F: Files<File = File>, R: Read + Drop, W: Write>(
     output: &mut W,
 ) -> Done {
     let (left, sent) = run_without_file(saving.alloc, job, &mut input.lines, output);
-    let drive = drive_to_save(job, sent, false, left);
+    let drive = drive_to_save(job, sent, FileEnd::UNCHANGED, left);
     let (Job::Format { image, force, .. }, Some(drive)) = (job, &drive) else {
         return Done::unsaved(sent);
     };
@@ -200,15 +198,11 @@ pub fn do_job<F: Files<File = File>, R: Read + Drop, W: Write>(
         let (left, sent) = run_without_file(alloc, job, &mut input.lines, output);
         return Done {
             job: sent,
-            saved: Ok(()),
+            saved: Ok(Saved::IN_PLACE),
             mounting: mounting(&left),
         };
     };
-    let saving = Saving {
-        files,
-        alloc,
-        sync: job.sync(),
-    };
+    let saving = Saving { files, alloc };
     if let Job::Format { .. } = job {
         return format(&saving, job, input, output);
     }

@@ -1,4 +1,5 @@
 ghost use Rattle.std.specs.Prelude.{◌≡◌};
+ghost use Rattle.disk_jobs.specs.Asked.{blocks_asked, explains, shows_progress, stop_asked, syncs};
 ghost use Rattle.disk_jobs.specs.Saved.{reads_only};
 
 use zone_drive::Habit;
@@ -90,7 +91,9 @@ impl Job {
     }
 
     /// Whether what the job sends waits until its changes are on the disk. One that only reads makes none.
-    pub fn sync(&self) -> bool {
+    pub fn sync(&self) -> bool
+        ensures { result ≡ syncs self.now }
+    {
         match self {
             Job::Run {
                 sync,
@@ -103,7 +106,9 @@ impl Job {
     }
 
     /// Whether people are told how many lines were read.
-    pub fn shows_progress(&self) -> bool {
+    pub fn shows_progress(&self) -> bool
+        ensures { result ≡ shows_progress self.now }
+    {
         match self {
             Job::Run { progress, .. } => *progress,
             _ => false,
@@ -111,7 +116,9 @@ impl Job {
     }
 
     /// Whether people are told the status of each completion.
-    pub fn explains(&self) -> bool {
+    pub fn explains(&self) -> bool
+        ensures { result ≡ explains self.now }
+    {
         match self {
             Job::Nvme { explain, .. } => *explain,
             _ => false,
@@ -119,7 +126,9 @@ impl Job {
     }
 
     /// How many logical blocks the job says that its disk has.
-    pub fn blocks(&self) -> Option<u64> {
+    pub fn blocks(&self) -> Option<u64>
+        ensures { result ≡ blocks_asked self.now }
+    {
         match self {
             Job::Run { blocks, .. } => Some(*blocks),
             _ => None,
@@ -127,7 +136,9 @@ impl Job {
     }
 
     /// After how many commands the drive of the job stops, if the job asks for that.
-    pub fn stop(&self) -> Option<u64> {
+    pub fn stop(&self) -> Option<u64>
+        ensures { result ≡ stop_asked self.now }
+    {
         match self {
             Job::Run { stop, .. } | Job::Fresh { stop, .. } if *stop != Stop::NEVER => {
                 Some(stop.commands)

@@ -2,14 +2,17 @@
 //!
 //! ```text
 //! let gate = Gate::open();
-//! let mut input = JobInput::new(alloc, &gate, rt.reader());
+//! let count = LineCount::new();
+//! let mut input = JobInput::new(alloc, &gate, &count, rt.reader());
 //! let done = do_job(&rt, alloc, &job, &mut input, &mut output);
 //! if let Err(fault) = done.job {
-//!     let text = explain(alloc, &job, fault, input.line(), done.mounting)?;
+//!     let text = explain(alloc, &job, fault, &mut input, done.mounting)?;
 //! }
-//! if let Err(fault) = done.saved {
-//!     let text = explain(alloc, &job, fault, input.line(), done.mounting)?;
-//! }
+//! match done.saved {
+//!     Ok(saved) if saved.is_restored => restored_note(alloc, path)?,
+//!     Ok(_) => String::new(alloc),
+//!     Err(fault) => explain(alloc, &job, fault, &mut input, done.mounting)?,
+//! };
 //! ```
 //!
 //! A [`Job`] is what the words of the command line ask for (`command_line` reads them). [`run_job`] does it, and
@@ -48,6 +51,7 @@ mod fault;
 mod file;
 mod input;
 mod job;
+mod line_count;
 mod line_problem;
 mod lines;
 mod mounting;
@@ -58,15 +62,16 @@ mod statistics;
 mod status_words;
 mod watched;
 
-pub use drive_store::{DriveFile, FileFault, Gate, SystemError};
+pub use drive_store::{DriveFile, FileFault, Gate, Saved, SystemError};
 pub use explanation::explain;
 pub use fault::{ProgramFault, write_program_fault};
 pub use file::{Done, do_job};
 pub use input::JobInput;
 pub use job::{Job, Stop};
+pub use line_count::LineCount;
 pub use lines::{Left, stopping};
 pub use mounting::{DiskSize, Mounting};
-pub use notes::size_notes;
+pub use notes::{restored_note, size_notes};
 pub use program::run_job;
 pub use statistics::statistics_of;
 pub use status_words::Explained;

@@ -34,8 +34,18 @@ pub struct Left {
     /// Whether the store failed. Then it has all changes before that one, and the drive that counts is the one that it
     /// holds.
     pub failed: bool,
+    /// Whether the file was the image of the drive at rest, before the lines.
+    pub was_image: bool,
     /// What is known of the mount, if there was one.
     pub mounting: Mounting,
+}
+
+/// A drive whose changes go to a store.
+#[derive(Drop)]
+pub(crate) struct Stored<S: Store<Drive> + Drop> {
+    pub(crate) device: Journaling<Drive, S>,
+    /// Whether the file was the image of the drive at rest.
+    pub(crate) was_image: bool,
 }
 
 /// How a trace is run: the number of logical blocks that the mount is given, when the device stops, and whether only
@@ -176,15 +186,18 @@ pub(crate) fn answer_in_memory<S: Store<Drive> + Drop, R: Read + Drop, W: Write>
     output: &mut W,
 ) -> (Left, S, Result<(), RunFault>)
     requires { has_changes job.now ≡ false }
-    ensures { LeavesDrive job.now (exchange input.old.left (W.contents output.old) (W.contents output.new))
+    ensures leaves { LeavesDrive job.now (exchange input.old.left (W.contents output.old) (W.contents output.new))
         start.begun.drive.state result.2 result.0 (S.held start.store) (S.held result.1) (S.failed result.1) }
+    ensures was_image { result.0.was_image ≡ start.begun.is_image }
 {
     let Start { begun, store } = start;
+    let was_image = begun.is_image;
     let (drive, mounting, ran) = run_lines(alloc, job, begun.drive, input, output);
     let shown = show_after(alloc, job, &drive, ran, output);
     let left = Left {
         drive,
         failed: store.has_failed(),
+        was_image,
         mounting,
     };
     (left, store, shown)
@@ -194,14 +207,16 @@ pub(crate) fn answer_in_memory<S: Store<Drive> + Drop, R: Read + Drop, W: Write>
 pub(crate) fn answer_kept<S: Store<Drive> + Drop, R: Read + Drop, W: Write>(
     alloc: Global,
     job: &Job,
-    device: Journaling<Drive, S>,
+    stored: Stored<S>,
     input: &mut LineReader<R>,
     output: &mut W,
 ) -> (Left, S, Result<(), RunFault>)
     requires { has_changes job.now ≡ true }
-    ensures { LeavesDrive job.now (exchange input.old.left (W.contents output.old) (W.contents output.new))
-        device.drive result.2 result.0 device.contents (S.held result.1) (S.failed result.1) }
+    ensures leaves { LeavesDrive job.now (exchange input.old.left (W.contents output.old) (W.contents output.new))
+        stored.device.drive result.2 result.0 stored.device.contents (S.held result.1) (S.failed result.1) }
+    ensures was_image { result.0.was_image ≡ stored.was_image }
 {
+    let Stored { device, was_image } = stored;
     let (device, mounting, ran) = run_lines(alloc, job, device, input, output);
     let (drive, store) = device.into_parts();
     let failed = store.has_failed();
@@ -209,6 +224,7 @@ pub(crate) fn answer_kept<S: Store<Drive> + Drop, R: Read + Drop, W: Write>(
     let left = Left {
         drive,
         failed,
+        was_image,
         mounting,
     };
     (left, store, shown)

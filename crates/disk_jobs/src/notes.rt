@@ -30,3 +30,8 @@ pub fn size_notes(
     }
     Ok(notes)
 }
+
+/// What people are told of a file that had been removed while it was in use, and was saved again at its path.
+pub fn restored_note(alloc: Global, path: &str) -> Result<String, AllocError> {
+    format!(in alloc; "{path} had been removed while it was in use, and is saved there again")
+}

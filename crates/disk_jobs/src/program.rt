@@ -9,7 +9,7 @@ ghost use Rattle.disk_jobs.specs.Saved.{ended_by, has_changes};
 use crate::begun::begin;
 use crate::fault::ProgramFault;
 use crate::job::Job;
-use crate::lines::{Left, Start, answer_in_memory, answer_kept};
+use crate::lines::{Left, Start, Stored, answer_in_memory, answer_kept};
 use disk_files::LineReader;
 use disk_runs::RunFault;
 use drive_journal::Store;
@@ -55,16 +55,20 @@ fn answer<S: Store<Drive> + Drop, R: Read + Drop, W: Write>(
     output: &mut W,
 ) -> (Left, S, Result<(), RunFault>)
     requires { has_changes job.now ≡ true → IfSome (front_of start.begun.whole (S.held start.store))
-        (λ bytes. IsStoredWhole bytes start.begun.drive.state) }
-    ensures { LeavesDrive job.now (exchange input.old.left (W.contents output.old) (W.contents output.new))
+        (λ bytes. IsStoredWhole bytes start.begun.drive.state start.begun.sum) }
+    ensures leaves { LeavesDrive job.now (exchange input.old.left (W.contents output.old) (W.contents output.new))
         start.begun.drive.state result.2 result.0 (S.held start.store) (S.held result.1) (S.failed result.1) }
+    ensures was_image { result.0.was_image ≡ start.begun.is_image }
 {
     if !has_changes(job) {
         return answer_in_memory(alloc, job, start, input, output);
     }
     let Start { begun, store } = start;
-    let device = keep(alloc, begun, store);
-    answer_kept(alloc, job, device, input, output)
+    let stored = Stored {
+        was_image: begun.is_image,
+        device: keep(alloc, begun, store),
+    };
+    answer_kept(alloc, job, stored, input, output)
 }
 
 /// Does a job, but for opening and saving its file: reads the file and then the lines of `input`, writes its changes to

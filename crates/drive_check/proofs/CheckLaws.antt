@@ -168,6 +168,7 @@ pub findings-faults : (drive : DriveState) (n : ℕ) (findings : Findings) (faul
 findings-faults drive n findings fault is fails lists = record {
   refuses = subst (Refuses drive n) (sym is) fails;
   clean = λ none. let bad : is_some (Some fault) ≡ false = subst IsNone is none in absurd (cc);
+  unread = λ out. absurd (out lists.range);
   listed = λ range some. lists;
 }
 

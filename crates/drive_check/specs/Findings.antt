@@ -63,4 +63,5 @@ pub record ListsNothing (findings : Findings) : Type 0 where
 pub record AreFindings (drive : DriveState) (n : ℕ) (findings : Findings) : Type 0 where
   pub refuses : Refuses drive n findings.refusal
   pub clean : IsNone findings.refusal → ListsNothing findings
+  pub unread : (IsInRange drive.geometry → ⊥) → ListsNothing findings
   pub listed : IsInRange drive.geometry → IsSome findings.refusal → ListsFaults drive n findings

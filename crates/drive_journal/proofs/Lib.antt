@@ -1,5 +1,6 @@
 pub mod RestLaws
 pub mod StepLaws
+pub mod SumLaws
 pub mod CutLaws
 pub mod PartLaws
 pub mod FillLaws
@@ -13,4 +14,5 @@ pub mod JournalingLaws
 pub mod MeaningLaws
 pub mod MomentLaws
 pub mod NoFaultLaws
+pub mod DamageLaws
 pub mod ForeseenLaws

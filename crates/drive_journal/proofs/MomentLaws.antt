@@ -9,7 +9,7 @@ use Rattle.drive_port.specs.declared.device.Halt.{Halt}
 use Rattle.drive_port.specs.declared.device.Halt.TheVariants.{Memory, Stopped}
 use Rattle.drive_journal.specs.File.{IsStored, IsStoredWhole}
 use Rattle.drive_journal.specs.Journaling.{AreCutOff, IsInStep, Journaled, Writes, written_by}
-use Rattle.drive_journal.specs.Change.{written_for}
+use Rattle.drive_journal.specs.Change.{Sum, written_for}
 use Rattle.zone_states.specs.declared.geometry.Geometry.{Geometry}
 use Rattle.drive_journal.specs.Moments.{IsOfAMoment, RunsSince, RunsTo, Submits, anew, begins, goes_on, here, later}
 use Rattle.drive_journal.proofs.JournalingLaws.{true-false}
@@ -44,8 +44,8 @@ lost-nothing j kept runs = by j.lost refl
     by true e = absurd (true-false (sym (kept.stops e) ∙ runs))
 
 -- a beginning of bytes of which each beginning is a change that was cut off
-front-cut : (geometry : Geometry) (bytes : List ℕ) (count : ℕ) → count < length bytes → AreCutOff geometry bytes → AreCutOff geometry (take count bytes)
-front-cut geometry bytes count short cuts n less =
+front-cut : (geometry : Geometry) (sum : Sum) (bytes : List ℕ) (count : ℕ) → count < length bytes → AreCutOff geometry sum bytes → AreCutOff geometry sum (take count bytes)
+front-cut geometry sum bytes count short cuts n less =
     let few : n ≤ count = omega (arith, less, length-take count bytes) in
     rw (take-take n count bytes few) (cuts n (omega (arith, few, short)))
 
@@ -62,21 +62,21 @@ module _ (first mid last : Journaled) (held : List ℕ) (runs : RunsTo first mid
   at-last bytes known = record { moment = last; before = later mid last (Some held) runs submits; after = here; stored = at-known last.contents bytes (λ b. IsStored b last.drive) known submits.kept.stored }
 
   -- these bytes store the drive, and no change in them is cut off
-  held-whole : IsStoredWhole held mid.drive
+  held-whole : IsStoredWhole held mid.drive submits.sum
   held-whole = elim submits.renewed [
-    | inl same ↦ at-known mid.contents held (λ b. IsStoredWhole b mid.drive) (sym same) (submits.was_kept.whole (lost-nothing mid submits.was_kept submits.runs))
-    | inr others ↦ others.1
+    | inl same ↦ rw same.1 (at-known mid.contents held (λ b. IsStoredWhole b mid.drive mid.sum) (sym same.0) (submits.was_kept.whole (lost-nothing mid submits.was_kept submits.runs)))
+    | inr others ↦ rw others.1 others.2
   ]
 
   -- some more bytes were written: whole they are of a moment, and each beginning of them is a change that was cut off
-  grown : (more : List ℕ) (n : ℕ) → AreCutOff mid.drive.geometry more → IsOfAMoment first last (held ++ more) → IsOfAMoment first mid (take n held) → IsOfAMoment first last (take n (held ++ more))
+  grown : (more : List ℕ) (n : ℕ) → AreCutOff mid.drive.geometry submits.sum more → IsOfAMoment first last (held ++ more) → IsOfAMoment first mid (take n held) → IsOfAMoment first last (take n (held ++ more))
   grown more n cuts all found = by (leb n (length held)) refl
     where
       inside : length held < n → (b : Bool) → ltb (n - length held) (length more) ≡ b → IsOfAMoment first last (take n (held ++ more))
       inside past true e =
           let splits : n ≡ length held + (n - length held) = omega (arith, past) in
           let text : take n (held ++ more) ≡ held ++ take (n - length held) more = ap (λ (m : ℕ). take m (held ++ more)) splits ∙ take-append-add held more (n - length held) in
-          rw text (at-mid (held ++ take (n - length held) more) (stored-cut held mid.drive held-whole (take (n - length held) more) (cuts (n - length held) (ltb-true _ _ e))))
+          rw text (at-mid (held ++ take (n - length held) more) (stored-cut held mid.drive submits.sum held-whole (take (n - length held) more) (cuts (n - length held) (ltb-true _ _ e))))
       inside past false e =
           let full = ltb-false _ _ e in
           rw (take_all n (held ++ more) (omega (arith, length-append held more, past, full))) all
@@ -91,7 +91,7 @@ module _ (first mid last : Journaled) (held : List ℕ) (runs : RunsTo first mid
     same e = record { runs = later mid last (Some held) runs submits; bytes = held; contents = e; found = λ n most. longer (take n held) (found n most) }
 
     -- some more bytes were
-    added : (more : List ℕ) → Appends (Some held) last.contents more → AreCutOff mid.drive.geometry more → Holds first since last
+    added : (more : List ℕ) → Appends (Some held) last.contents more → AreCutOff mid.drive.geometry submits.sum more → Holds first since last
     added more appends cuts =
         let known = grew last.contents held more appends in
         record { runs = later mid last (Some held) runs submits; bytes = held ++ more; contents = known; found = λ n most. grown more n cuts (at-last (held ++ more) known) (found n most) }
@@ -99,14 +99,14 @@ module _ (first mid last : Journaled) (held : List ℕ) (runs : RunsTo first mid
     step : Holds first since last
     step = by submits.result submits.writes
       where
-        by : (result : Result (List ℕ) Halt) → Writes mid (Some held) submits.entry submits.bytes result last → Holds first since last
-        by (Ok completion) writes = added (written_by completion submits.entry submits.bytes) writes.1.0 writes.1.1
-        by (Err Memory) writes = same writes.1
+        by : (result : Result (List ℕ) Halt) → Writes mid (Some held) submits.sum submits.entry submits.bytes result last → Holds first since last
+        by (Ok completion) writes = added (written_by submits.sum completion submits.entry submits.bytes) writes.2.0 writes.2.1
+        by (Err Memory) writes = same writes.2
         by (Err Stopped) (inl writes) = same writes
         by (Err Stopped) (inr (lost, inl front)) =
-            let all = written_for submits.entry submits.bytes in
-            added (take front.0.count all) front.0.appends (front-cut mid.drive.geometry all front.0.count front.0.short front.1)
-        by (Err Stopped) (inr (lost, inr all)) = added (written_for submits.entry submits.bytes) all.0 all.1
+            let all = written_for submits.sum submits.entry submits.bytes in
+            added (take front.0.count all) front.0.appends (front-cut mid.drive.geometry submits.sum all front.0.count front.0.short front.1)
+        by (Err Stopped) (inr (lost, inr all)) = added (written_for submits.sum submits.entry submits.bytes) all.0 all.1
 
 -- ---- a run
 
@@ -124,7 +124,7 @@ run first last since kept (goes_on from moment same runs submits) =
 run first last since kept (anew from moment same held runs submits) =
     let holds = run first moment from kept runs in
     step first moment last held holds.runs submits (length held)
-    (λ n most. rw (take_all n held most) (record { moment = moment; before = holds.runs; after = here; stored = (held-whole first moment last held holds.runs submits).0 }))
+    (λ n most. rw (take_all n held most) (record { moment = moment; before = holds.runs; after = here; stored = (held-whole first moment last held holds.runs submits).stored }))
 
 -- the first bytes of a run are a moment's
 pub cut-at-a-moment : (first last : Journaled) (bytes : List ℕ) (since n : ℕ) → IsInStep first → RunsSince first since last → last.contents ≡ Some bytes → since ≤ n → IsOfAMoment first last (take n bytes)

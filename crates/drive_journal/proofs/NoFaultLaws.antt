@@ -1,7 +1,6 @@
 -- A file that stores a lawful drive has no fault.
 use Rattle.std.proofs.Common.{◌≡◌, ℕ, ◌+◌, Bool, true, false, List, [], ◌∷◌, ◌++◌, length, take, drop, Option, Some, None, Result, Ok, Err, inl, inr, refl, sym, ap, ◌∙◌, subst, arith}
 use Rattle.std.specs.Prelude.{if◌then◌else◌, nat_lt, slice_index}
-use Rattle.std.proofs.lemmas.Bool.{le-ltb}
 use Rattle.std.proofs.lemmas.List.{append-nil}
 use Rattle.nvme_wire.specs.Descriptor.{state_of}
 use Rattle.nvme_wire.specs.declared.zone_state.ZoneState.{ZoneState}
@@ -23,15 +22,17 @@ use Rattle.drive_images.specs.declared.zone_head.ZoneHead.{ZoneHead}
 use Rattle.drive_images.proofs.FrontLaws.{followed, one-image}
 use Rattle.drive_images.proofs.ImageLaws.{front_fault}
 use Rattle.drive_images.proofs.MeaningLaws.{no-fault, one-drive, one-fault}
-use Rattle.drive_journal.specs.Change.{Change, journal_bytes}
+use Rattle.drive_journal.specs.Change.{Change, Sum, journal_bytes, last_sum, start}
 use Rattle.drive_journal.specs.File.{HasParts, IsStored, Parts, drive_read, remade, zones_read}
 use Rattle.drive_journal.specs.FileFaults.{FailsBehindChanges, FailsBehindImage, IsFileFault, is_of_file}
 use Rattle.drive_journal.specs.Replay.{at_rest}
-use Rattle.drive_journal.specs.Tail.{IsCutOff, longest_change, tail_fault}
+use Rattle.drive_journal.specs.Tail.{IsCutOff, IsTailFault}
 use Rattle.drive_journal.specs.declared.fault.FileFault.{FileFault}
-use Rattle.drive_journal.specs.declared.fault.FileFault.TheVariants.{Damaged, Image, Zones}
+use Rattle.drive_journal.specs.declared.fault.FileFault.TheVariants.{Damaged, Earlier, Image, Zones}
+use Rattle.drive_journal.specs.declared.fault.FileFault.TheVariants as files
 use Rattle.drive_journal.proofs.CutLaws.{one-reading}
 use Rattle.drive_journal.proofs.MeaningLaws.{one-file}
+use Rattle.drive_journal.proofs.ReadLaws.{earlier-other}
 
 -- ---- the front of an image is never too long
 
@@ -76,7 +77,7 @@ front-not-long bytes (inl told) = head-not-long _ _ _ _ told
 front-not-long bytes (inr front) = zone-not-long front.geometry _ front.fails.rest front.fails.told
 
 -- bytes that begin with an image have no fault in it
-image-no-fault : (image rest : List ℕ) (drive : DriveState) (fault : ImageFault) → IsImage image drive → IsFrontFault (image ++ rest) fault → is_of_bytes fault ≡ false
+pub image-no-fault : (image rest : List ℕ) (drive : DriveState) (fault : ImageFault) → IsImage image drive → IsFrontFault (image ++ rest) fault → is_of_bytes fault ≡ false
 image-no-fault image [] drive fault is fails = no-fault image drive fault is (rw (append-nil image) at (front_fault (image ++ []) fault fails))
 image-no-fault image (byte ∷ rest) drive fault is fails = by (is_of_bytes fault) refl
   where
@@ -89,20 +90,21 @@ image-no-fault image (byte ∷ rest) drive fault is fails = by (is_of_bytes faul
 -- ---- what is after it
 
 -- a change that was cut off has no fault
-no-tail-fault : (geometry : Geometry) (from at : ℕ) (cut : List ℕ) → IsCutOff geometry cut → tail_fault geometry from at cut ≡ None
-no-tail-fault geometry from at cut is = let few = le-ltb (longest_change geometry) (length cut) is.short in rw (is.begins, few) refl
-
-some-none : (fault : FileFault) → None ≡ Some fault → ⊥
-some-none fault e = absurd (cc e)
+no-tail-fault : (geometry : Geometry) (sum : Sum) (from at : ℕ) (cut : List ℕ) (fault : FileFault) → IsCutOff geometry sum cut → IsTailFault geometry sum from at cut fault → ⊥
+no-tail-fault geometry sum from at cut (files.Long place) is told = absurd (cc (told.2, is.begins))
+no-tail-fault geometry sum from at cut (Earlier place) is told = absurd (cc (earlier-other cut told.2, is.begins))
+no-tail-fault geometry sum from at cut (Damaged place) is told = told.1 is
+no-tail-fault geometry sum from at cut (Image fault) is told = told
+no-tail-fault geometry sum from at cut Zones is told = told
 
 module _ (bytes : List ℕ) (parts : Parts) (has : HasParts bytes parts) where
   behind-none : (fault : FileFault) (image rest : List ℕ) (saved : DriveState) → bytes ≡ image ++ rest → IsImage image saved → FailsBehindChanges saved.geometry (length image) rest fault → ⊥
   behind-none fault image rest saved text is fails =
-      let one = one-image image parts.image rest (journal_bytes parts.changes ++ parts.cut) saved parts.saved is has.is_image (sym text ∙ has.text) in
+      let one = one-image image parts.image rest (journal_bytes start parts.changes ++ parts.cut) saved parts.saved is has.is_image (sym text ∙ has.text) in
       let drive = one-drive parts.image saved parts.saved (rw one.0 at is) has.is_image in
-      let reading = one-reading parts.saved.geometry fails.changes parts.changes fails.rest parts.cut (rw drive at fails.each) has.each (rw drive at fails.none) has.cut_off.none (sym fails.text ∙ one.1) in
-      some-none fault (sym (no-tail-fault parts.saved.geometry _ _ parts.cut has.cut_off) ∙ ap (λ (l : List ℕ). tail_fault parts.saved.geometry (length image) (length image + length (journal_bytes fails.changes)) l) (sym reading.1)
-      ∙ (rw drive at fails.told))
+      let reading = one-reading parts.saved.geometry start fails.changes parts.changes fails.rest parts.cut (rw drive at fails.each) has.each (rw drive at fails.none) has.cut_off.none (sym fails.text ∙ one.1) in
+      let cut : IsCutOff parts.saved.geometry (last_sum start fails.changes) fails.rest = rw (reading.0, reading.1) has.cut_off in
+      no-tail-fault parts.saved.geometry (last_sum start fails.changes) (length image) (length image + length (journal_bytes start fails.changes)) fails.rest fault cut (rw drive at fails.told)
 
 -- ---- the drive
 
@@ -154,8 +156,10 @@ behind-image bytes parts has Long f = absurd (behind-none bytes parts has (Image
 
 -- what stores a lawful drive has no fault
 pub stored-no-fault : (bytes : List ℕ) (drive : DriveState) (fault : FileFault) → IsStored bytes drive → IsLawful drive → IsFileFault bytes fault → is_of_file fault ≡ false
-stored-no-fault bytes drive (Image fault) stored lawful (inl front) = image-no-fault stored.parts.image (journal_bytes stored.parts.changes ++ stored.parts.cut) stored.parts.saved fault stored.has.is_image (rw stored.has.text at front)
+stored-no-fault bytes drive (Image fault) stored lawful (inl front) = image-no-fault stored.parts.image (journal_bytes start stored.parts.changes ++ stored.parts.cut) stored.parts.saved fault stored.has.is_image (rw stored.has.text at front)
 stored-no-fault bytes drive (Image fault) stored lawful (inr behind) = behind-image bytes stored.parts stored.has fault behind
+stored-no-fault bytes drive (files.Long at) stored lawful f = absurd (behind-none bytes stored.parts stored.has (files.Long at) f.image f.rest f.saved f.text f.is_image f.fails)
+stored-no-fault bytes drive (Earlier at) stored lawful f = absurd (behind-none bytes stored.parts stored.has (Earlier at) f.image f.rest f.saved f.text f.is_image f.fails)
 stored-no-fault bytes drive (Damaged at) stored lawful f = absurd (behind-none bytes stored.parts stored.has (Damaged at) f.image f.rest f.saved f.text f.is_image f.fails)
 stored-no-fault bytes drive Zones stored lawful makes =
     let same = one-file bytes makes.parts stored.parts makes.has stored.has in

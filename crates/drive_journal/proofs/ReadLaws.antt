@@ -1,21 +1,20 @@
--- What is found in bytes that begin with an entry, or with a mark.
-use Rattle.std.proofs.Common.{◌≡◌, ◌⊎◌, ℕ, ◌+◌, ◌*◌, ◌-◌, ◌<◌, ◌≤◌, ltb, Bool, true, false, List, [], ◌++◌, length, take, Option, Some, None, Result, Ok, Err, inl, inr, refl, sym, ap, ◌∙◌, subst, append_assoc, arith}
+-- What is found in bytes that begin with a mark, or with what follows one.
+use Rattle.std.proofs.Common.{◌≡◌, ℕ, ◌+◌, ◌<◌, ◌≤◌, ltb, Bool, true, false, List, [], ◌∷◌, ◌++◌, length, take, Option, Some, None, Result, Ok, Err, inl, inr, refl, sym, ap, ◌∙◌, subst, append_assoc, arith}
 use Rattle.std.specs.Prelude.{IfOk, IfSome, nat_eq}
-use Rattle.std.specs.Cmp.Lexicographic.{pointwise, same_text}
+use Rattle.std.specs.Cmp.Lexicographic.{same_text}
 use Rattle.std.specs.Io.KnownBytes.{Consumes, IsAtEnd}
 use Rattle.std.specs.List.{starts_with}
 use Rattle.std.proofs.KnownBytes.{Consumes-trans}
-use Rattle.std.proofs.Math.Nat.{mul-le-mul_right}
 use Rattle.std.proofs.lemmas.Bool.{ltb-false, ltb-true}
-use Rattle.std.proofs.lemmas.List.{append-nil, append_cancel_left, length-append, length-take, take_all, take_at}
-use Rattle.nvme_wire.specs.Entry.{decode_of}
+use Rattle.std.proofs.lemmas.List.{append-nil, length-append, length-take, take_all, take_at}
 use Rattle.zone_states.specs.declared.geometry.Geometry.{Geometry}
-use Rattle.drive_journal.specs.Change.{Change, HasNoChange, IsChange, body_bytes, change_bytes, changes, beside_blocks, mark, seal}
-use Rattle.drive_journal.specs.Reading.{EndsWithin, FindsChange, FindsBody, HasNoBody, ReadsChange}
+use Rattle.drive_journal.specs.Change.{Change, HasNoChange, IsChange, IsEntry, Sum, change_bytes, data_length, earlier_mark, head_bytes, mark, next_sum, sealed_entry, sum_bytes, sum_over}
+use Rattle.drive_journal.specs.Reading.{FindsBody, FindsChange, FindsEnd, IsDamaged, IsOther, IsSealedEntry, ReadsBody}
+use Rattle.drive_journal.specs.Tail.{HasHead, IsCutOff, begins_as_mark}
 use Rattle.drive_journal.specs.declared.found.Found.{Found}
 use Rattle.drive_journal.specs.declared.found.Found.TheVariants as found
-use Rattle.drive_journal.specs.Tail.{IsCutOff, begins_as_mark, longest_body}
-use Rattle.drive_journal.proofs.CutLaws.{length-body, length-change, length-seal, parts, same-front}
+use Rattle.drive_journal.proofs.CutLaws.{none-few, one-head}
+use Rattle.drive_journal.proofs.SumLaws.{length-sum, same-front}
 
 -- what follows from the fact of a result
 pub if-ok : {T E : Type 0} (r : Result T E) (P Q : T → Type 0) → ((x : T) → P x → Q x) → IfOk r P → IfOk r Q
@@ -36,155 +35,199 @@ few-left (Some xs) (Some ys) n count buffer text long short ended =
     let none : ys ≡ [] = ended short in
     omega (arith, ap (λ (l : List ℕ). length l) (text ∙ ap (λ (l : List ℕ). take n buffer ++ l) none ∙ append-nil (take n buffer)), length-take n buffer, long, short)
 
--- ---- a body
+-- what holds of the bytes that were read and those that are left, where these are known
+pub read-so : (old new : Option (List ℕ)) (front : List ℕ) (P : List ℕ → Type 0) → Consumes old new front → IfSome new (λ rest. P (front ++ rest)) → IfSome old P
+read-so None new front P text p = tt
+read-so (Some xs) None front P text p = absurd text
+read-so (Some xs) (Some ys) front P text p = subst P (sym text) p
 
--- a change after this entry would have it, and its data and checksum in what follows
-record Follows (entry rest : List ℕ) (change : Change) (after : List ℕ) : Type 0 where
-  pub entry_is : change.entry ≡ entry
-  pub rest_is : rest ≡ change.bytes ++ (seal change.entry change.bytes ++ after)
+-- what follows of known bytes
+pub known-so : (known : Option (List ℕ)) (P Q : List ℕ → Type 0) → ((bytes : List ℕ) → P bytes → Q bytes) → IfSome known P → IfSome known Q
+known-so None P Q f p = tt
+known-so (Some xs) P Q f p = f xs p
 
-follows : (geometry : Geometry) (entry rest after : List ℕ) (change : Change) → length entry ≡ 64 → IsChange geometry change → entry ++ rest ≡ body_bytes change ++ after → Follows entry rest change after
-follows geometry entry rest after change long is same =
-    let heads = same-front entry change.entry rest _ (long ∙ sym is.entry) (same ∙ parts change after) in
-    record { entry_is = sym heads.0; rest_is = heads.1 }
+-- ---- bytes that follow a mark
 
--- where the bytes are known, they begin with the entry
-known : (geometry : Geometry) (old mid : Option (List ℕ)) (entry : List ℕ) → length entry ≡ 64 → Consumes old mid entry
-    → ((rest : List ℕ) → mid ≡ Some rest → (change : Change) (after : List ℕ) → IsChange geometry change → Follows entry rest change after → ⊥) → IfSome old (HasNoBody geometry)
-known geometry None mid entry long text none = tt
-known geometry (Some xs) None entry long text none = absurd text
-known geometry (Some xs) (Some ys) entry long text none = λ change after is same. none ys refl change after is (follows geometry entry ys after change long is (sym text ∙ same))
+no-bytes : (bytes : List ℕ) → length bytes ≡ 0 → bytes ≡ []
+no-bytes [] e = refl
+no-bytes (x ∷ xs) e = absurd (omega (arith, e))
 
-none-shorter : (geometry : Geometry) (bytes : List ℕ) → length bytes < 64 → HasNoBody geometry bytes
-none-shorter geometry bytes short change rest is same = absurd (omega (arith, ap (λ (l : List ℕ). length l) same, length-append (body_bytes change) rest, length-body geometry change is, short))
-
--- an entry of no change begins none
-end-other : (geometry : Geometry) (old mid : Option (List ℕ)) (entry : List ℕ) → length entry ≡ 64 → Consumes old mid entry → changes (decode_of entry) ≡ false → IfSome old (HasNoBody geometry)
-end-other geometry old mid entry long text e = known geometry old mid entry long text (λ rest is_rest change after is f. absurd (cc (is.changes, ap (λ (l : List ℕ). changes (decode_of l)) f.entry_is, e)))
-
--- nor does one of more blocks than one command moves
-end-many : (geometry : Geometry) (old mid : Option (List ℕ)) (entry : List ℕ) → length entry ≡ 64 → Consumes old mid entry → geometry.transfer < beside_blocks (decode_of entry) → IfSome old (HasNoBody geometry)
-end-many geometry old mid entry long text many = known geometry old mid entry long text (λ rest is_rest change after is f. absurd (omega (arith, is.few, ap (λ (l : List ℕ). beside_blocks (decode_of l)) f.entry_is, many)))
-
-data_is : (geometry : Geometry) (entry rest after : List ℕ) (change : Change) → IsChange geometry change → Follows entry rest change after → length change.bytes ≡ beside_blocks (decode_of entry) * geometry.block
-data_is geometry entry rest after change is f = is.bytes ∙ ap (λ (l : List ℕ). beside_blocks (decode_of l) * geometry.block) f.entry_is
-
--- nor does one with fewer bytes after it than its data
-end-data : (geometry : Geometry) (old mid : Option (List ℕ)) (entry : List ℕ) (count : ℕ) → length entry ≡ 64 → Consumes old mid entry → count ≡ beside_blocks (decode_of entry) * geometry.block
-    → IfSome mid (λ bytes. length bytes < count) → IfSome old (HasNoBody geometry)
-end-data geometry old mid entry count long text count_is short = known geometry old mid entry long text (λ rest is_rest change after is f.
-    let less : length rest < count = rw is_rest at short in
-    absurd (omega (arith, less, count_is, data_is geometry entry rest after change is f, ap (λ (l : List ℕ). length l) f.rest_is, length-append change.bytes (seal change.entry change.bytes ++ after))))
-
--- what follows the data
-sums : (geometry : Geometry) (entry bytes rest after : List ℕ) (mid last : Option (List ℕ)) (change : Change) → mid ≡ Some rest → Consumes mid last bytes → length bytes ≡ beside_blocks (decode_of entry) * geometry.block
-    → IsChange geometry change → Follows entry rest change after → (tail : List ℕ) × (last ≡ Some tail) × (change.bytes ≡ bytes) × (tail ≡ seal change.entry change.bytes ++ after)
-sums geometry entry bytes rest after None last change is_rest text long is f = absurd (cc is_rest)
-sums geometry entry bytes rest after (Some xs) None change is_rest text long is f = absurd text
-sums geometry entry bytes rest after (Some xs) (Some ys) change is_rest text long is f =
-    let same : xs ≡ rest = cc is_rest in
-    let parts_are = same-front bytes change.bytes ys (seal change.entry change.bytes ++ after) (long ∙ sym (data_is geometry entry rest after change is f)) (sym text ∙ same ∙ f.rest_is) in
-    (ys, refl, sym parts_are.0, parts_are.1)
-
--- nor does one whose data another checksum follows
-end-wrong : (geometry : Geometry) (old mid last : Option (List ℕ)) (entry bytes : List ℕ) → length entry ≡ 64 → Consumes old mid entry → Consumes mid last bytes → length bytes ≡ beside_blocks (decode_of entry) * geometry.block
-    → IfSome last (λ rest. (after : List ℕ) → rest ≡ seal entry bytes ++ after → ⊥) → IfSome old (HasNoBody geometry)
-end-wrong geometry old mid last entry bytes long text data_text data_long wrong = known geometry old mid entry long text (λ rest is_rest change after is f.
-    let s = sums geometry entry bytes rest after mid last change is_rest data_text data_long is f in
-    (rw s.1 at wrong) after (s.3 ∙ ap (λ (l : List ℕ). seal l change.bytes ++ after) f.entry_is ∙ ap (λ (l : List ℕ). seal entry l ++ after) s.2))
-
--- ---- a checksum
-
--- fewer than 8 bytes do not begin with a checksum
-wrong-short : (known : Option (List ℕ)) (entry bytes : List ℕ) → IfSome known (λ rest. length rest < 8) → IfSome known (λ rest. (after : List ℕ) → rest ≡ seal entry bytes ++ after → ⊥)
-wrong-short None entry bytes short = tt
-wrong-short (Some xs) entry bytes short = λ after same. absurd (omega (arith, short, ap (λ (l : List ℕ). length l) same, length-append (seal entry bytes) after, length-seal entry bytes))
-
--- nor do others
-wrong-other : (old new : Option (List ℕ)) (entry bytes sum : List ℕ) → length sum ≡ 8 → Consumes old new sum → (sum ≡ seal entry bytes → ⊥) → IfSome old (λ rest. (after : List ℕ) → rest ≡ seal entry bytes ++ after → ⊥)
-wrong-other None new entry bytes sum long text wrong = tt
-wrong-other (Some xs) None entry bytes sum long text wrong = absurd text
-wrong-other (Some xs) (Some ys) entry bytes sum long text wrong = λ after same. wrong (same-front sum (seal entry bytes) ys after (long ∙ sym (length-seal entry bytes)) (sym text ∙ same)).0
-
--- ---- what is found
-
--- bytes of which some were read, and the others are that many at most, or more
-front-short : (geometry : Geometry) (old mid : Option (List ℕ)) (front : List ℕ) (count : ℕ) → Consumes old mid front → IfSome old (HasNoBody geometry) → length front + count ≤ longest_body geometry → IfSome mid (λ bytes. length bytes ≤ count)
-    → IfSome old (λ bytes. HasNoBody geometry bytes × (length bytes ≤ longest_body geometry))
-front-short geometry None mid front count text none fits left = tt
-front-short geometry (Some xs) None front count text none fits left = absurd text
-front-short geometry (Some xs) (Some ys) front count text none fits left = (none, omega (arith, ap (λ (l : List ℕ). length l) text, length-append front ys, fits, left))
-
-front-long : (geometry : Geometry) (old mid : Option (List ℕ)) (front : List ℕ) (count : ℕ) → Consumes old mid front → IfSome old (HasNoBody geometry) → length front + count ≡ longest_body geometry → IfSome mid (λ bytes. count < length bytes)
-    → IfSome old (λ bytes. HasNoBody geometry bytes × (longest_body geometry < length bytes))
-front-long geometry None mid front count text none fits left = tt
-front-long geometry (Some xs) None front count text none fits left = absurd text
-front-long geometry (Some xs) (Some ys) front count text none fits left = (none, omega (arith, ap (λ (l : List ℕ). length l) text, length-append front ys, fits, left))
-
-less-equal : (known : Option (List ℕ)) (n : ℕ) → IfSome known (λ bytes. length bytes ≡ n) → IfSome known (λ bytes. length bytes ≤ n)
-less-equal None n same = tt
-less-equal (Some xs) n same = omega (arith, same)
-
-less-than : (known : Option (List ℕ)) (n count : ℕ) → n < count → IfSome known (λ bytes. length bytes ≡ n) → IfSome known (λ bytes. length bytes < count)
-less-than None n count short same = tt
-less-than (Some xs) n count short same = omega (arith, short, same)
+-- fewer than a head has are cut off
+cut-few : (geometry : Geometry) (sum : Sum) (bytes : List ℕ) → length bytes < 72 → IsCutOff geometry sum (mark ++ bytes)
+cut-few geometry sum bytes few =
+    let short : length (mark ++ bytes) < 80 = omega (arith, few, length-append mark bytes) in
+    record { none = none-few geometry sum (mark ++ bytes) short; begins = refl; short = inl short }
 
 -- the reader ended in the entry
-pub ends-in-entry : (geometry : Geometry) (old : Option (List ℕ)) (n : ℕ) → n < 64 → IfSome old (λ bytes. length bytes ≡ n) → IfSome old (λ bytes. HasNoBody geometry bytes × (length bytes ≤ longest_body geometry))
-ends-in-entry geometry None n short same = tt
-ends-in-entry geometry (Some xs) n short same = (none-shorter geometry xs (omega (arith, short, same)), omega (arith, short, same))
+pub ends-in-entry : (geometry : Geometry) (sum : Sum) (old : Option (List ℕ)) (n : ℕ) → n < 64 → IfSome old (λ bytes. length bytes ≡ n) → IfSome old (λ bytes. IsCutOff geometry sum (mark ++ bytes))
+ends-in-entry geometry sum old n short left = known-so old (λ bytes. length bytes ≡ n) (λ bytes. IsCutOff geometry sum (mark ++ bytes)) (λ bytes long. cut-few geometry sum bytes (omega (arith, short, long))) left
 
--- what follows is looked through to its end, or to where it is too long
-pub looked-through : (geometry : Geometry) (old mid new : Option (List ℕ)) (front : List ℕ) (count : ℕ) (change : Change) (found : Found) → Consumes old mid front → IfSome old (HasNoBody geometry) → length front + count ≡ longest_body geometry
-    → EndsWithin count mid found → FindsBody geometry old new change found
-looked-through geometry old mid new front count change found.CutOff text none fits ends = front-short geometry old mid front count text none (omega (arith, fits)) ends
-looked-through geometry old mid new front count change found.TooLong text none fits ends = front-long geometry old mid front count text none fits ends
-looked-through geometry old mid new front count change found.Change text none fits ends = absurd ends
-looked-through geometry old mid new front count change found.Other text none fits ends = absurd ends
+-- the reader ended in the sum after the entry
+pub ends-in-sum : (geometry : Geometry) (sum : Sum) (old mid : Option (List ℕ)) (entry : List ℕ) (n : ℕ) → length entry ≡ 64 → Consumes old mid entry → n < 8 → IfSome mid (λ bytes. length bytes ≡ n)
+    → IfSome old (λ bytes. IsCutOff geometry sum (mark ++ bytes))
+ends-in-sum geometry sum old mid entry n long text short left =
+    read-so old mid entry (λ bytes. IsCutOff geometry sum (mark ++ bytes)) text
+    (known-so mid (λ bytes. length bytes ≡ n) (λ rest. IsCutOff geometry sum (mark ++ (entry ++ rest))) (λ rest rest_long. cut-few geometry sum (entry ++ rest) (omega (arith, length-append entry rest, long, short, rest_long))) left)
 
--- an entry that no change of this drive has begins none
-pub not-kept : (geometry : Geometry) (old mid : Option (List ℕ)) (entry : List ℕ) → length entry ≡ 64 → Consumes old mid entry → (changes (decode_of entry) ≡ false) ⊎ (geometry.transfer < beside_blocks (decode_of entry)) → IfSome old (HasNoBody geometry)
-not-kept geometry old mid entry long text (inl other) = end-other geometry old mid entry long text other
-not-kept geometry old mid entry long text (inr many) = end-many geometry old mid entry long text many
+-- ---- a head
 
--- the data of a change are no more than the most
-few-bytes : (geometry : Geometry) (blocks : ℕ) → blocks ≤ geometry.transfer → blocks * geometry.block ≤ geometry.transfer * geometry.block
-few-bytes geometry blocks few = mul-le-mul_right geometry.block few
+-- Some bytes follow a mark: 64 that may be an entry, 8 that may be its sum, and others.
+module _ (geometry : Geometry) (sum : Sum) (entry sealed : List ℕ) (long : length entry ≡ 64) (wide : length sealed ≡ 8) where
+  abbrev after-mark : List ℕ → List ℕ
+  after-mark rest = mark ++ ((entry ++ sealed) ++ rest)
 
-module _ (geometry : Geometry) (old mid : Option (List ℕ)) (entry : List ℕ) (blocks : ℕ) (long : length entry ≡ 64) (text : Consumes old mid entry) (blocks_is : blocks ≡ beside_blocks (decode_of entry)) (few : blocks ≤ geometry.transfer) where
-  same-count : blocks * geometry.block ≡ beside_blocks (decode_of entry) * geometry.block
-  same-count = ap (λ (n : ℕ). n * geometry.block) blocks_is
+  -- a head at their front is of this entry
+  head-is : (rest : List ℕ) → (head : HasHead geometry sum (after-mark rest)) → (entry ≡ head.entry) × (sealed ≡ sum_bytes (sum_over sum head.entry)) × (rest ≡ head.rest)
+  head-is rest head = one-head sum entry sealed head.entry rest head.rest long wide head.is.long head.text
 
-  -- the reader ended in the data
-  pub ends-in-data : (n : ℕ) → n < blocks * geometry.block → IfSome mid (λ bytes. length bytes ≡ n) → IfSome old (λ bytes. HasNoBody geometry bytes × (length bytes ≤ longest_body geometry))
-  ends-in-data n short left =
-      front-short geometry old mid entry n text (end-data geometry old mid entry (blocks * geometry.block) long text same-count (less-than mid n (blocks * geometry.block) short left))
-      (omega (arith, long, short, few-bytes geometry blocks few)) (less-equal mid n left)
+  -- a change at their front has it
+  abbrev change-head : (rest after : List ℕ) (change : Change) → IsChange geometry change → after-mark rest ≡ change_bytes sum change ++ after → HasHead geometry sum (after-mark rest)
+  change-head rest after change is same = record {
+    entry = change.entry;
+    rest = (change.bytes ++ sum_bytes (next_sum sum change)) ++ after;
+    is = is.entry;
+    text = same ∙ append_assoc (head_bytes sum change.entry) (change.bytes ++ sum_bytes (next_sum sum change)) after;
+  }
 
-  module _ (last : Option (List ℕ)) (bytes : List ℕ) (data_text : Consumes mid last bytes) (data_long : length bytes ≡ blocks * geometry.block) where
-    front : Consumes old last (entry ++ bytes)
-    front = Consumes-trans old mid last entry bytes text data_text
+  -- without a head there is no change, nor one that was cut off
+  no-head : (rest : List ℕ) → (IsSealedEntry geometry sum entry sealed → ⊥) → IsDamaged geometry sum (after-mark rest)
+  no-head rest none = record {
+    begins = refl;
+    none = λ change after is same. not (change-head rest after change is same);
+    not_cut = λ cut. elim cut.short [
+      | inl few ↦ absurd (omega (arith, few, length-append mark ((entry ++ sealed) ++ rest), length-append (entry ++ sealed) rest, length-append entry sealed, long, wide))
+      | inr within ↦ not within.0
+    ];
+  }
+    where
+      not : HasHead geometry sum (after-mark rest) → ⊥
+      not head =
+          let parts = head-is rest head in
+          none (record { is = subst (IsEntry geometry) (sym parts.0) head.is; sum_is = parts.1 ∙ ap (λ (e : List ℕ). sum_bytes (sum_over sum e)) (sym parts.0) })
 
-    -- the reader ended in the checksum
-    pub ends-in-seal : (n : ℕ) → n < 8 → IfSome last (λ rest. length rest ≡ n) → IfSome old (λ bytes. HasNoBody geometry bytes × (length bytes ≤ longest_body geometry))
-    ends-in-seal n short left =
-        front-short geometry old last (entry ++ bytes) n front (end-wrong geometry old mid last entry bytes long text data_text (data_long ∙ same-count) (wrong-short last entry bytes (less-than last n 8 short left)))
-        (omega (arith, long, data_long, length-append entry bytes, short, few-bytes geometry blocks few)) (less-equal last n left)
+  -- they have a head
+  module _ (is : IsSealedEntry geometry sum entry sealed) where
+    abbrev the-head : (rest : List ℕ) → HasHead geometry sum (after-mark rest)
+    the-head rest = record { entry = entry; rest = rest; is = is.is; text = ap (λ (l : List ℕ). (mark ++ (entry ++ l)) ++ rest) is.sum_is }
 
-    -- the checksum is another
-    pub wrong-seal : (new after : Option (List ℕ)) (sum : List ℕ) (change : Change) (found : Found) → length sum ≡ 8 → Consumes last after sum → (sum ≡ seal entry bytes → ⊥)
-        → EndsWithin (geometry.transfer * geometry.block - blocks * geometry.block) after found → FindsBody geometry old new change found
-    wrong-seal new after sum change found sum_long sum_text wrong ends =
-        looked-through geometry old after new ((entry ++ bytes) ++ sum) (geometry.transfer * geometry.block - blocks * geometry.block) change found (Consumes-trans old last after (entry ++ bytes) sum front sum_text)
-        (end-wrong geometry old mid last entry bytes long text data_text (data_long ∙ same-count) (wrong-other last after entry bytes sum sum_long sum_text wrong))
-        (omega (arith, long, data_long, sum_long, length-append entry bytes, length-append (entry ++ bytes) sum, few-bytes geometry blocks few)) ends
+    -- a change at their front has this entry, and its data and sum in what follows
+    record Follows (rest after : List ℕ) (change : Change) : Type 0 where
+      pub entry_is : entry ≡ change.entry
+      pub data_long : length change.bytes ≡ data_length geometry entry
+      pub rest_is : rest ≡ change.bytes ++ (sum_bytes (next_sum sum change) ++ after)
 
-    -- a whole change
-    pub whole-body : (new : Option (List ℕ)) → changes (decode_of entry) ≡ true → Consumes last new (seal entry bytes) → ReadsChange geometry body_bytes old new (record { entry = entry; bytes = bytes })
-    whole-body new e sum_text = record {
-      is = record { entry = long; changes = e; few = omega (arith, few, blocks_is); bytes = data_long ∙ same-count };
-      text = Consumes-trans old mid new entry (bytes ++ seal entry bytes) text (Consumes-trans mid last new bytes (seal entry bytes) data_text sum_text);
+    follows : (rest after : List ℕ) (change : Change) → IsChange geometry change → after-mark rest ≡ change_bytes sum change ++ after → Follows rest after change
+    follows rest after change of same =
+        let parts = head-is rest (change-head rest after change of same) in
+        record {
+          entry_is = parts.0;
+          data_long = of.bytes ∙ ap (λ (e : List ℕ). data_length geometry e) (sym parts.0);
+          rest_is = parts.2 ∙ append_assoc change.bytes (sum_bytes (next_sum sum change)) after;
+        }
+
+    -- fewer bytes than the data and a sum
+    cut-within : (rest : List ℕ) → length rest < data_length geometry entry + 8 → IsCutOff geometry sum (after-mark rest)
+    cut-within rest few = record {
+      none = λ change after of same.
+          let f = follows rest after change of same in
+          absurd (omega (arith, few, ap (λ (l : List ℕ). length l) f.rest_is, f.data_long, length-append change.bytes (sum_bytes (next_sum sum change) ++ after), length-append (sum_bytes (next_sum sum change)) after, length-sum (next_sum sum change)));
+      begins = refl;
+      short = inr (the-head rest, omega (arith, few));
     }
+
+    -- the data, and another sum
+    module _ (beside last more : List ℕ) (data_long : length beside ≡ data_length geometry entry) (last_wide : length last ≡ 8) (wrong : last ≡ sum_bytes (sum_over (sum_over sum entry) beside) → ⊥) where
+      none-wrong : HasNoChange geometry sum (after-mark (beside ++ (last ++ more)))
+      none-wrong change after of same =
+          let f = follows (beside ++ (last ++ more)) after change of same in
+          let datas = same-front beside change.bytes (last ++ more) (sum_bytes (next_sum sum change) ++ after) (data_long ∙ sym f.data_long) f.rest_is in
+          let sums = same-front last (sum_bytes (next_sum sum change)) more after (last_wide ∙ sym (length-sum (next_sum sum change))) datas.1 in
+          wrong (sums.0 ∙ ap (λ (e : List ℕ). sum_bytes (sum_over (sum_over sum e) change.bytes)) (sym f.entry_is) ∙ ap (λ (l : List ℕ). sum_bytes (sum_over (sum_over sum entry) l)) (sym datas.0))
+
+      rest-long : length (beside ++ (last ++ more)) ≡ data_length geometry entry + 8 + length more
+      rest-long = omega (arith, length-append beside (last ++ more), length-append last more, data_long, last_wide)
+
+      -- nothing follows it
+      cut-at-end : more ≡ [] → IsCutOff geometry sum (after-mark (beside ++ (last ++ more)))
+      cut-at-end none = record {
+        none = none-wrong;
+        begins = refl;
+        short = inr (the-head (beside ++ (last ++ more)), omega (arith, rest-long, ap (λ (l : List ℕ). length l) none));
+      }
+
+      -- some bytes do
+      pub damaged-before : (more ≡ [] → ⊥) → IsDamaged geometry sum (after-mark (beside ++ (last ++ more)))
+      damaged-before some = record {
+        begins = refl;
+        none = none-wrong;
+        not_cut = λ cut. elim cut.short [
+          | inl few ↦ absurd (omega (arith, few, length-append mark ((entry ++ sealed) ++ (beside ++ (last ++ more))), length-append (entry ++ sealed) (beside ++ (last ++ more)), length-append entry sealed, long, wide))
+          | inr within ↦ (
+              let parts = head-is (beside ++ (last ++ more)) within.0 in
+              some (no-bytes more (omega (arith, within.1, rest-long, ap (λ (l : List ℕ). length l) parts.2, ap (λ (e : List ℕ). data_length geometry e) parts.0)))
+              )
+        ];
+      }
+
+  -- ---- what is found after them
+
+  module _ (old mid : Option (List ℕ)) (text : Consumes old mid (entry ++ sealed)) where
+    abbrev Damage : List ℕ → Type 0
+    Damage bytes = IsDamaged geometry sum (mark ++ bytes)
+
+    abbrev Cut : List ℕ → Type 0
+    Cut bytes = IsCutOff geometry sum (mark ++ bytes)
+
+    every : (known : Option (List ℕ)) (P : List ℕ → Type 0) → ((rest : List ℕ) → P rest) → IfSome known P
+    every None P f = tt
+    every (Some xs) P f = f xs
+
+    -- they are no head
+    pub finds-no-head : (IsSealedEntry geometry sum entry sealed → ⊥) → IfSome old Damage
+    finds-no-head none = read-so old mid (entry ++ sealed) Damage text (every mid (λ rest. Damage ((entry ++ sealed) ++ rest)) (λ rest. no-head rest none))
+
+    module _ (is : IsSealedEntry geometry sum entry sealed) (count : ℕ) (count_is : count ≡ data_length geometry entry) where
+      -- the reader ended in the data
+      pub ends-in-data : (n : ℕ) → n < count → IfSome mid (λ bytes. length bytes ≡ n) → IfSome old Cut
+      ends-in-data n short left =
+          read-so old mid (entry ++ sealed) Cut text (known-so mid (λ bytes. length bytes ≡ n) (λ rest. Cut ((entry ++ sealed) ++ rest)) (λ rest rest_long. cut-within is rest (omega (arith, short, rest_long, count_is))) left)
+
+      module _ (last : Option (List ℕ)) (beside : List ℕ) (data_text : Consumes mid last beside) (data_long : length beside ≡ count) where
+        -- the reader ended in the sum after the data
+        pub ends-in-seal : (n : ℕ) → n < 8 → IfSome last (λ bytes. length bytes ≡ n) → IfSome old Cut
+        ends-in-seal n short left =
+            read-so old mid (entry ++ sealed) Cut text
+            (read-so mid last beside (λ rest. Cut ((entry ++ sealed) ++ rest)) data_text
+            (known-so last (λ bytes. length bytes ≡ n) (λ rest. Cut ((entry ++ sealed) ++ (beside ++ rest))) (λ rest rest_long. cut-within is (beside ++ rest) (omega (arith, short, rest_long, count_is, data_long, length-append beside rest))) left))
+
+        module _ (new : Option (List ℕ)) (seal : List ℕ) (seal_text : Consumes last new seal) (seal_wide : length seal ≡ 8) where
+          -- the sum is another
+          pub finds-wrong : (change : Change) (after : Option (List ℕ)) (what : Found) → (seal ≡ sum_bytes (sum_over (sum_over sum entry) beside) → ⊥) → FindsEnd new what → FindsBody geometry sum old after change what
+          finds-wrong change after what wrong ends = by what ends
+            where
+              ahead : (P : List ℕ → Type 0) → IfSome new (λ more. P ((entry ++ sealed) ++ (beside ++ (seal ++ more)))) → IfSome old P
+              ahead P p =
+                  read-so old mid (entry ++ sealed) P text (read-so mid last beside (λ rest. P ((entry ++ sealed) ++ rest)) data_text (read-so last new seal (λ rest. P ((entry ++ sealed) ++ (beside ++ rest))) seal_text p))
+
+              by : (what : Found) → FindsEnd new what → FindsBody geometry sum old after change what
+              by found.CutOff ends =
+                  ahead Cut (known-so new (λ bytes. bytes ≡ []) (λ more. Cut ((entry ++ sealed) ++ (beside ++ (seal ++ more)))) (λ more none. cut-at-end is beside seal more (data_long ∙ count_is) seal_wide wrong none) ends)
+              by found.Damaged ends =
+                  ahead Damage (known-so new (λ bytes. bytes ≡ [] → ⊥) (λ more. Damage ((entry ++ sealed) ++ (beside ++ (seal ++ more)))) (λ more some. damaged-before is beside seal more (data_long ∙ count_is) seal_wide wrong some) ends)
+              by (found.Change next) ends = absurd ends
+              by found.End ends = absurd ends
+              by found.Earlier ends = absurd ends
+              by found.Other ends = absurd ends
+
+          -- a whole change
+          pub finds-change : (next : Sum) → next ≡ sum_over (sum_over sum entry) beside → seal ≡ sum_bytes next → ReadsBody geometry sum old new (record { entry = entry; bytes = beside }) next
+          finds-change next next_is right = record {
+            is = record { entry = is.is; bytes = data_long ∙ count_is };
+            text =
+                Consumes-trans old mid new (sealed_entry sum entry) (beside ++ sum_bytes (sum_over (sum_over sum entry) beside)) (subst (λ (l : List ℕ). Consumes old mid (entry ++ l)) is.sum_is text)
+                (Consumes-trans mid last new beside (sum_bytes (sum_over (sum_over sum entry) beside)) data_text (subst (Consumes last new) (right ∙ ap (λ (s : Sum). sum_bytes s) next_is) seal_text));
+            next_is = next_is;
+          }
 
 -- ---- a mark
 
@@ -200,34 +243,67 @@ first-eight n buffer rest long most ended = by (ltb n 8) refl
         let full = ltb-false _ _ e in
         take_at (take n buffer) rest 8 (omega (arith, length-take n buffer, long, most, full))
 
-module _ (old new : Option (List ℕ)) (n : ℕ) (buffer : List ℕ) (text : Consumes old new (take n buffer)) (long : length buffer ≡ 8) (most : n ≤ 8) (ended : n < 8 → IsAtEnd new) where
-  -- bytes that do not begin as the mark does
-  pub other-bytes : starts_with nat_eq mark (take n buffer) ≡ false → IfSome old (λ bytes. begins_as_mark bytes ≡ false)
-  other-bytes other = by old new text ended
+-- what does not begin as a change does is none
+pub other-none : (geometry : Geometry) (sum : Sum) (bytes : List ℕ) → begins_as_mark bytes ≡ false → HasNoChange geometry sum bytes
+other-none geometry sum bytes other change rest is same =
+    let begins : begins_as_mark (change_bytes sum change ++ rest) ≡ true = refl in
+    absurd (cc (other, ap (λ (l : List ℕ). begins_as_mark l) same, begins))
+
+-- a mark of the version before is another
+pub earlier-other : (bytes : List ℕ) → take 8 bytes ≡ earlier_mark → begins_as_mark bytes ≡ false
+earlier-other bytes same = ap (λ (l : List ℕ). starts_with nat_eq mark l) same
+
+module _ (geometry : Geometry) (sum : Sum) (old new : Option (List ℕ)) (n : ℕ) (buffer : List ℕ) (text : Consumes old new (take n buffer)) (long : length buffer ≡ 8) (most : n ≤ 8) (ended : n < 8 → IsAtEnd new) where
+  -- what holds of the first 8 bytes
+  of-first : (P : List ℕ → Type 0) → P (take n buffer) → IfSome old (λ bytes. P (take 8 bytes))
+  of-first P p = by old new text ended
     where
-      by : (old new : Option (List ℕ)) → Consumes old new (take n buffer) → (n < 8 → IsAtEnd new) → IfSome old (λ bytes. begins_as_mark bytes ≡ false)
+      by : (old new : Option (List ℕ)) → Consumes old new (take n buffer) → (n < 8 → IsAtEnd new) → IfSome old (λ bytes. P (take 8 bytes))
       by None new text ended = tt
       by (Some xs) None text ended = absurd text
-      by (Some xs) (Some ys) text ended = rw (text, first-eight n buffer ys long most ended) other
+      by (Some xs) (Some ys) text ended = subst P (sym (ap (λ (l : List ℕ). take 8 l) text ∙ first-eight n buffer ys long most ended)) p
+
+  -- bytes that do not begin as the mark does
+  pub finds-other : (what : Found) (change : Change) (after : Option (List ℕ)) → starts_with nat_eq mark (take n buffer) ≡ false → IsOther (take n buffer) what → FindsChange geometry sum old after change what
+  finds-other found.Earlier change after other is = of-first (λ front. front ≡ earlier_mark) is
+  finds-other found.Other change after other is = of-first (λ front. (starts_with nat_eq mark front ≡ false) × (front ≡ earlier_mark → ⊥)) (other, is)
+  finds-other (found.Change next) change after other is = absurd is
+  finds-other found.End change after other is = absurd is
+  finds-other found.CutOff change after other is = absurd is
+  finds-other found.Damaged change after other is = absurd is
+
+  -- no byte was left
+  pub finds-end : n ≡ 0 → IfSome old (λ bytes. bytes ≡ [])
+  finds-end none = known-so old (λ bytes. length bytes ≡ n) (λ bytes. bytes ≡ []) (λ bytes e. no-bytes bytes (e ∙ none)) (few-left old new n 8 buffer text long (omega (arith, none)) ended)
 
   -- the reader ended in the mark
-  ends-in-mark : (geometry : Geometry) → starts_with nat_eq mark (take n buffer) ≡ true → n < 8 → IfSome old (IsCutOff geometry)
-  ends-in-mark geometry begins short = by old new text ended
+  pub ends-in-mark : (n ≡ 0 → ⊥) → starts_with nat_eq mark (take n buffer) ≡ true → n < 8 → IfSome old (λ bytes. IsCutOff geometry sum bytes × (bytes ≡ [] → ⊥))
+  ends-in-mark some begins short = by old (few-left old new n 8 buffer text long short ended) (of-first (λ front. starts_with nat_eq mark front ≡ true) begins)
     where
-      by : (old new : Option (List ℕ)) → Consumes old new (take n buffer) → (n < 8 → IsAtEnd new) → IfSome old (IsCutOff geometry)
-      by None new text ended = tt
-      by (Some xs) None text ended = absurd text
-      by (Some xs) (Some ys) text ended =
-          let none : ys ≡ [] = ended short in
-          let few : length xs < 8 = omega (arith, ap (λ (l : List ℕ). length l) text, length-append (take n buffer) ys, ap (λ (l : List ℕ). length l) none, length-take n buffer, short) in
-          record {
-            none = λ change rest is same. absurd (omega (arith, few, ap (λ (l : List ℕ). length l) same, length-append (change_bytes change) rest, length-change geometry change is));
-            begins = rw (text, first-eight n buffer ys long most ended) begins;
-            short = omega (arith, few);
-          }
+      by : (old : Option (List ℕ)) → IfSome old (λ bytes. length bytes ≡ n) → IfSome old (λ bytes. begins_as_mark bytes ≡ true) → IfSome old (λ bytes. IsCutOff geometry sum bytes × (bytes ≡ [] → ⊥))
+      by None count front = tt
+      by (Some xs) count front =
+          let few : length xs < 80 = omega (arith, count, short) in (
+            record { none = none-few geometry sum xs few; begins = front; short = inl few },
+            λ none. some (sym count ∙ ap (λ (l : List ℕ). length l) none),
+          )
 
--- what does not begin as a change does is none
-pub other-none : (geometry : Geometry) (bytes : List ℕ) → begins_as_mark bytes ≡ false → HasNoChange geometry bytes
-other-none geometry bytes other change rest is same =
-    let begins : begins_as_mark (change_bytes change ++ rest) ≡ true = refl in
-    absurd (cc (other, ap (λ (l : List ℕ). begins_as_mark l) same, begins))
+-- what was found after a mark was found where a change may be
+pub finds-marked : (geometry : Geometry) (sum : Sum) (old mid new : Option (List ℕ)) (change : Change) (what : Found) → Consumes old mid mark → FindsBody geometry sum mid new change what → FindsChange geometry sum old new change what
+finds-marked geometry sum old mid new change (found.Change next) text body = record {
+  is = body.is;
+  text =
+      subst (Consumes old new) (sym (append_assoc mark (sealed_entry sum change.entry) (change.bytes ++ sum_bytes (next_sum sum change))))
+      (Consumes-trans old mid new mark (sealed_entry sum change.entry ++ (change.bytes ++ sum_bytes (next_sum sum change))) text body.text);
+  next_is = body.next_is;
+}
+finds-marked geometry sum old mid new change found.CutOff text body =
+    read-so old mid mark (λ bytes. IsCutOff geometry sum bytes × (bytes ≡ [] → ⊥)) text (known-so mid (λ bytes. IsCutOff geometry sum (mark ++ bytes)) (λ bytes. IsCutOff geometry sum (mark ++ bytes) × (mark ++ bytes ≡ [] → ⊥)) (λ bytes cut. (cut, λ e. absurd (cc e))) body)
+finds-marked geometry sum old mid new change found.Damaged text body = read-so old mid mark (IsDamaged geometry sum) text body
+finds-marked geometry sum old mid new change found.End text body = absurd body
+finds-marked geometry sum old mid new change found.Earlier text body = absurd body
+finds-marked geometry sum old mid new change found.Other text body = absurd body
+
+-- 8 bytes that are a front of the mark are the mark
+pub whole-mark : (bytes : List ℕ) → length bytes ≡ 8 → starts_with nat_eq mark bytes ≡ true → bytes ≡ mark
+whole-mark bytes long begins = same_text bytes (take (length bytes) mark) (sym begins) ∙ ap (λ (n : ℕ). take n mark) long

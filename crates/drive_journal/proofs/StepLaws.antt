@@ -95,7 +95,7 @@ pub is-change : (geometry : Geometry) (old new : List Zone) (entry bytes returne
 is-change geometry old new entry bytes returned value long e effect =
     let found = succeeded geometry old new (decode_of entry) bytes returned value effect in
     let passed = data-passed geometry effect.middle (decode_of entry) bytes e found.passed in
-    record { entry = long; changes = e; few = passed.0; bytes = passed.1 }
+    record { entry = record { long = long; changes = e; few = passed.0 }; bytes = passed.1 }
 
 -- ---- its completion
 

@@ -6,7 +6,7 @@ use Rattle.zone_states.specs.declared.geometry.Geometry.{Geometry}
 use Rattle.drive_port.specs.Drive.{DriveState}
 use Rattle.zone_drive.specs.Stored.{unused}
 use Rattle.drive_images.specs.Image.{IsImage}
-use Rattle.drive_journal.specs.Change.{Change, IsChange, journal_bytes}
+use Rattle.drive_journal.specs.Change.{Change, IsChange, Sum, journal_bytes, last_sum, start}
 use Rattle.drive_journal.specs.Replay.{at_rest, replayed}
 use Rattle.drive_journal.specs.Tail.{IsCutOff}
 
@@ -17,15 +17,19 @@ pub record Parts : Type 0 where
   pub changes : List Change
   pub cut : List ℕ
 
+-- the sum after the changes
+abbrev pub whole_sum : Parts → Sum
+whole_sum parts = last_sum start parts.changes
+
 pub record HasParts (bytes : List ℕ) (parts : Parts) : Type 0 where
-  pub text : bytes ≡ parts.image ++ (journal_bytes parts.changes ++ parts.cut)
+  pub text : bytes ≡ parts.image ++ (journal_bytes start parts.changes ++ parts.cut)
   pub is_image : IsImage parts.image parts.saved
   pub each : AllByRecursion (IsChange parts.saved.geometry) parts.changes
-  pub cut_off : IsCutOff parts.saved.geometry parts.cut
+  pub cut_off : IsCutOff parts.saved.geometry (whole_sum parts) parts.cut
 
 -- how many bytes are not cut off
 abbrev pub whole_length : Parts → ℕ
-whole_length parts = length parts.image + length (journal_bytes parts.changes)
+whole_length parts = length parts.image + length (journal_bytes start parts.changes)
 
 -- the zones that the changes make of the saved ones
 abbrev pub remade : Parts → List Zone
@@ -41,12 +45,13 @@ zones_read geometry zones (change ∷ changes) = at_rest (replayed geometry zone
 abbrev pub drive_read : Parts → DriveState
 drive_read parts = unused parts.saved.geometry (zones_read parts.saved.geometry parts.saved.zones parts.changes)
 
--- The bytes of a file in which this drive is read, and that many of them are whole.
-pub record IsDriveFile (bytes : List ℕ) (drive : DriveState) (whole : ℕ) : Type 0 where
+-- The bytes of a file in which this drive is read, that many of them are whole, and these end with this sum.
+pub record IsDriveFile (bytes : List ℕ) (drive : DriveState) (whole : ℕ) (sum : Sum) : Type 0 where
   pub parts : Parts
   pub has : HasParts bytes parts
   pub drive_is : drive ≡ drive_read parts
   pub whole_is : whole ≡ whole_length parts
+  pub sum_is : sum ≡ whole_sum parts
 
 -- ---- a file that stores a drive
 
@@ -57,6 +62,8 @@ pub record IsStored (bytes : List ℕ) (drive : DriveState) : Type 0 where
   pub geometry : drive.geometry ≡ parts.saved.geometry
   pub zones : at_rest drive.zones ≡ at_rest (remade parts)
 
--- and no change in them is cut off
-abbrev pub IsStoredWhole : List ℕ → DriveState → Type 0
-IsStoredWhole bytes drive = (stored : IsStored bytes drive) × (stored.parts.cut ≡ [])
+-- and no change in them is cut off, and they end with this sum: a change that goes on from it may follow
+pub record IsStoredWhole (bytes : List ℕ) (drive : DriveState) (sum : Sum) : Type 0 where
+  pub stored : IsStored bytes drive
+  pub none : stored.parts.cut ≡ []
+  pub sum_is : sum ≡ whole_sum stored.parts

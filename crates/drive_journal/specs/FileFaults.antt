@@ -1,5 +1,5 @@
 -- Why bytes are not a file of a drive: the first fault, from the first byte on.
-use Rattle.std.specs.Prelude.{◌≡◌, ◌⊎◌, ℕ, ◌+◌, Bool, true, List, ◌++◌, length, Some, ⊤}
+use Rattle.std.specs.Prelude.{◌≡◌, ◌⊎◌, ℕ, ◌+◌, Bool, true, List, ◌++◌, length, ⊤}
 use Rattle.std.specs.List.{AllByRecursion}
 use Rattle.zone_states.specs.declared.geometry.Geometry.{Geometry}
 use Rattle.drive_port.specs.Drive.{DriveState, IsLawful}
@@ -7,20 +7,20 @@ use Rattle.drive_images.specs.Image.{IsImage}
 use Rattle.drive_images.specs.Meaning.{is_of_bytes}
 use Rattle.drive_images.specs.Reading.{IsFrontFault}
 use Rattle.drive_images.specs.declared.fault.ImageFault.TheVariants.{Input, OutOfMemory}
-use Rattle.drive_journal.specs.Change.{Change, HasNoChange, IsChange, journal_bytes}
+use Rattle.drive_journal.specs.Change.{Change, HasNoChange, IsChange, journal_bytes, last_sum, start}
 use Rattle.drive_journal.specs.File.{HasParts, Parts, drive_read}
-use Rattle.drive_journal.specs.Tail.{tail_fault}
+use Rattle.drive_journal.specs.Tail.{IsTailFault}
 use Rattle.drive_journal.specs.declared.fault.FileFault.{FileFault}
-use Rattle.drive_journal.specs.declared.fault.FileFault.TheVariants.{Damaged, Image, Zones}
+use Rattle.drive_journal.specs.declared.fault.FileFault.TheVariants.{Damaged, Earlier, Image, Long, Zones}
 
 -- Some changes are whole, no whole one follows, and what follows has this fault. The changes begin at this place of the file.
 pub record FailsBehindChanges (geometry : Geometry) (from : ℕ) (bytes : List ℕ) (fault : FileFault) : Type 0 where
   pub changes : List Change
   pub rest : List ℕ
-  pub text : bytes ≡ journal_bytes changes ++ rest
+  pub text : bytes ≡ journal_bytes start changes ++ rest
   pub each : AllByRecursion (IsChange geometry) changes
-  pub none : HasNoChange geometry rest
-  pub told : tail_fault geometry from (from + length (journal_bytes changes)) rest ≡ Some fault
+  pub none : HasNoChange geometry (last_sum start changes) rest
+  pub told : IsTailFault geometry (last_sum start changes) from (from + length (journal_bytes start changes)) rest fault
 
 -- why changes are not read to their end; the reader may also fail, or memory run out
 abbrev pub IsJournalFault : Geometry → ℕ → List ℕ → FileFault → Type 0
@@ -45,6 +45,8 @@ pub record MakesNoDrive (bytes : List ℕ) : Type 0 where
 
 abbrev pub IsFileFault : List ℕ → FileFault → Type 0
 IsFileFault bytes (Image fault) = IsFrontFault bytes fault ⊎ FailsBehindImage bytes (Image fault)
+IsFileFault bytes (Long at) = FailsBehindImage bytes (Long at)
+IsFileFault bytes (Earlier at) = FailsBehindImage bytes (Earlier at)
 IsFileFault bytes (Damaged at) = FailsBehindImage bytes (Damaged at)
 IsFileFault bytes Zones = MakesNoDrive bytes
 

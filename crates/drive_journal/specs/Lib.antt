@@ -3,6 +3,7 @@ pub mod Tail
 pub mod Replay
 pub mod File
 pub mod FileFaults
+pub mod DamagedFile
 pub mod Journaling
 pub mod Moments
 pub mod Reading

@@ -2,19 +2,21 @@
 use Rattle.std.specs.Prelude.{◌≡◌, false, List, ℕ, length, Option, Some, Result}
 use Rattle.drive_port.specs.declared.device.Halt.{Halt}
 use Rattle.drive_port.specs.Halting.{SubmitGives}
+use Rattle.drive_journal.specs.Change.{Sum}
 use Rattle.drive_journal.specs.File.{IsStored}
 use Rattle.drive_journal.specs.Journaling.{IsInStep, Journaled, MayRenew, Writes}
 
--- a device that had not stopped was submitted an entry, and answered; its store held these bytes when the change was written
+-- a device that had not stopped was submitted an entry, and answered; its store held these bytes when the change was written, and the change goes on from this sum
 pub record Submits (old : Journaled) (held : Option (List ℕ)) (new : Journaled) : Type 0 where
   pub entry : List ℕ
   pub bytes : List ℕ
   pub result : Result (List ℕ) Halt
   pub returned : List ℕ
+  pub sum : Sum
   pub runs : old.drive.stopped ≡ false
   pub gives : SubmitGives old.drive entry bytes result returned new.drive
-  pub renewed : MayRenew old entry held
-  pub writes : Writes old held entry bytes result new
+  pub renewed : MayRenew old entry held sum
+  pub writes : Writes old held sum entry bytes result new
   pub was_kept : IsInStep old
   pub kept : IsInStep new
 

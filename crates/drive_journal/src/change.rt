@@ -1,11 +1,12 @@
-ghost use Rattle.std.specs.Prelude.{◌≡◌, ◌+◌, ◌≤◌, ◌++◌, ◌&&◌, [], IsTrue, OnErr, OnOk};
-ghost use Rattle.std.specs.Prelude.{is_some, length, true, vec_capacity};
+ghost use Rattle.std.specs.Prelude.{◌≡◌, ◌+◌, ◌≤◌, ◌++◌, ◌&&◌, [], IfOk, IsTrue, OnErr, OnOk};
+ghost use Rattle.std.specs.Prelude.{if◌then◌else◌, is_some, length, true, vec_capacity};
 ghost use Rattle.std.specs.Io.KnownBytes.{Appends};
 ghost use Rattle.disk_files.specs.Output.{AppendsFront};
 ghost use Rattle.nvme_wire.specs.Entry.{decode_of};
 ghost use Rattle.drive_port.specs.Step.{is_success};
 ghost use Rattle.zone_drive.specs.Foreseen.{CanGive};
-ghost use Rattle.drive_journal.specs.Change.{beside_bytes, change_bytes, changes, mark, seal};
+ghost use Rattle.drive_journal.specs.Change.{beside_bytes, change_bytes, changes, mark, next_sum, start, sum_bytes};
+ghost use Rattle.drive_journal.specs.Change.{sum_over};
 
 use crate::foreseeing::Foreseeing;
 use crate::store::Store;
@@ -16,15 +17,38 @@ use nvme_wire::{Command, Status};
 use sqlite_wal::checksum_of;
 use std::alloc::AllocError;
 
-/// How a change begins.
-pub(crate) const MARK: [u8; 8] = *b"ZNSCHG01";
+/// The checksum that runs through the changes of a file, up to one of them.
+pub type Sum = (u32, u32);
 
-/// The checksum of a change.
-#[tactic(auto, unfolding(crate::specs::Change::seal))]
-pub(crate) fn seal(entry: &[u8; 64], bytes: &[u8]) -> [u8; 8]
-    ensures { result ≡ seal entry.now bytes.now }
+/// The sum before the first change of a file.
+pub const START: Sum = (0, 0);
+
+/// How a change begins.
+pub(crate) const MARK: [u8; 8] = *b"ZNSCHG02";
+
+/// How a change began in the version before.
+pub(crate) const EARLIER_MARK: [u8; 8] = *b"ZNSCHG01";
+
+/// The sum, which goes on over bytes.
+pub(crate) fn sum_over(sum: Sum, bytes: &[u8]) -> Sum
+    ensures { result ≡ sum_over sum bytes.now }
 {
-    let (first, second) = checksum_of(false, checksum_of(false, (0, 0), entry), bytes);
+    checksum_of(false, sum, bytes)
+}
+
+/// The sum before the next change: it starts again where the bytes were written anew.
+pub(crate) fn sum_before(anew: bool, sum: Sum) -> Sum
+    ensures { result ≡ (if anew then start else sum) }
+{
+    if anew { START } else { sum }
+}
+
+/// The bytes of a sum.
+#[tactic(auto, unfolding(crate::specs::Change::sum_bytes))]
+pub(crate) fn sum_bytes(sum: Sum) -> [u8; 8]
+    ensures { result ≡ sum_bytes sum }
+{
+    let (first, second) = sum;
     let mut out = [0; 8];
     LittleEndian::write_u32(&mut out[0..4], first);
     LittleEndian::write_u32(&mut out[4..8], second);
@@ -42,26 +66,31 @@ pub(crate) fn written_of<'a>(entry: &[u8; 64], bytes: &'a [u8]) -> &'a [u8]
     }
 }
 
-/// Writes the change of an entry and its data to a store, in parts, so that the data are not copied before. After a
-/// fault a beginning of the change is written.
+/// Writes the change of an entry and its data to a store, in parts, so that the data are not copied before. It goes on
+/// from a sum, and what is returned is the sum after it. After a fault a beginning of the change is written.
 pub(crate) fn write_change<D: Device, S: Store<D>>(
     store: &mut S,
+    sum: Sum,
     entry: &[u8; 64],
     written: &[u8],
-) -> Result<(), WriteFault>
+) -> Result<Sum, WriteFault>
     ensures ok { OnOk result (Appends (S.held store.old) (S.held store.new)
-        (change_bytes (record { entry = entry.now; bytes = written.now }))) }
+        (change_bytes sum (record { entry = entry.now; bytes = written.now }))) }
+    ensures next { IfOk result (λ next. next ≡ next_sum sum (record { entry = entry.now; bytes = written.now })) }
     ensures err { OnErr result (AppendsFront (S.held store.old) (S.held store.new)
-        (change_bytes (record { entry = entry.now; bytes = written.now }))) }
+        (change_bytes sum (record { entry = entry.now; bytes = written.now }))) }
     ensures known { is_some (S.held store.new) ≡ is_some (S.held store.old) }
     ensures failed { OnErr result (S.failed store.new ≡ true) }
     ensures as_before { OnOk result (S.failed store.new ≡ S.failed store.old) }
 {
-    let seal = seal(entry, written);
+    let middle = sum_over(sum, entry);
+    let last = sum_over(middle, written);
     store.append(&MARK)?;
     store.append(entry)?;
+    store.append(&sum_bytes(middle))?;
     store.append(written)?;
-    store.append(&seal)
+    store.append(&sum_bytes(last))?;
+    Ok(last)
 }
 
 /// Whether the command of this entry changes what the device holds, if there is memory for it.

@@ -9,11 +9,17 @@ use thiserror::Error;
 /// Why no drive is read in a file: the first fault that is met.
 #[derive(Clone, Copy, Debug, PartialEq, Eq, Error)]
 pub enum FileFault {
-    /// The file does not begin with an image, or other bytes than changes follow it (`ImageFault::Long`).
+    /// The file does not begin with an image.
     #[error("{0}")]
     Image(ImageFault),
+    /// Other bytes than changes follow the image, which ends at this byte of the file.
+    #[error("bytes follow the last zone, which ends at byte {0}: `truncate -s {0}` removes them")]
+    Long(u64),
+    /// Changes of the version before follow the image, which ends at this byte of the file.
+    #[error("the changes from byte {0} on are of the version before, which reads them")]
+    Earlier(u64),
     /// The change at this byte of the file is damaged, and it is not one that was cut off.
-    #[error("the change at byte {0} is damaged")]
+    #[error("the change at byte {0} is damaged: `truncate -s {0}` removes it and all later changes")]
     Damaged(u64),
     /// The changes make zones that no drive has.
     #[error("no drive has the zones that the changes make")]

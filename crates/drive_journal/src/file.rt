@@ -1,4 +1,4 @@
-ghost use Rattle.std.specs.Prelude.{◌≡◌, ◌==◌, ◌&&◌, ◌↔◌, IfErr, IfOk, IfSome, IsTrue, OnErr, if◌then◌else◌, not, take};
+ghost use Rattle.std.specs.Prelude.{◌≡◌, ◌==◌, ◌&&◌, ◌↔◌, IfErr, IfOk, IfSome, IsTrue, OnErr, if◌then◌else◌, not};
 ghost use Rattle.std.specs.List.{list_all};
 ghost use Rattle.zone_states.specs.Transition.{is_open};
 ghost use Rattle.drive_port.specs.Run.{restarted};
@@ -10,7 +10,9 @@ ghost use Rattle.drive_journal.specs.File.{IsDriveFile};
 ghost use Rattle.drive_journal.specs.FileFaults.{IsFileFault};
 ghost use Rattle.drive_journal.specs.Replay.{HaveWholeBlocks, at_rest};
 
+use crate::change::Sum;
 use crate::fault::FileFault;
+use crate::replayed::Replayed;
 use crate::replaying::{close_zones, replay};
 use drive_images::{image_length, read_image_front};
 use std::alloc::Global;
@@ -25,7 +27,10 @@ pub struct OpenedDrive {
     /// How many bytes of the file are the image and whole changes. The bytes after them are a change that was cut
     /// off: the file is cut there before more is written.
     pub whole: u64,
-    /// Whether these are the image of the drive as a restart leaves it: there was no change, and no zone is open.
+    /// The sum from which the next change goes on.
+    pub sum: Sum,
+    /// Whether all bytes of the file are the image of the drive as a restart leaves it: there was no change, also none
+    /// that was cut off, and no zone is open.
     pub is_image: bool,
 }
 
@@ -47,11 +52,12 @@ fn are_shut(zones: &[Zone]) -> bool
     zones.iter().all(|zone| !is_open(zone.state()))
 }
 
-// Whether the whole bytes of a file are only an image, of zones none of which is open.
-fn is_rested_image(zones: &[Zone], from: u64, whole: u64) -> bool
-    ensures { result ≡ ((whole == from) && list_all (λ zone. not (is_open zone.state)) zones.now) }
+// Whether all bytes of a file are an image, which ends at `from`, of zones none of which is open.
+fn is_rested_image(zones: &[Zone], from: u64, end: &Replayed) -> bool
+    ensures { result ≡ ((end.now.is_all && (end.now.whole == from))
+        && list_all (λ zone. not (is_open zone.state)) zones.now) }
 {
-    whole == from && are_shut(zones)
+    end.is_all && end.whole == from && are_shut(zones)
 }
 
 // A drive of these zones, if any.
@@ -72,22 +78,23 @@ fn make_drive(alloc: Global, geometry: Geometry, zones: Vec<Zone>) -> Result<Dri
 /// completed no command. If there are changes, none of its zones is open, as after a restart; else they are as saved.
 pub fn open_drive<R: Read>(alloc: Global, reader: &mut R) -> Result<OpenedDrive, FileFault>
     ensures ok { IfOk result (λ opened. IfSome (R.remaining reader.old) (λ bytes.
-        IsDriveFile bytes opened.drive.state opened.whole)) }
+        IsDriveFile bytes opened.drive.state opened.whole opened.sum)) }
     ensures image { IfOk result (λ opened. IfSome (R.remaining reader.old) (λ bytes.
-        IsTrue opened.is_image ↔ IsImage (take opened.whole bytes) (restarted opened.drive.state))) }
+        IsTrue opened.is_image ↔ IsImage bytes (restarted opened.drive.state))) }
     ensures err { IfErr result (λ fault. IfSome (R.remaining reader.old) (λ bytes. IsFileFault bytes fault)) }
 {
     let saved = read_image_front(alloc, reader)?;
     let geometry = saved.geometry;
     let mut zones = saved.zones;
     let from = image_length(&geometry, &zones);
-    let whole = replay(alloc, reader, &geometry, &mut zones, from)?;
-    settle(&mut zones, geometry.block, whole > from);
-    let is_image = is_rested_image(&zones, from, whole);
+    let end = replay(alloc, reader, &geometry, &mut zones, from)?;
+    settle(&mut zones, geometry.block, end.whole > from);
+    let is_image = is_rested_image(&zones, from, &end);
     let drive = make_drive(alloc, geometry, zones)?;
     Ok(OpenedDrive {
         drive,
-        whole,
+        whole: end.whole,
+        sum: end.sum,
         is_image,
     })
 }

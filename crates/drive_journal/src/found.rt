@@ -1,12 +1,18 @@
+use crate::change::Sum;
+
 /// What is found where a change may be.
 #[derive(Clone, Copy, Debug, PartialEq, Eq)]
 pub(crate) enum Found {
-    /// A whole change.
-    Change,
-    /// Nothing, or a change that was cut off.
+    /// No byte.
+    End,
+    /// A whole change, and the sum after it.
+    Change(Sum),
+    /// A change that was cut off.
     CutOff,
-    /// No whole change, and more bytes than a change can have.
-    TooLong,
-    /// Bytes that do not begin as a change does.
+    /// Bytes that begin as a change does, and are none, nor a change that was cut off.
+    Damaged,
+    /// The mark of a change of the version before.
+    Earlier,
+    /// Other bytes.
     Other,
 }

@@ -4,7 +4,7 @@ ghost use Rattle.drive_port.specs.Halting.{SubmitAdds, SubmitGives};
 ghost use Rattle.drive_journal.specs.File.{IsStoredWhole};
 ghost use Rattle.drive_journal.specs.Journaling.{AnswersInStep, IsInStep, WritesChange};
 
-use crate::change::{keep, make_ready, will_change, write_change, written_of};
+use crate::change::{Sum, keep, make_ready, sum_before, will_change, write_change, written_of};
 use crate::foreseeing::Foreseeing;
 use crate::loss::Loss;
 use crate::store::Store;
@@ -23,6 +23,8 @@ pub struct Journaling<D: Foreseeing + Drop, S: Store<D> + Drop> {
     device: D,
     store: S,
     loss: Loss,
+    // The sum from which the next change goes on.
+    sum: Sum,
     // The entry and the data of the last change, if its completion was lost. Else there is room for those of the next.
     change: Vec<u8>,
 }
@@ -39,6 +41,7 @@ impl<D: Foreseeing + Drop, S: Store<D> + Drop> Model for Journaling<D, S> {
           (D.foreseen j.device (changed_entry_in j.change.items) (changed_data_in j.change.items)).zones;
       lost = is_lost j.loss;
       contents = S.held j.store;
+      sum = j.sum;
     } };
 
     // A device that lost something has told its store.
@@ -47,19 +50,22 @@ impl<D: Foreseeing + Drop, S: Store<D> + Drop> Model for Journaling<D, S> {
           (D.foreseen j.device (changed_entry_in j.change.items) (changed_data_in j.change.items)).zones;
       lost = is_lost j.loss;
       contents = S.held j.store;
+      sum = j.sum;
     }) × (is_lost j.loss ≡ true → S.failed j.store ≡ true) };
 }
 
 impl<D: Foreseeing + Drop, S: Store<D> + Drop> Journaling<D, S> {
-    /// A device whose changes go to this store, which holds the drive of the device.
-    pub fn new(alloc: Global, device: D, store: S) -> Self
-        requires { IfSome (S.held store) (λ bytes. IsStoredWhole bytes (D.drive device)) }
-        ensures { result ≡ record { drive = D.drive device; lost = false; contents = S.held store } }
+    /// A device whose changes go to this store, which holds the drive of the device. They go on from this sum: `START`
+    /// if the store holds an image and no change.
+    pub fn new(alloc: Global, device: D, store: S, sum: Sum) -> Self
+        requires { IfSome (S.held store) (λ bytes. IsStoredWhole bytes (D.drive device) sum) }
+        ensures { result ≡ record { drive = D.drive device; lost = false; contents = S.held store; sum = sum } }
     {
         Journaling {
             device,
             store,
             loss: Loss::Nothing,
+            sum,
             change: Vec::new(alloc),
         }
     }
@@ -99,15 +105,16 @@ impl<D: Foreseeing + Drop, S: Store<D> + Drop> Journaling<D, S> {
         if !will_change(&self.device, entry, bytes) {
             return self.device.answer(entry, bytes, into);
         }
-        self.store.renew(&self.device);
+        self.sum = sum_before(self.store.renew(&self.device), self.sum);
         let Ok(()) = make_ready(&mut self.device, &mut self.change, entry, bytes) else {
             return Err(Halt::Memory);
         };
         let written = written_of(entry, bytes);
-        let Ok(()) = write_change(&mut self.store, entry, written) else {
+        let Ok(next) = write_change(&mut self.store, self.sum, entry, written) else {
             self.loss = Loss::Change;
             return Err(Halt::Stopped);
         };
+        self.sum = next;
         match self.device.answer(entry, bytes, into) {
             Ok(completion) => Ok(completion),
             Err(_) => {

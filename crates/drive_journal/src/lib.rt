@@ -3,13 +3,18 @@
 //! ```text
 //! let opened = open_drive(alloc, &mut reader)?; // the drive that the file holds
 //! file.set_len(opened.whole)?; // without a change that was cut off
-//! let mut device = Journaling::new(alloc, opened.drive, Unknown::new(file));
+//! let mut device = Journaling::new(alloc, opened.drive, Unknown::new(file), opened.sum);
 //! append(alloc, &mut device, 0, &block)?; // in the file before it is answered
 //! ```
 //!
-//! A change is a mark of 8 bytes, the entry of 64 bytes of the command that made it, the data of the entry, and a
-//! checksum of 8 bytes. An image says itself where it ends, and after it come the changes in order. So a file that
-//! was just saved is the image and nothing more, and its first change begins with the first mark.
+//! A change is a mark of 8 bytes, the entry of 64 bytes of the command that made it, a sum of 8 bytes, the data of the
+//! entry, and a sum of 8 bytes again. An image says itself where it ends, and after it come the changes in order. So a
+//! file that was just saved is the image and nothing more, and its first change begins with the first mark.
+//!
+//! The sums are one checksum that runs through the entries and the data of all changes. So each change is read only
+//! after those that it was written after, and no change of an earlier run comes back. The sum after the entry says
+//! that the entry is right before the data are read, and with it how long the change is. So a change that was cut off
+//! is told from one that is damaged.
 //!
 //! # What is promised
 //!
@@ -20,11 +25,14 @@
 //! * Where the store fails, the device has stopped, and shows the drive as it was before the command. If the store
 //!   has the change and there is no memory to do the command, it has stopped too, and shows the drive with the command
 //!   done.
-//! * A store may write its bytes anew, as the image of the drive, before a change is written (`Store::renew`).
+//! * A store may write its bytes anew, as the image of the drive, before a change is written (`Store::renew`). Then the
+//!   sum starts again.
 //! * [`open_drive`] reads the drive that a file holds (`IsDriveFile` in `specs/File.antt`), or tells its first fault
-//!   (`IsFileFault`). A change that was cut off is dropped, since its command was never answered. Bytes that are no
-//!   change are a fault: after the image itself `Long`, as ever; after a change, or where they are more than a change
-//!   can have, `Damaged`, with the place of the first.
+//!   (`IsFileFault`). A change that was cut off is dropped, since its command was never answered (`IsCutOff` in
+//!   `specs/Tail.antt`). Other bytes are a fault, told with the place of the first: directly after the image `Long`, or
+//!   `Earlier` if they are changes of the version before; else `Damaged`.
+//! * A change is not read after others than it was written after (`laws::changes_are_chained`), and damage that bytes
+//!   follow is not taken for a cut (`laws::damage_is_refused`).
 //! * What a store holds is read again, up to a restart (`laws::stored_is_read`).
 //!
 //! Nothing is promised of what a file system keeps after a power failure, without a sync.
@@ -41,13 +49,16 @@ mod journaling;
 pub mod laws;
 mod loss;
 mod read;
+mod replayed;
 mod replaying;
 mod store;
 
+pub use change::{START, Sum};
 pub use fault::FileFault;
 pub use file::{OpenedDrive, open_drive};
 pub use foreseeing::Foreseeing;
 pub use journaling::Journaling;
 pub use loss::Loss;
+pub use replayed::Replayed;
 pub use replaying::replay;
 pub use store::{Held, Store, Unknown};

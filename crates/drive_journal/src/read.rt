@@ -1,13 +1,13 @@
-ghost use Rattle.std.specs.Prelude.{◌≡◌, ◌⊎◌, ◌↔◌, ◌<◌, ◌≤◌, ◌^◌, false, true};
+ghost use Rattle.std.specs.Prelude.{◌≡◌, ◌⊎◌, ◌↔◌, ◌<◌, ◌≤◌, false, true};
 ghost use Rattle.std.specs.Prelude.{IfErr, IfNone, IfOk, IfSome, IsTrue, OnOk, length, nat_eq, take};
 ghost use Rattle.std.specs.List.{starts_with};
 ghost use Rattle.std.specs.Io.KnownBytes.{Consumes, IsAtEnd};
 ghost use Rattle.zone_states.specs.Geometry.{IsInRange};
 ghost use Rattle.drive_images.specs.Meaning.{is_of_bytes};
-ghost use Rattle.drive_journal.specs.Change.{changes, beside_blocks, mark, seal};
-ghost use Rattle.drive_journal.specs.Reading.{EndsWithin, FindsChange, FindsBody};
+ghost use Rattle.drive_journal.specs.Change.{beside_blocks, changes, data_length, mark, sum_bytes};
+ghost use Rattle.drive_journal.specs.Reading.{FindsBody, FindsChange, FindsEnd, IsOther, IsSealedEntry};
 
-use crate::change::{MARK, seal};
+use crate::change::{EARLIER_MARK, MARK, Sum, sum_bytes, sum_over};
 use crate::found::Found;
 use drive_images::ImageFault;
 use nvme_wire::{Command, DecodeFault};
@@ -51,22 +51,6 @@ fn fill_bytes<R: Read>(
     fill(reader, bytes)
 }
 
-/// Whether the reader ends after that many bytes, or before.
-fn ends_within<R: Read>(
-    reader: &mut R,
-    bytes: &mut Vec<u8>,
-    count: usize,
-) -> Result<Found, ImageFault>
-    requires { count < 2 ^ 63 }
-    ensures ok { IfOk result (λ found. EndsWithin count (R.remaining reader.old) found) }
-    ensures err { IfErr result (λ fault. is_of_bytes fault ≡ false) }
-{
-    if fill_bytes(reader, bytes, count + 1)? <= count {
-        return Ok(Found::CutOff);
-    }
-    Ok(Found::TooLong)
-}
-
 /// How many blocks of data come with a command that changes a drive of this shape.
 fn data_blocks(geometry: &Geometry, command: Result<Command, DecodeFault>) -> Option<u32>
     ensures changes { IfSome result (λ blocks. changes command ≡ true) }
@@ -85,44 +69,74 @@ fn data_blocks(geometry: &Geometry, command: Result<Command, DecodeFault>) -> Op
     Some(blocks)
 }
 
-/// Whether this is the checksum of a change.
-fn is_sealed(sum: &[u8; 8], entry: &[u8; 64], bytes: &[u8]) -> bool
-    ensures { IsTrue result ↔ (sum.now ≡ seal entry.now bytes.now) }
+/// Whether these are the bytes of a sum.
+fn is_sum(bytes: &[u8; 8], sum: Sum) -> bool
+    ensures { IsTrue result ↔ (bytes.now ≡ sum_bytes sum) }
 {
-    *sum == seal(entry, bytes)
+    *bytes == sum_bytes(sum)
 }
 
-/// Reads what follows the mark of a change: its entry, its data, and their checksum.
+/// How many bytes of data the change of this entry has, if the entry and the sum after it are a head.
+fn data_length(geometry: &Geometry, sum: Sum, entry: &[u8; 64], sealed: &[u8; 8]) -> Option<usize>
+    requires { IsInRange geometry.now }
+    ensures some { IfSome result (λ count. IsSealedEntry geometry.now sum entry.now sealed.now) }
+    ensures count { IfSome result (λ count. count ≡ data_length geometry.now entry.now) }
+    ensures none { IfNone result (IsSealedEntry geometry.now sum entry.now sealed.now → ⊥) }
+{
+    let blocks = data_blocks(geometry, Command::decode(entry))?;
+    if !is_sum(sealed, sum_over(sum, entry)) {
+        return None;
+    }
+    Some(blocks as usize * geometry.block as usize)
+}
+
+/// What follows a whole change with a wrong sum: no byte, so it was cut off, or more.
+fn find_end<R: Read>(reader: &mut R) -> Result<Found, ImageFault>
+    ensures ok { IfOk result (λ found. FindsEnd (R.remaining reader.old) found) }
+    ensures err { IfErr result (λ fault. is_of_bytes fault ≡ false) }
+{
+    let mut next = [0];
+    if fill(reader, &mut next)? == 0 {
+        return Ok(Found::CutOff);
+    }
+    Ok(Found::Damaged)
+}
+
+/// Reads what follows the mark of a change: its entry, its data, and the sums after both.
 fn read_body<R: Read>(
     reader: &mut R,
     geometry: &Geometry,
+    sum: Sum,
     entry: &mut [u8; 64],
     bytes: &mut Vec<u8>,
 ) -> Result<Found, ImageFault>
     requires { IsInRange geometry.now }
-    ensures ok { IfOk result (λ found. FindsBody geometry.now (R.remaining reader.old) (R.remaining reader.new)
+    ensures ok { IfOk result (λ found. FindsBody geometry.now sum (R.remaining reader.old) (R.remaining reader.new)
         (record { entry = entry.new; bytes = bytes.new.items }) found) }
     ensures err { IfErr result (λ fault. is_of_bytes fault ≡ false) }
 {
+    let mut sealed = [0; 8];
     if fill(reader, entry)? < 64 {
         return Ok(Found::CutOff);
     }
-    let most = geometry.transfer as usize * geometry.block as usize;
-    let Some(blocks) = data_blocks(geometry, Command::decode(entry)) else {
-        return ends_within(reader, bytes, most + 8);
+    if fill(reader, &mut sealed)? < 8 {
+        return Ok(Found::CutOff);
+    }
+    let Some(count) = data_length(geometry, sum, entry, &sealed) else {
+        return Ok(Found::Damaged);
     };
-    let count = blocks as usize * geometry.block as usize;
     if fill_bytes(reader, bytes, count)? < count {
         return Ok(Found::CutOff);
     }
-    let mut sum = [0; 8];
-    if fill(reader, &mut sum)? < 8 {
+    let mut last = [0; 8];
+    if fill(reader, &mut last)? < 8 {
         return Ok(Found::CutOff);
     }
-    if !is_sealed(&sum, entry, bytes) {
-        return ends_within(reader, bytes, most - count);
+    let next = sum_over(sum_over(sum, entry), bytes);
+    if !is_sum(&last, next) {
+        return find_end(reader);
     }
-    Ok(Found::Change)
+    Ok(Found::Change(next))
 }
 
 /// Whether these bytes are a front of the mark.
@@ -132,25 +146,39 @@ fn is_front_of_mark(bytes: &[u8]) -> bool
     MARK.starts_with(bytes)
 }
 
-/// Reads the next change: its entry and its data.
+/// What bytes are that are no front of the mark.
+fn find_other(bytes: &[u8]) -> Found
+    ensures { IsOther bytes.now result }
+{
+    if bytes == EARLIER_MARK.as_slice() {
+        return Found::Earlier;
+    }
+    Found::Other
+}
+
+/// Reads the next change, which goes on from this sum: its entry and its data.
 pub(crate) fn read_change<R: Read>(
     reader: &mut R,
     geometry: &Geometry,
+    sum: Sum,
     entry: &mut [u8; 64],
     bytes: &mut Vec<u8>,
 ) -> Result<Found, ImageFault>
     requires { IsInRange geometry.now }
-    ensures ok { IfOk result (λ found. FindsChange geometry.now (R.remaining reader.old) (R.remaining reader.new)
+    ensures ok { IfOk result (λ found. FindsChange geometry.now sum (R.remaining reader.old) (R.remaining reader.new)
         (record { entry = entry.new; bytes = bytes.new.items }) found) }
     ensures err { IfErr result (λ fault. is_of_bytes fault ≡ false) }
 {
     let mut mark = [0; 8];
     let count = fill(reader, &mut mark)?;
+    if count == 0 {
+        return Ok(Found::End);
+    }
     if !is_front_of_mark(&mark[..count]) {
-        return Ok(Found::Other);
+        return Ok(find_other(&mark[..count]));
     }
     if count < 8 {
         return Ok(Found::CutOff);
     }
-    read_body(reader, geometry, entry, bytes)
+    read_body(reader, geometry, sum, entry, bytes)
 }

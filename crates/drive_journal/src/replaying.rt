@@ -6,9 +6,11 @@ ghost use Rattle.drive_journal.specs.FileFaults.{IsJournalFault};
 ghost use Rattle.drive_journal.specs.Reading.{Replays};
 ghost use Rattle.drive_journal.specs.Replay.{HaveWholeBlocks, at_rest, stored_changed, written_in};
 
+use crate::change::{START, Sum};
 use crate::fault::FileFault;
 use crate::found::Found;
 use crate::read::read_change;
+use crate::replayed::Replayed;
 use drive_images::ImageFault;
 use nvme_wire::{Action, Command, DecodeFault};
 use std::alloc::{AllocError, Global};
@@ -89,29 +91,37 @@ pub(crate) fn close_zones(block: u32, zones: &mut [Zone])
     apply_to_each(zones, Action::Close);
 }
 
-/// The fault of bytes that do not begin as a change does, after an image that ends at `from`.
-fn other_fault(from: u64, at: u64) -> FileFault
-    ensures { result ≡ (if at == from then FileFault.Image ImageFault.Long else FileFault.Damaged at) }
+/// The fault of bytes that do not begin as a change does, after an image that ends at `from`: directly after it
+/// `there`.
+fn other_fault(from: u64, at: u64, there: FileFault) -> FileFault
+    ensures { result ≡ (if at == from then there else FileFault.Damaged at) }
 {
     if at == from {
-        FileFault::Image(ImageFault::Long)
+        there
     } else {
         FileFault::Damaged(at)
     }
 }
 
+/// The whole changes end here, with this sum.
+fn ends(whole: u64, sum: Sum, is_all: bool) -> Replayed
+    ensures { result ≡ record { whole = whole; sum = sum; is_all = is_all } }
+{
+    Replayed { whole, sum, is_all }
+}
+
 /// Does the changes that a reader has left again on these zones, and says where in the file the last whole one ends.
 /// `from` says where the first one begins.
 ///
-/// A change that was cut off is dropped, and all others are done. Of a change nothing is checked but its checksum,
-/// since its command succeeded once: whether a drive can have the zones, `Drive::from_zones` says.
+/// A change that was cut off is dropped, and all others are done. Of a change nothing is checked but its sums, since
+/// its command succeeded once: whether a drive can have the zones, `Drive::from_zones` says.
 pub fn replay<R: Read>(
     alloc: Global,
     reader: &mut R,
     geometry: &Geometry,
     zones: &mut [Zone],
     from: u64,
-) -> Result<u64, FileFault>
+) -> Result<Replayed, FileFault>
     requires in_range { IsInRange geometry.now }
     requires whole { HaveWholeBlocks geometry.now.block zones.old }
     ensures ok { IfOk result (λ end. Replays geometry.now (R.remaining reader.old) from
@@ -122,15 +132,18 @@ pub fn replay<R: Read>(
 {
     let mut entry = [0; 64];
     let mut bytes = Vec::new(alloc);
-    let mut at = from;
+    let (mut at, mut sum) = (from, START);
     for _ in 0..u64::MAX {
-        match read_change(reader, geometry, &mut entry, &mut bytes)? {
-            Found::Change => apply_change(geometry, zones, Command::decode(&entry), &bytes)?,
-            Found::CutOff => return Ok(at),
-            Found::TooLong => return Err(FileFault::Damaged(at)),
-            Found::Other => return Err(other_fault(from, at)),
+        match read_change(reader, geometry, sum, &mut entry, &mut bytes)? {
+            Found::Change(next) => sum = next,
+            Found::End => return Ok(ends(at, sum, true)),
+            Found::CutOff => return Ok(ends(at, sum, false)),
+            Found::Damaged => return Err(FileFault::Damaged(at)),
+            Found::Earlier => return Err(other_fault(from, at, FileFault::Earlier(at))),
+            Found::Other => return Err(other_fault(from, at, FileFault::Long(at))),
         }
-        let Some(next) = at.checked_add(80 + bytes.len() as u64) else {
+        apply_change(geometry, zones, Command::decode(&entry), &bytes)?;
+        let Some(next) = at.checked_add(88 + bytes.len() as u64) else {
             return Err(FileFault::Image(ImageFault::Input));
         };
         at = next;

@@ -1,7 +1,8 @@
-ghost use Rattle.std.specs.Prelude.{◌≡◌, Bool, List, IfOk, IfSome, OnErr, OnOk, Option, Some, None, is_some, true, ℕ};
+ghost use Rattle.std.specs.Prelude.{◌≡◌, Bool, List, IfOk, IfSome, IsTrue, OnErr, OnOk, Option, Some, None, false, is_some, true, ℕ};
 ghost use Rattle.drive_journal.specs.Cut.{front_of};
 ghost use Rattle.std.specs.Io.KnownBytes.{Appends};
 ghost use Rattle.disk_files.specs.Output.{AppendsFront};
+ghost use Rattle.drive_journal.specs.Change.{Sum, start};
 ghost use Rattle.drive_journal.specs.File.{IsStoredWhole};
 
 use disk_files::{WriteFault, write_out};
@@ -37,11 +38,14 @@ pub trait Store<D: Device> {
         ensures held { held self.new ≡ held self.old }
         ensures failed { failed self.new ≡ true };
 
-    /// May put others in the place of the bytes that it holds, which store the same drive, as its image does. It is
-    /// called before a change is written. Where the others cannot be written, the bytes stay.
-    fn renew(&mut self, device: &D)
-        requires { IfSome (held self.old) (λ bytes. IsStoredWhole bytes (D.drive device.now)) }
-        ensures stored { IfSome (held self.new) (λ bytes. IsStoredWhole bytes (D.drive device.now)) }
+    /// May put others in the place of the bytes that it holds, which store the same drive, as its image does, and says
+    /// whether it did. The sum starts again after them. It is called before a change is written. Where the others
+    /// cannot be written, the bytes stay.
+    fn renew(&mut self, device: &D) -> bool
+        requires { (sum : Sum) × IfSome (held self.old) (λ bytes. IsStoredWhole bytes (D.drive device.now) sum) }
+        ensures anew { IsTrue result → IfSome (held self.new) (λ bytes.
+            IsStoredWhole bytes (D.drive device.now) start) }
+        ensures same { result ≡ false → held self.new ≡ held self.old }
         ensures known { is_some (held self.new) ≡ is_some (held self.old) }
         ensures failed { failed self.new ≡ failed self.old };
 
@@ -94,7 +98,9 @@ impl<W: Write + Drop, D: Device> Store<D> for Unknown<W> {
         self.failed = true;
     }
 
-    fn renew(&mut self, _device: &D) {}
+    fn renew(&mut self, _device: &D) -> bool {
+        false
+    }
 
     // Whoever made the writer has to do it.
     fn cut(&mut self, _whole: u64) {}
@@ -127,7 +133,7 @@ impl Held {
 
     /// The image of this drive, and the limit.
     pub fn of_drive(alloc: Global, drive: &Drive, limit: usize) -> Result<Self, WriteFault>
-        ensures { IfOk result (λ held. IsStoredWhole (held_bytes held) drive.now.state) }
+        ensures { IfOk result (λ held. IsStoredWhole (held_bytes held) drive.now.state start) }
     {
         Ok(Held::new(alloc, image_of(alloc, drive)?, limit))
     }
@@ -142,7 +148,7 @@ impl Held {
 
 // The image of a drive.
 fn image_of(alloc: Global, drive: &Drive) -> Result<Vec<u8>, WriteFault>
-    ensures { IfOk result (λ image. IsStoredWhole image.items drive.now.state) }
+    ensures { IfOk result (λ image. IsStoredWhole image.items drive.now.state start) }
 {
     image_again(drive);
     let mut image = Vec::new(alloc);
@@ -171,14 +177,16 @@ impl Store<Drive> for Held {
         self.failed = true;
     }
 
-    fn renew(&mut self, drive: &Drive) {
+    fn renew(&mut self, drive: &Drive) -> bool {
         if self.bytes.len() <= self.limit {
-            return;
+            return false;
         }
-        if let Ok(image) = image_of(self.alloc, drive) {
-            self.limit = self.limit.max(image.len().saturating_mul(2));
-            self.bytes = image;
-        }
+        let Ok(image) = image_of(self.alloc, drive) else {
+            return false;
+        };
+        self.limit = self.limit.max(image.len().saturating_mul(2));
+        self.bytes = image;
+        true
     }
 
     fn cut(&mut self, whole: u64) {

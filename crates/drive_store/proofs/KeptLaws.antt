@@ -3,6 +3,7 @@ use Rattle.std.proofs.Common.{ℕ, List, Option, Some, None, ◌∙◌}
 use Rattle.std.specs.Prelude.{IfSome}
 use Rattle.drive_port.specs.Drive.{DriveState}
 use Rattle.drive_port.specs.Run.{restarted}
+use Rattle.drive_journal.specs.Change.{Sum}
 use Rattle.drive_journal.specs.Cut.{front_of}
 use Rattle.drive_journal.specs.File.{IsDriveFile, IsStoredWhole}
 use Rattle.drive_journal.proofs.MeaningLaws.{opened-stored}
@@ -12,16 +13,20 @@ use Rattle.drive_store.specs.declared.kept_drive.Begun.{Begun}
 use Rattle.zone_drive.specs.declared.habit.Habit.{Habit}
 
 -- a store that holds a file, and is cut to what is whole of it, stores the drive that was read, restarted
-cut-stored : (held file : Option (List ℕ)) (opened : DriveState) (whole : ℕ) → HoldsFile held file → IfSome file (λ bytes. IsDriveFile bytes opened whole)
-    → IfSome (front_of whole held) (λ bytes. IsStoredWhole bytes (restarted opened))
-cut-stored None file opened whole same read = tt
-cut-stored (Some held) file opened whole same read =
-    let whole_read : IsDriveFile held opened whole = rw same at read in
-    let whole_stored = opened-stored held opened whole whole_read in
-    let stored = whole_stored.0 in
-    (record { parts = stored.parts; has = stored.has; geometry = stored.geometry; zones = rest-rest opened.zones ∙ stored.zones }, whole_stored.1)
+cut-stored : (held file : Option (List ℕ)) (opened : DriveState) (whole : ℕ) (sum : Sum) → HoldsFile held file → IfSome file (λ bytes. IsDriveFile bytes opened whole sum)
+    → IfSome (front_of whole held) (λ bytes. IsStoredWhole bytes (restarted opened) sum)
+cut-stored None file opened whole sum same read = tt
+cut-stored (Some held) file opened whole sum same read =
+    let whole_read : IsDriveFile held opened whole sum = rw same at read in
+    let whole_stored = opened-stored held opened whole sum whole_read in
+    let stored = whole_stored.stored in
+    record {
+      stored = record { parts = stored.parts; has = stored.has; geometry = stored.geometry; zones = rest-rest opened.zones ∙ stored.zones };
+      none = whole_stored.none;
+      sum_is = whole_stored.sum_is;
+    }
 
 -- so does the store of a file whose drive was restarted
 pub restarted-stored : (held file : Option (List ℕ)) (habit : Habit) (begun : Begun) → HoldsFile held file → IsRestarted file habit begun
-    → IfSome (front_of begun.whole held) (λ bytes. IsStoredWhole bytes begun.drive.state)
-restarted-stored held file habit begun same begins = rw begins.drive_is (cut-stored held file begins.opened begun.whole same begins.is_file)
+    → IfSome (front_of begun.whole held) (λ bytes. IsStoredWhole bytes begun.drive.state begun.sum)
+restarted-stored held file habit begun same begins = rw begins.drive_is (cut-stored held file begins.opened begun.whole begun.sum same begins.is_file)

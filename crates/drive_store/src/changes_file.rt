@@ -1,11 +1,12 @@
 // The file of a drive, shared by what appends changes to it and what waits until it has them.
 
 use crate::changes_store::ChangesStore;
+use crate::file_end::FileEnd;
 use crate::file_fault::{FileFault, SystemError};
 use crate::gathered_file::GatheredFile;
 use crate::image_file::ImageFile;
 use crate::input_gate::Gate;
-use crate::new_file::Saving;
+use crate::new_file::{Saved, Saving};
 use std::cell::RefCell;
 use std::fs::File;
 use std::io;
@@ -72,17 +73,15 @@ impl<'a, F: Files<File = File>> ChangesFile<'a, F> {
         }
     }
 
-    /// Whether no change was appended.
-    pub fn is_unchanged(&self) -> bool {
+    /// What is known of the file when its job has ended.
+    pub fn end(&self) -> FileEnd {
         match self.file.try_borrow() {
-            Ok(file) => file.is_unchanged(),
-            Err(_) => false,
+            Ok(file) => file.end(),
+            Err(_) => FileEnd {
+                is_changed: true,
+                takes_none: true,
+            },
         }
-    }
-
-    /// Whether the file is to stay as it is, since no change was appended or it takes no more of them.
-    pub fn stays(&self) -> bool {
-        self.is_unchanged() || matches!(self.fault(), Some(FileFault::Change(_)))
     }
 
     /// Why the file takes no more changes, or why those that it has may not be on the disk.
@@ -93,9 +92,10 @@ impl<'a, F: Files<File = File>> ChangesFile<'a, F> {
         }
     }
 
-    /// The file, as it is now. What is gathered is lost.
-    pub fn into_image(self) -> ImageFile {
-        self.file.into_inner().into_image()
+    /// Saves a drive in the place of the file, if there is one to save. What is gathered is lost. The new file is on the
+    /// disk before it takes the place of the old one. After a fault the file is as it was.
+    pub fn save(self, drive: Option<Drive>) -> Result<Saved, FileFault> {
+        self.file.into_inner().save(drive)
     }
 
     // Appends a change. It may be gathered.
@@ -106,10 +106,11 @@ impl<'a, F: Files<File = File>> ChangesFile<'a, F> {
         }
     }
 
-    // Writes the file anew, if it is too long.
-    pub(crate) fn renew(&self, drive: &Drive) {
-        if let Ok(mut file) = self.file.try_borrow_mut() {
-            file.renew(drive);
+    // Writes the file anew, if it is too long, and says whether it did.
+    pub(crate) fn renew(&self, drive: &Drive) -> bool {
+        match self.file.try_borrow_mut() {
+            Ok(mut file) => file.renew(drive),
+            Err(_) => false,
         }
     }
 

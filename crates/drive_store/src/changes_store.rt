@@ -51,8 +51,8 @@ impl<F: Files<File = File>> Store<Drive> for ChangesStore<'_, '_, F> {
         self.failed = true;
     }
 
-    fn renew(&mut self, drive: &Drive) {
-        self.file.renew(drive);
+    fn renew(&mut self, drive: &Drive) -> bool {
+        self.file.renew(drive)
     }
 
     fn cut(&mut self, whole: u64) {

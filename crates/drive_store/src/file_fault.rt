@@ -54,6 +54,9 @@ pub enum FileFault {
     /// Another program has locked it, or has just replaced it.
     #[error("is in use by another program")]
     InUse,
+    /// Its folder cannot be synchronized, so no save of it would be durable. Nothing was read or changed.
+    #[error("is not opened, since its folder cannot be synchronized: {0}")]
+    Folder(SystemError),
     /// A change cannot be written to it. It has all changes before that one.
     #[error("takes no more changes: {0}")]
     Change(SystemError),
@@ -72,21 +75,57 @@ pub enum FileFault {
     /// The new file cannot take its place.
     #[error("is not written anew, and keeps all that it holds: the new file cannot take its place: {0}")]
     Rename(SystemError),
+    /// No file can ever take its place. It is not tried again.
+    #[error("is never written anew, since it is mounted by itself: it keeps its image and all changes")]
+    Mounted,
+    /// No new file can ever be made for it. It is not tried again.
+    #[error("is never written anew, since the name of a new file would be too long: it keeps its image and all changes")]
+    LongName,
+    /// It was removed while it was in use, and no file can be made in its place.
+    #[error("was removed while it was in use, and is not saved again: {0}")]
+    Removed(SystemError),
 }
 
 impl FileFault {
-    /// Whether memory ran out.
-    pub fn is_memory(self) -> bool {
+    /// What the system said, if it said something.
+    fn error(self) -> Option<SystemError> {
         match self {
             FileFault::Open(error)
             | FileFault::Lock(error)
+            | FileFault::Folder(error)
             | FileFault::Change(error)
             | FileFault::Sync(error)
             | FileFault::NewFile(error)
             | FileFault::Write(error)
-            | FileFault::Rename(error) => error.is_memory(),
-            FileFault::NotRegular | FileFault::NotImage | FileFault::InUse | FileFault::Replaced =>
-                { false }
+            | FileFault::Rename(error)
+            | FileFault::Removed(error) => Some(error),
+            FileFault::NotRegular
+            | FileFault::NotImage
+            | FileFault::InUse
+            | FileFault::Replaced
+            | FileFault::Mounted
+            | FileFault::LongName => None,
+        }
+    }
+
+    /// Whether memory ran out.
+    pub fn is_memory(self) -> bool {
+        match self.error() {
+            Some(error) => error.is_memory(),
+            None => false,
+        }
+    }
+
+    /// Whether no later save can do better.
+    pub(crate) fn is_final(self) -> bool {
+        matches!(self, FileFault::Mounted | FileFault::LongName)
+    }
+
+    /// The same fault, of a file that was removed.
+    pub(crate) fn of_removed(self) -> FileFault {
+        match self.error() {
+            Some(error) => FileFault::Removed(error),
+            None => self,
         }
     }
 }

@@ -1,9 +1,10 @@
 // The file of a drive, open and locked, with the changes that are gathered for it.
 
+use crate::file_end::FileEnd;
 use crate::file_fault::{FileFault, SystemError};
 use crate::image_file::ImageFile;
 use crate::input_gate::Gate;
-use crate::new_file::{Saving, replace, sync_name};
+use crate::new_file::{Saved, Saving, replace, save, sync_name};
 use std::fs::File;
 use std::io;
 use std::io::{Seek, SeekFrom, Write};
@@ -43,6 +44,10 @@ pub struct GatheredFile<'a, F: Files<File = File>> {
     change_fault: Option<FileFault>,
     /// Why what it has may not be on the disk. The system tells of lost bytes only once.
     sync_fault: Option<FileFault>,
+    /// Why it can never be written anew.
+    never_anew: Option<FileFault>,
+    /// Whether it had been removed, and was made again at its path.
+    is_restored: bool,
     /// It is shut at the first fault.
     gate: Option<&'a Gate>,
 }
@@ -63,10 +68,6 @@ fn image_length(drive: &Drive) -> u64 {
     bytes
 }
 
-fn sync_fault(error: io::Error) -> FileFault {
-    FileFault::Sync(SystemError::from(error))
-}
-
 impl<'a, F: Files<File = File>> GatheredFile<'a, F> {
     pub fn new(saving: &'a Saving<'a, F>, image: ImageFile) -> Self {
         GatheredFile {
@@ -81,6 +82,8 @@ impl<'a, F: Files<File = File>> GatheredFile<'a, F> {
             is_name_synced: false,
             change_fault: None,
             sync_fault: None,
+            never_anew: None,
+            is_restored: false,
             gate: None,
         }
     }
@@ -90,9 +93,12 @@ impl<'a, F: Files<File = File>> GatheredFile<'a, F> {
         self.gate = Some(gate);
     }
 
-    /// Whether no change was appended.
-    pub fn is_unchanged(&self) -> bool {
-        !self.is_changed
+    /// What is known of it when its job has ended.
+    pub fn end(&self) -> FileEnd {
+        FileEnd {
+            is_changed: self.is_changed,
+            takes_none: self.change_fault.is_some() || self.image.read_only.is_some(),
+        }
     }
 
     /// Why it takes no more changes, or why what it has may not be on the disk.
@@ -100,9 +106,20 @@ impl<'a, F: Files<File = File>> GatheredFile<'a, F> {
         self.change_fault.or(self.sync_fault)
     }
 
-    /// The file, as it is now.
-    pub fn into_image(self) -> ImageFile {
-        self.image
+    /// Saves a drive in it, if there is one to save. What is gathered is lost.
+    pub fn save(self, drive: Option<Drive>) -> Result<Saved, FileFault> {
+        let Some(drive) = drive else {
+            return Ok(Saved {
+                is_restored: self.is_restored,
+            });
+        };
+        if let Some(fault) = self.never_anew {
+            return Err(fault);
+        }
+        let saved = save(self.saving, &drive, &self.image)?;
+        Ok(Saved {
+            is_restored: self.is_restored || saved.is_restored,
+        })
     }
 
     /// Says how many bytes of the file are its image and whole changes.
@@ -117,10 +134,12 @@ impl<'a, F: Files<File = File>> GatheredFile<'a, F> {
         }
     }
 
-    // Cuts off what is not whole, and goes to the end of what is.
+    // Cuts off what is not whole, and goes to the end of what is. The cut is on the disk before more is written: else a
+    // loss of power could bring back what was cut off, after what is written now.
     fn go_to_end(&mut self) -> io::Result<()> {
         if self.whole < self.image.metadata.len() {
             self.image.file.set_len(self.whole)?;
+            self.image.file.sync_all()?;
         }
         self.image.file.seek(SeekFrom::Start(self.whole))?;
         self.is_at_end = true;
@@ -198,12 +217,12 @@ impl<'a, F: Files<File = File>> GatheredFile<'a, F> {
     }
 
     // Brings all that was written to the disk, and the name of the file.
-    fn bring_to_disk(&mut self) -> Result<(), FileFault> {
+    fn bring_to_disk(&mut self) -> Result<(), SystemError> {
         if !self.is_name_synced {
-            self.image.file.sync_all().map_err(sync_fault)?;
+            self.image.file.sync_all()?;
             sync_name(self.saving.files, &self.image.path)?;
         } else if !self.is_synced {
-            self.image.file.sync_data().map_err(sync_fault)?;
+            self.image.file.sync_data()?;
         }
         self.is_name_synced = true;
         self.is_synced = true;
@@ -216,38 +235,49 @@ impl<'a, F: Files<File = File>> GatheredFile<'a, F> {
         if let Some(fault) = self.sync_fault {
             return Err(fault);
         }
-        let synced = self.bring_to_disk();
+        let synced = self.bring_to_disk().map_err(FileFault::Sync);
         self.sync_fault = synced.err();
         self.note();
         synced
     }
 
-    /// Writes the file anew, if it is too long.
-    pub fn renew(&mut self, drive: &Drive) {
+    // Whether it is not written anew: it failed, cannot be written, or can never be replaced.
+    fn is_never_renewed(&self) -> bool {
+        self.fault().is_some() || self.image.read_only.is_some() || self.never_anew.is_some()
+    }
+
+    /// Writes the file anew, if it is too long, and says whether it did.
+    pub fn renew(&mut self, drive: &Drive) -> bool {
         let length = self.whole.saturating_add(self.gathered.len() as u64);
-        if length <= self.limit || self.fault().is_some() || self.image.read_only.is_some() {
-            return;
+        if length <= self.limit || self.is_never_renewed() {
+            return false;
         }
         let image = image_length(drive);
         if length <= image.saturating_mul(2).saturating_add(ROOM) {
             self.limit = limit_of(image);
-        } else if self.write_anew(drive).is_err() {
-            // The file may grow twice as long before it is tried again.
-            self.limit = length.saturating_mul(2);
+            return false;
         }
+        if let Err(fault) = self.write_anew(drive) {
+            // The file may grow twice as long before it is tried again, if ever.
+            self.limit = length.saturating_mul(2);
+            self.never_anew = fault.is_final().then_some(fault);
+            return false;
+        }
+        true
     }
 
     // Writes the image of the drive into a new file, which takes the place of this one. It has the changes that are
-    // gathered.
+    // gathered, and is on the disk.
     fn write_anew(&mut self, drive: &Drive) -> Result<(), FileFault> {
-        let image = replace(self.saving, drive, &self.image)?;
-        self.whole = image.metadata.len();
+        let new = replace(self.saving, drive, &self.image)?;
+        self.image = new.image;
+        self.whole = self.image.metadata.len();
         self.limit = limit_of(self.whole);
-        self.image = image;
         self.gathered.clear();
         self.is_at_end = false;
-        self.is_synced = false;
-        self.is_name_synced = false;
+        self.is_synced = true;
+        self.is_name_synced = new.name.is_ok();
+        self.is_restored = self.is_restored || new.is_restored;
         Ok(())
     }
 }

@@ -5,6 +5,7 @@
 // it: if not, the image was replaced before the file was locked.
 
 use crate::file_fault::{FileFault, SystemError};
+use crate::new_file::sync_name;
 use drive_images::{ImageFault, read_image};
 use std::alloc::Global;
 use std::fs::{File, Metadata, OpenOptions, TryLockError};
@@ -67,16 +68,22 @@ fn open_both_ways<F: Files>(files: &F, path: &str) -> io::Result<(F::File, Optio
     }
 }
 
-/// Opens a regular file. It looks first, since opening a pipe waits for its other end.
-fn open_regular<F: Files>(
-    files: &F,
-    path: &str,
-) -> Result<(F::File, Option<SystemError>), FileFault> {
+/// Looks whether a path names a regular file, before it is opened: opening a pipe waits for its other end.
+fn look_regular<F: Files>(files: &F, path: &str) -> Result<(), FileFault> {
     let metadata = fs::metadata(files, path).map_err(open_fault)?;
     if !metadata.is_file() {
         return Err(FileFault::NotRegular);
     }
-    open_both_ways(files, path).map_err(open_fault)
+    Ok(())
+}
+
+/// Looks whether a path names what can be read at once: a regular file, or a pipe that is open already and has no name,
+/// as `/dev/stdin` may be.
+fn look_readable<F: Files>(files: &F, alloc: Global, path: &str) -> Result<(), FileFault> {
+    match look_regular(files, path) {
+        Err(FileFault::NotRegular) if files.canonicalize(alloc, path).is_err() => Ok(()),
+        looked => looked,
+    }
 }
 
 /// Locks a file against each other program, if the path still names it.
@@ -107,6 +114,7 @@ pub fn open_to_read<F: Files<File = File>>(
     alloc: Global,
     path: &str,
 ) -> Result<ImageFile, FileFault> {
+    look_readable(files, alloc, path)?;
     let file = fs::open(files, path).map_err(open_fault)?;
     locked(file.try_lock_shared())?;
     let metadata = file.metadata().map_err(open_fault)?;
@@ -120,16 +128,21 @@ pub fn open_to_read<F: Files<File = File>>(
     })
 }
 
-/// Opens the file of an image whose drive is going to be saved. No other program can read or change it.
+/// Opens the file of an image whose drive is going to be saved. No other program can read or change it. If it can be
+/// written, so can its folder be synchronized.
 pub fn open_to_save<F: Files<File = File>>(
     files: &F,
     alloc: Global,
     path: &str,
 ) -> Result<ImageFile, FileFault> {
     let path = without_link(files, alloc, path).map_err(open_fault)?;
-    let (file, read_only) = open_regular(files, &path)?;
+    look_regular(files, &path)?;
+    let (file, read_only) = open_both_ways(files, &path).map_err(open_fault)?;
     let mut image = lock_at(files, path, file, false)?;
     image.read_only = read_only;
+    if read_only.is_none() {
+        sync_name(files, &image.path).map_err(FileFault::Folder)?;
+    }
     Ok(image)
 }
 
@@ -162,6 +175,7 @@ fn make<F: Files<File = File>>(
     path: &str,
 ) -> Result<ImageFile, FileFault> {
     let owned = String::from_str(alloc, path).map_err(|error| open_fault(io::Error::from(error)))?;
+    sync_name(files, path).map_err(FileFault::Folder)?;
     let file = File::create_new(files, path).map_err(open_fault)?;
     let made = lock_at(files, owned, file, true);
     match made {

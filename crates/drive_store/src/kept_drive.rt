@@ -4,7 +4,7 @@ ghost use Rattle.drive_journal.specs.File.{IsStoredWhole};
 ghost use Rattle.drive_journal.specs.FileFaults.{IsFileFault};
 ghost use Rattle.drive_store.specs.Kept.{IsReadIn, IsRestarted};
 
-use drive_journal::{FileFault as ReadFault, Journaling, Store, open_drive};
+use drive_journal::{FileFault as ReadFault, Journaling, START, Store, Sum, open_drive};
 use std::alloc::Global;
 use std::io::Read;
 use zone_drive::{Drive, Habit};
@@ -22,14 +22,24 @@ pub struct Begun {
     pub drive: Drive,
     /// How many bytes of its file are the image and whole changes; 0 if no file has it.
     pub whole: u64,
+    /// The sum from which the next change goes on; `START` if no file has it.
+    pub sum: Sum,
+    /// Whether its file is the image of the drive at rest, and nothing more; `false` if no file has it.
+    pub is_image: bool,
 }
 
 impl Begun {
     /// A drive that no file has.
     pub fn fresh(drive: Drive) -> Begun
-        ensures { result.drive ≡ drive }
+        ensures drive { result.drive ≡ drive }
+        ensures image { result.is_image ≡ false }
     {
-        Begun { drive, whole: 0 }
+        Begun {
+            drive,
+            whole: 0,
+            sum: START,
+            is_image: false,
+        }
     }
 }
 
@@ -49,6 +59,8 @@ pub fn restarted_drive<I: Read>(
     Ok(Begun {
         drive,
         whole: opened.whole,
+        sum: opened.sum,
+        is_image: opened.is_image,
     })
 }
 
@@ -62,14 +74,15 @@ pub fn saved_drive<I: Read>(alloc: Global, file: &mut I) -> Result<Drive, ReadFa
 
 /// A drive whose changes go to a store, after the bytes of the store that are the image and whole changes.
 pub fn keep<S: Store<Drive> + Drop>(alloc: Global, begun: Begun, store: S) -> Journaling<Drive, S>
-    requires { IfSome (front_of begun.whole (S.held store)) (λ bytes. IsStoredWhole bytes begun.drive.state) }
+    requires { IfSome (front_of begun.whole (S.held store)) (λ bytes. IsStoredWhole bytes begun.drive.state begun.sum) }
     ensures { result ≡ record {
       drive = begun.drive.state;
       lost = false;
       contents = front_of begun.whole (S.held store);
+      sum = begun.sum;
     } }
 {
     let mut store = store;
     store.cut(begun.whole);
-    Journaling::new(alloc, begun.drive, store)
+    Journaling::new(alloc, begun.drive, store, begun.sum)
 }

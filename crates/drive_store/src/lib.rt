@@ -4,12 +4,14 @@
 //! ```text
 //! let (image, mut bytes) = image_to_save(files, alloc, path)?; // locked: no other program reads or changes it
 //! let begun = restarted_drive(alloc, &mut bytes, Habit::Lazy)?; // the drive that the file holds
+//! let was_image = begun.is_image;
 //! let file = ChangesFile::new(&saving, image);
 //! let device = keep(alloc, begun, file.store()); // its changes are gathered
 //! let output = ChangesOutput::new(&file, SentAfter::Write, &mut output); // and written before replies are sent
 //! file.sync()?; // all changes are on the disk
 //! let (drive, _) = device.into_parts();
-//! save(&saving, &drive, &file.into_image())?; // the image of the drive takes the place of the file
+//! let drive = if stays(file.end(), was_image) { None } else { Some(drive) };
+//! file.save(drive)?; // the image of the drive takes the place of the file
 //! ```
 //!
 //! # What is promised
@@ -17,6 +19,8 @@
 //! * [`restarted_drive`] gives the drive that the bytes of a file hold, restarted, and [`saved_drive`] gives it as it
 //!   was saved; or they tell the first fault in the bytes.
 //! * [`keep`] makes a device of that drive and a store: the device shows the drive, and the store holds it.
+//! * [`stays`] says when a file is not written anew at the end: only if it was the image of the drive at rest and took no
+//!   change, or if it takes no more changes.
 //!
 //! Of files nothing is promised by contract, since std says nothing of what a path names, what a file holds or who has
 //! locked it. `tools/two_programs` and `tools/kill_runs` try them: an answered change is found again after a kill, and
@@ -28,6 +32,7 @@
 mod changes_file;
 mod changes_output;
 mod changes_store;
+mod file_end;
 mod file_fault;
 mod gathered_file;
 mod image_file;
@@ -38,8 +43,9 @@ mod new_file;
 pub use changes_file::ChangesFile;
 pub use changes_output::{ChangesOutput, SentAfter};
 pub use changes_store::ChangesStore;
+pub use file_end::{FileEnd, stays};
 pub use file_fault::{FileFault, SystemError};
 pub use image_file::{ImageFile, image_to_read, image_to_save, open_to_format};
 pub use input_gate::{Gate, GatedInput};
 pub use kept_drive::{Begun, DriveFile, keep, restarted_drive, saved_drive};
-pub use new_file::{Saving, save, save_if_any};
+pub use new_file::{Saved, Saving, save};

@@ -98,13 +98,11 @@ fn write_drive(alloc: Global, drive: &Drive, file: &File) -> Result<(), SystemEr
     }
 }
 
-/// Writes the image of a drive to a new file, with `sync` to the disk too.
-fn write(alloc: Global, drive: &Drive, file: &File, sync: bool) -> Result<(), SystemError> {
+/// Writes the image of a drive to a new file, and brings it to the disk. Without that a loss of power could leave an
+/// empty file, once the new file has taken the place of the old one.
+fn write(alloc: Global, drive: &Drive, file: &File) -> Result<(), SystemError> {
     write_drive(alloc, drive, file)?;
-    if sync {
-        file.sync_all()?;
-    }
-    Ok(())
+    Ok(file.sync_all()?)
 }
 
 /// The path of the folder of a file.
@@ -116,23 +114,13 @@ fn folder(path: &str) -> &str {
     }
 }
 
-/// Brings the name of a file to the disk.
-pub fn sync_name<F: Files<File = File>>(files: &F, path: &str) -> Result<(), FileFault> {
-    let synced = match fs::open(files, folder(path)) {
-        Ok(folder) => folder.sync_all(),
-        Err(error) => Err(error),
-    };
-    synced.map_err(|error| FileFault::Sync(SystemError::from(error)))
-}
-
-/// Puts the new file at `path` in the place of the image, if the image is still there.
-fn put_in_place<F: Files>(files: &F, path: &str, image: &ImageFile) -> Result<(), FileFault> {
-    let renamed = match image.is_named(files) {
-        Ok(true) => fs::rename(files, path, image.path.as_str()),
-        Ok(false) => return Err(FileFault::Replaced),
-        Err(error) => Err(error),
-    };
-    renamed.map_err(|error| FileFault::Rename(SystemError::from(error)))
+/// Brings the name of a file to the disk. A file system that synchronizes no folders says that the call is invalid:
+/// then there is nothing to do.
+pub fn sync_name<F: Files<File = File>>(files: &F, path: &str) -> Result<(), SystemError> {
+    match fs::open(files, folder(path))?.sync_all() {
+        Err(error) if error.kind() == ErrorKind::InvalidInput => Ok(()),
+        synced => Ok(synced?),
+    }
 }
 
 /// How drives are saved.
@@ -140,41 +128,94 @@ fn put_in_place<F: Files>(files: &F, path: &str, image: &ImageFile) -> Result<()
 pub struct Saving<'a, F: Files> {
     pub files: &'a F,
     pub alloc: Global,
-    /// Whether the new file is on the disk when it takes the place of the old one, and its name afterwards.
-    pub sync: bool,
 }
 
-/// Locks a new file, writes the image of a drive to it, and puts it in the place of the old one.
+/// A new file that has the path of an image.
+#[derive(Drop)]
+pub struct NewImage {
+    pub image: ImageFile,
+    /// Whether nothing was at the path any more: the image had been removed.
+    pub is_restored: bool,
+    /// Whether its name is on the disk. The file itself is.
+    pub name: Result<(), SystemError>,
+}
+
+/// The fault of a new file that cannot be made in the folder of an image.
+fn new_file_fault(error: io::Error) -> FileFault {
+    match error.kind() {
+        ErrorKind::InvalidFilename => FileFault::LongName,
+        _ => FileFault::NewFile(SystemError::from(error)),
+    }
+}
+
+/// The fault of a new file that cannot take the place of an image.
+fn rename_fault(error: io::Error) -> FileFault {
+    match error.kind() {
+        ErrorKind::ResourceBusy => FileFault::Mounted,
+        _ => FileFault::Rename(SystemError::from(error)),
+    }
+}
+
+/// Whether the image was removed: nothing is at its path. It may not be another file.
+fn is_removed<F: Files>(files: &F, image: &ImageFile) -> Result<bool, FileFault> {
+    match image.is_named(files) {
+        Ok(true) => Ok(false),
+        Ok(false) => Err(FileFault::Replaced),
+        Err(error) if error.kind() == ErrorKind::NotFound => Ok(true),
+        Err(error) => Err(rename_fault(error)),
+    }
+}
+
+/// Writes the image of a drive to a new file, locks it, and puts it in the place of the old one, or where that was if
+/// it was removed.
 fn fill<F: Files<File = File>>(
     how: &Saving<'_, F>,
     drive: &Drive,
     path: &str,
     file: File,
-    image: &ImageFile,
-) -> Result<ImageFile, FileFault> {
-    keep_owner_and_mode(&file, &image.metadata);
-    write(how.alloc, drive, &file, how.sync).map_err(FileFault::Write)?;
-    let new = ImageFile::replacing(how.alloc, image, file)?;
-    put_in_place(how.files, path, image)?;
-    Ok(new)
+    old: &ImageFile,
+) -> Result<NewImage, FileFault> {
+    keep_owner_and_mode(&file, &old.metadata);
+    write(how.alloc, drive, &file).map_err(FileFault::Write)?;
+    let image = ImageFile::replacing(how.alloc, old, file)?;
+    let is_restored = is_removed(how.files, old)?;
+    fs::rename(how.files, path, old.path.as_str()).map_err(rename_fault)?;
+    let name = sync_name(how.files, &old.path);
+    Ok(NewImage {
+        image,
+        is_restored,
+        name,
+    })
 }
 
-/// Puts a new file with the image of a drive in the place of an image, and hands it back. Its name is not brought to
-/// the disk. After a fault no new file is left, and the image is as before.
+/// Makes a new file with the image of a drive, and puts it in the place of an image. After a fault there is none.
+fn make_in_place<F: Files<File = File>>(
+    how: &Saving<'_, F>,
+    drive: &Drive,
+    old: &ImageFile,
+) -> Result<NewImage, FileFault> {
+    let (path, file) = make_at_free_name(how.files, how.alloc, &old.path).map_err(new_file_fault)?;
+    let made = fill(how, drive, &path, file, old);
+    if made.is_err() {
+        let _ = fs::remove_file(how.files, path.as_str());
+    }
+    made
+}
+
+/// Puts a new file with the image of a drive in the place of an image, and hands it back. The new file is on the disk
+/// before it takes that place, and its name afterwards. After a fault no new file is left, and the image is as before.
 pub fn replace<F: Files<File = File>>(
     how: &Saving<'_, F>,
     drive: &Drive,
-    image: &ImageFile,
-) -> Result<ImageFile, FileFault> {
-    let (path, file) = match make_at_free_name(how.files, how.alloc, &image.path) {
-        Ok(made) => made,
-        Err(error) => return Err(FileFault::NewFile(SystemError::from(error))),
-    };
-    let saved = fill(how, drive, &path, file, image);
-    if saved.is_err() {
-        let _ = fs::remove_file(how.files, path.as_str());
+    old: &ImageFile,
+) -> Result<NewImage, FileFault> {
+    match make_in_place(how, drive, old) {
+        Ok(new) => Ok(new),
+        Err(fault) => match is_removed(how.files, old) {
+            Ok(true) => Err(fault.of_removed()),
+            _ => Err(fault),
+        },
     }
-    saved
 }
 
 /// Saves a drive in the place of an image. After a fault no new file is left, and the image is as before, unless its
@@ -183,22 +224,22 @@ pub fn save<F: Files<File = File>>(
     how: &Saving<'_, F>,
     drive: &Drive,
     image: &ImageFile,
-) -> Result<(), FileFault> {
-    replace(how, drive, image)?;
-    if how.sync {
-        sync_name(how.files, &image.path)?;
-    }
-    Ok(())
+) -> Result<Saved, FileFault> {
+    let new = replace(how, drive, image)?;
+    new.name.map_err(FileFault::Sync)?;
+    Ok(Saved {
+        is_restored: new.is_restored,
+    })
 }
 
-/// Saves a drive as [`save`] does, if there is one to save.
-pub fn save_if_any<F: Files<File = File>>(
-    how: &Saving<'_, F>,
-    drive: Option<Drive>,
-    image: &ImageFile,
-) -> Result<(), FileFault> {
-    match drive {
-        Some(drive) => save(how, &drive, image),
-        None => Ok(()),
-    }
+/// What is to be known of a file once its drive is saved, or stays in it as it is.
+#[derive(Clone, Copy, Debug, PartialEq, Eq)]
+pub struct Saved {
+    /// Whether the file had been removed while it was in use, and was made again at its path.
+    pub is_restored: bool,
+}
+
+impl Saved {
+    /// The file has been at its path all the time.
+    pub const IN_PLACE: Saved = Saved { is_restored: false };
 }

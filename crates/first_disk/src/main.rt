@@ -1,16 +1,18 @@
 //! A first disk: a small drive in memory, mounted as nine logical blocks, of which three are written and
-//! read back. It shows all that a program needs to stand on zonedisk's libraries, and proves one thing
-//! of its own: what `write_and_read` shows is what it wrote.
+//! read back. It shows all that a program needs to stand on zonedisk's libraries, and proves two things
+//! of its own: what `write_and_read` shows is what it wrote, and what `fill_once` leaves is found again after a restart.
 #![tactic(auto)]
 
-ghost use Rattle.std.specs.Prelude.{◌≡◌, ◌*◌, OnOk, length};
+ghost use Rattle.std.specs.Prelude.{◌≡◌, ◌*◌, IfOk, OnOk, length};
 ghost use Rattle.drive_port.specs.Calls.{block_count};
+ghost use Rattle.first_disk.specs.Found.{IsFoundAgain};
 
 use drive_port::{Device, Geometry};
 use std::alloc::Global;
 use std::io;
 use zone_drive::{Drive, DriveFault};
-use zone_translator::{Disk, DiskFault, MountFault, written_reads_back};
+use zone_translator::laws::{answered_is_found, written_reads_back};
+use zone_translator::{Disk, DiskFault, MountFault};
 
 /// Four zones of 6 blocks of 512 bytes, in steps of 8 addresses.
 const GEOMETRY: Geometry = Geometry {
@@ -45,6 +47,25 @@ fn write_and_read<D: Device + Drop>(
     disk.read(first, blocks, shown)
 }
 
+/// Mounts a drive, fills blocks, and gives the drive back, whatever the fill answers: the drive may have stopped.
+/// Once it is restarted it can be mounted, and each disk that is mounted on it has the array that the fill left.
+fn fill_once<D: Device + Drop>(
+    alloc: Global,
+    device: D,
+    first: u64,
+    blocks: u64,
+) -> Result<D, MountFault>
+    ensures { IfOk result (λ left. IsFoundAgain (D.drive left)) }
+{
+    answered_is_found();
+    let mut disk = match Disk::mount(alloc, device, BLOCKS) {
+        Ok(disk) => disk,
+        Err((fault, _device)) => return Err(fault),
+    };
+    let _ = disk.fill(first, blocks, 0xaa);
+    Ok(disk.into_device())
+}
+
 /// Why the blocks were not written and read back.
 #[derive(Clone, Copy, Debug)]
 enum Fault {
@@ -53,8 +74,8 @@ enum Fault {
     Disk(DiskFault),
 }
 
-/// Makes a drive, mounts it as a disk, writes three blocks, and reads them back into `shown`. Gives how many
-/// commands the drive has completed.
+/// Makes a drive, mounts it as a disk, writes three blocks, and reads them back into `shown`. Gives how many commands
+/// the drive has completed by then. After that it is mounted again, and one more block is filled.
 fn use_disk(alloc: Global, shown: &mut Vec<u8>) -> Result<u64, Fault> {
     let drive = match Drive::new(alloc, GEOMETRY) {
         Ok(drive) => drive,
@@ -64,9 +85,14 @@ fn use_disk(alloc: Global, shown: &mut Vec<u8>) -> Result<u64, Fault> {
         Ok(disk) => disk,
         Err((fault, _drive)) => return Err(Fault::Mount(fault)),
     };
-    match write_and_read(&mut disk, 2, 3, &[0xaa; 3 * 512], shown) {
-        Ok(()) => Ok(disk.into_device().completed()),
-        Err(fault) => Err(Fault::Disk(fault)),
+    if let Err(fault) = write_and_read(&mut disk, 2, 3, &[0xaa; 3 * 512], shown) {
+        return Err(Fault::Disk(fault));
+    }
+    let drive = disk.into_device();
+    let commands = drive.completed();
+    match fill_once(alloc, drive, 5, 1) {
+        Ok(_drive) => Ok(commands),
+        Err(fault) => Err(Fault::Mount(fault)),
     }
 }
 

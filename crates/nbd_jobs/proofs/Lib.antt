@@ -1,2 +1,3 @@
+mod HeaderLaws
 mod MountLaws
 mod SessionLaws

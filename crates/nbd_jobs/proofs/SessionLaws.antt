@@ -6,7 +6,7 @@ use Rattle.nbd_session.specs.Streams.{Streams}
 use Rattle.nbd_session.specs.declared.fault.SessionFault.{SessionFault}
 use Rattle.nbd_jobs.specs.Serving.{ReadsDrive, ReadsFile, ServesDrive, ServesSession, session_end}
 use Rattle.nbd_jobs.specs.declared.fault.NbdFault.{NbdFault}
-use Rattle.nbd_jobs.specs.declared.fault.NbdFault.TheVariants.{File, Image, Memory, Mount, NoSize, Reserve, Session}
+use Rattle.nbd_jobs.specs.declared.fault.NbdFault.TheVariants.{File, Image, Memory, Mount, NoSize, Reserve, Session, Unwritten}
 use Rattle.nbd_jobs.specs.declared.job.NbdJob.{NbdJob}
 
 -- a session that was served is one of the drive, whatever ended it
@@ -22,6 +22,7 @@ file-read job file bytes (Err (Image fault)) r = absurd r.serves.serves.0
 file-read job file bytes (Err (Mount fault)) r = r
 file-read job file bytes (Err (Reserve most)) r = r
 file-read job file bytes (Err (NoSize most)) r = r
+file-read job file bytes (Err (Unwritten most)) r = r
 file-read job file bytes (Err (Session fault)) r = r
 file-read job file bytes (Err (File fault)) r = r
 file-read job file bytes (Err Memory) r = r

@@ -1,1 +1,2 @@
+pub mod Mounted
 pub mod Serving

@@ -1,66 +1,29 @@
 -- A drive in a file that is served: what its session does, and what it leaves in the file.
-use Rattle.std.specs.Prelude.{◌≡◌, ◌≢◌, ◌||◌, if◌then◌else◌, Bool, true, false, ℕ, List, [], ◌∷◌, Option, Some, None, Result, Ok, Err, IfSome}
+use Rattle.std.specs.Prelude.{◌≡◌, ◌||◌, if◌then◌else◌, Bool, true, false, ℕ, List, [], ◌∷◌, Option, Some, None, Result, Ok, Err, IfSome}
 use Rattle.std.specs.Io.KnownBytes.{Keeps}
-use Rattle.zone_states.specs.declared.geometry.Geometry.{Geometry}
 use Rattle.drive_port.specs.Drive.{DriveState}
 use Rattle.drive_port.specs.Stop.{Stopping, drive_of}
-use Rattle.drive_array.specs.Reserve.{most_size}
-use Rattle.drive_survey.specs.declared.fault.MountFault.{MountFault}
-use Rattle.drive_survey.specs.declared.fault.MountFault.TheVariants as mounts
 use Rattle.drive_journal.specs.File.{IsStored}
 use Rattle.drive_journal.specs.FileFaults.{IsFileFault}
-use Rattle.drive_store.specs.Kept.{IsRestarted}
+use Rattle.drive_store.specs.Kept.{IsRestarted, stays}
+use Rattle.drive_store.specs.declared.file_end.FileEnd.{FileEnd}
 use Rattle.drive_store.specs.declared.file_fault.FileFault.{FileFault}
 use Rattle.drive_store.specs.declared.kept_drive.Begun.{Begun}
 use Rattle.zone_drive.specs.Habits.{MemoryDrive}
-use Rattle.zone_translator.specs.Answers.{IsMounted}
-use Rattle.zone_translator.specs.Mount.{GivesBack}
-use Rattle.zone_translator.specs.View.{DiskView, KeepsDisk, disk_array, disk_size}
+use Rattle.zone_translator.specs.View.{DiskView, KeepsDisk, disk_array}
 use Rattle.disk_jobs.specs.Saved.{IsHandedBack, stopping}
 use Rattle.nbd_session.specs.Session.{session}
 use Rattle.nbd_session.specs.Store.{StoreView}
 use Rattle.nbd_session.specs.Streams.{Streams}
 use Rattle.nbd_session.specs.Turns.{Serves}
 use Rattle.nbd_session.specs.declared.fault.SessionFault.{SessionFault}
+use Rattle.nbd_session.specs.declared.fault.SessionFault.TheVariants.{Unsent}
 use Rattle.nbd_session.specs.declared.phase.Phase.TheVariants.{Greeting}
 use Rattle.nbd_jobs.specs.declared.fault.NbdFault.{NbdFault}
-use Rattle.nbd_jobs.specs.declared.fault.NbdFault.TheVariants.{File, Image, Mount, Reserve, NoSize, Session}
+use Rattle.nbd_jobs.specs.declared.fault.NbdFault.TheVariants.{File, Image, Session}
 use Rattle.nbd_jobs.specs.declared.job.NbdJob.{NbdJob}
 use Rattle.nbd_jobs.specs.declared.left.Left.{Left}
-
--- ---- the disk
-
--- the number that a mount is given: if none was asked for, the least, since a drive that says its size has that one
-abbrev pub given_of : Option ℕ → ℕ
-given_of (Some n) = n
-given_of None = 1
-
--- the disk that is mounted on a drive; if no number was asked for, the drive says that it has more than one block
-pub record IsServed (old : DriveState) (blocks : Option ℕ) (disk : DiskView) : Type 0 where
-  pub mounted : IsMounted old (given_of blocks) disk
-  pub said : blocks ≡ None → disk_size disk ≢ 1
-
--- a drive that says no size, or that it has one block, is mounted and given back, since no number was asked for
-pub record SaysNoSize (old : DriveState) (blocks : Option ℕ) (most : ℕ) (back : DriveState) : Type 0 where
-  pub none : blocks ≡ None
-  pub most_is : most ≡ most_size back.geometry
-  pub disk : DiskView
-  pub mounted : IsMounted old 1 disk
-  pub size : disk_size disk ≡ 1
-  pub back_is : back ≡ disk.drive
-
--- the fault of a mount is told as it is, or with the greatest number of blocks that this geometry has room for
-abbrev pub TellsMount : Geometry → MountFault → NbdFault → Type 0
-TellsMount geometry fault (Mount told) = told ≡ fault
-TellsMount geometry fault (Reserve most) = (fault ≡ mounts.Reserve) × (most ≡ most_size geometry)
-TellsMount geometry fault told = ⊥
-
--- why a drive is not served, and how it is given back
-abbrev pub IsNotServed : DriveState → Option ℕ → NbdFault → DriveState → Type 0
-IsNotServed old blocks (Mount fault) back = GivesBack old (given_of blocks) fault back
-IsNotServed old blocks (Reserve most) back = (most ≡ most_size old.geometry) × GivesBack old (given_of blocks) mounts.Reserve back
-IsNotServed old blocks (NoSize most) back = SaysNoSize old blocks most back
-IsNotServed old blocks fault back = ⊥
+use Rattle.nbd_jobs.specs.Mounted.{IsNotServed, IsServed}
 
 -- ---- the session
 
@@ -114,11 +77,12 @@ pub record LeavesStored (job : NbdJob) (bytes : Streams) (old : DriveState) (end
   pub back : IsHandedBack failed drive left.drive.state
   pub stored : IfSome held (λ bytes. IsStored bytes drive)
 
--- the same of the drive that the bytes of a file hold, restarted
+-- The same of the drive that the bytes of a file hold, restarted. It is told whether the file was the image of that drive at rest.
 pub record LeavesFile (job : NbdJob) (file : Option (List ℕ)) (bytes : Streams) (ended : Result (Unit {0}) NbdFault)
     (left : Left) (held : Option (List ℕ)) (failed : Bool) : Type 0 where
   pub first : Begun
   pub begins : IsRestarted file job.habit first
+  pub was_image : left.was_image ≡ first.is_image
   pub leaves : LeavesStored job bytes first.drive.state ended left held failed
 
 -- why there is no drive: the bytes of the file have this first fault. Nothing is served.
@@ -140,9 +104,14 @@ ReadsFile job file bytes ended = ReadsDrive job file bytes ended
 
 -- What is saved of a session: the drive that it left, also after a fault. Nothing is saved where the file stays as it is, nor where the store failed:
 -- then the file has all changes before.
-abbrev pub served_drive_to_save : Bool → Option Left → Option MemoryDrive
-served_drive_to_save stays None = None
-served_drive_to_save stays (Some left) = if (left.failed || stays) then None else Some left.drive
+abbrev pub served_drive_to_save : FileEnd → Option Left → Option MemoryDrive
+served_drive_to_save end None = None
+served_drive_to_save end (Some left) = if (left.failed || stays end left.was_image) then None else Some left.drive
+
+-- A session that was done, but whose last replies could not be sent, ended by that.
+abbrev pub sent_end : Result (Unit {0}) NbdFault → Bool → Result (Unit {0}) NbdFault
+sent_end (Ok done) false = Err (Session Unsent)
+sent_end ended sent = ended
 
 -- a session whose file failed is told by that fault
 abbrev pub session_told : Result (Unit {0}) NbdFault → Option FileFault → Result (Unit {0}) NbdFault

@@ -1,7 +1,8 @@
-ghost use Rattle.std.specs.Prelude.{◌≡◌, Err, Ok};
+ghost use Rattle.std.specs.Prelude.{◌≡◌, Err, Ok, false};
 
 use crate::fault::NbdFault;
 use disk_jobs::DiskSize;
+use drive_store::Saved;
 
 /// How a session ended, and how its drive was saved. Both can fail.
 #[derive(Debug, PartialEq, Eq, Drop)]
@@ -9,7 +10,7 @@ pub struct Done {
     /// Of the session, with all replies that it sent.
     pub session: Result<(), NbdFault>,
     /// Of the drive. It is `Ok` if there is none to save.
-    pub saved: Result<(), NbdFault>,
+    pub saved: Result<Saved, NbdFault>,
     /// What was written and moved, as text, if it was asked for.
     pub statistics: Option<String>,
     /// The disk that was served, if it was mounted.
@@ -20,11 +21,11 @@ impl Done {
     /// A drive that is not served.
     pub(crate) fn unserved(fault: NbdFault) -> Done
         ensures session { result.session ≡ Err fault }
-        ensures saved { result.saved ≡ Ok tt }
+        ensures saved { result.saved ≡ Ok (record { is_restored = false }) }
     {
         Done {
             session: Err(fault),
-            saved: Ok(()),
+            saved: Ok(Saved::IN_PLACE),
             statistics: None,
             disk: None,
         }

@@ -4,16 +4,16 @@ use crate::done::Done;
 use crate::fault::NbdFault;
 use crate::job::NbdJob;
 use crate::left::Left;
-use crate::saving::{served_drive_to_save, session_told};
+use crate::saving::{sent_end, served_drive_to_save, session_told};
 use crate::serving::{ServedFile, serve_drive, serve_read_only};
 use drive_store::{
     ChangesFile, ChangesOutput, FileFault, Saving, SentAfter, image_to_read, image_to_save,
-    save_if_any,
 };
 use nbd_session::{Medium, MediumFault};
 use std::alloc::Global;
 use std::fs::File;
-use std::io::{BufReader, BufWriter, Read, Write};
+use std::io;
+use std::io::{BufReader, BufWriter, ErrorKind, Read, Write};
 use std::rt::Files;
 
 /// What is read and written at a time. A request or a reply that is longer is not copied.
@@ -44,6 +44,17 @@ fn told(fault: FileFault) -> NbdFault {
     NbdFault::File(fault)
 }
 
+/// Whether the last replies were sent, as far as somebody waits for them: a client may end its session and go at once.
+fn are_sent(flushed: io::Result<()>) -> bool {
+    match flushed {
+        Ok(()) => true,
+        Err(error) => matches!(
+            error.kind(),
+            ErrorKind::BrokenPipe | ErrorKind::ConnectionReset
+        ),
+    }
+}
+
 /// Serves the drive of an open file, whose bytes are read from `bytes`. Its changes are in the file before a reply is
 /// sent, and on the disk before a FLUSH is answered.
 fn serve_file<F: Files<File = File>, R: Read + Drop, W: Write>(
@@ -66,8 +77,8 @@ fn serve_file<F: Files<File = File>, R: Read + Drop, W: Write>(
         return (None, Err(NbdFault::Memory));
     };
     let (left, _store, result) = serve_drive(alloc, job, served, &mut reader, &mut writer);
-    let _ = writer.flush();
-    (left, result)
+    let sent = are_sent(writer.flush());
+    (left, sent_end(result, sent))
 }
 
 /// Serves the drive in a file, and saves it once the session has ended, also after a fault. No other program can read
@@ -79,12 +90,7 @@ fn serve_and_save<F: Files<File = File>, R: Read + Drop, W: Write>(
     input: R,
     output: &mut W,
 ) -> Done {
-    // What was on the disk once stays there when the file is written anew.
-    let saving = Saving {
-        files,
-        alloc,
-        sync: true,
-    };
+    let saving = Saving { files, alloc };
     let (image, bytes) = match image_to_save(files, alloc, &job.image) {
         Ok(opened) => opened,
         Err(fault) => return Done::unserved(told(fault)),
@@ -98,10 +104,10 @@ fn serve_and_save<F: Files<File = File>, R: Read + Drop, W: Write>(
         Some(left) => (left.statistics.take(), left.disk),
         None => (None, None),
     };
-    let drive = served_drive_to_save(file.stays(), left);
+    let drive = served_drive_to_save(file.end(), left);
     Done {
         session,
-        saved: save_if_any(&saving, drive, &file.into_image()).map_err(told),
+        saved: file.save(drive).map_err(told),
         statistics,
         disk,
     }
@@ -127,8 +133,11 @@ fn serve_unchanged<F: Files<File = File>, R: Read + Drop, W: Write>(
         return Done::unserved(NbdFault::Memory);
     };
     let done = serve_read_only(alloc, job, &mut bytes, &mut reader, &mut writer);
-    let _ = writer.flush();
-    done
+    let sent = are_sent(writer.flush());
+    Done {
+        session: sent_end(done.session, sent),
+        ..done
+    }
 }
 
 /// Serves the drive in a file to the client that sends to `input` and gets what `output` takes. The file is locked

@@ -33,6 +33,7 @@ mod done;
 mod explanation;
 mod fault;
 mod file;
+mod headers;
 mod job;
 mod left;
 mod mounted;

@@ -16,7 +16,7 @@ use disk_jobs::{DiskSize, statistics_of, stopping};
 use drive_counter::Counter;
 use drive_journal::{Journaling, Store};
 use drive_port::Device;
-use drive_store::{keep, restarted_drive};
+use drive_store::{Saved, keep, restarted_drive};
 use nbd_session::{Client, Medium, ServedDisk, SessionFault, WriteThrough, serve};
 use std::alloc::Global;
 use std::io::{Read, Write};
@@ -151,24 +151,34 @@ fn serve_stopping<D: Device + Drop, M: Medium + Drop, R: Client, W: Write>(
     }
 }
 
+/// A drive whose changes go to a store.
+#[derive(Drop)]
+struct Stored<S: Store<Drive> + Drop, M: Medium + Drop> {
+    kept: Kept<Journaling<Drive, S>, M>,
+    /// Whether the file was the image of the drive at rest.
+    was_image: bool,
+}
+
 /// The same over a drive whose changes go to a store.
 fn serve_kept<S: Store<Drive> + Drop, M: Medium + Drop, R: Client, W: Write>(
     alloc: Global,
     job: &NbdJob,
-    kept: Kept<Journaling<Drive, S>, M>,
+    stored: Stored<S, M>,
     reader: &mut R,
     writer: &mut W,
 ) -> (Left, S, Result<(), NbdFault>)
-    requires { kept.read_only ≡ false }
-    ensures { LeavesStored job.now
+    requires { stored.kept.read_only ≡ false }
+    ensures leaves { LeavesStored job.now
         (streams (R.remaining reader.old) (R.remaining reader.new) (W.contents writer.old) (W.contents writer.new))
-        kept.device.drive result.2 result.0 (S.held result.1) (S.failed result.1) }
+        stored.kept.device.drive result.2 result.0 (S.held result.1) (S.failed result.1) }
+    ensures was_image { result.0.was_image ≡ stored.was_image }
 {
-    let ended = serve_stopping(alloc, job, kept, reader, writer);
+    let ended = serve_stopping(alloc, job, stored.kept, reader, writer);
     let (drive, store) = ended.device.into_parts();
     let left = Left {
         drive,
         failed: store.has_failed(),
+        was_image: stored.was_image,
         statistics: ended.statistics,
         disk: ended.disk,
     };
@@ -206,12 +216,15 @@ pub fn serve_drive<I: Read + Drop, S: Store<Drive> + Drop, M: Medium + Drop, R: 
         Ok(begun) => begun,
         Err(fault) => return (None, store, Err(NbdFault::Image(fault))),
     };
-    let kept = Kept {
-        device: keep(alloc, begun, store),
-        medium,
-        read_only: false,
+    let stored = Stored {
+        was_image: begun.is_image,
+        kept: Kept {
+            device: keep(alloc, begun, store),
+            medium,
+            read_only: false,
+        },
     };
-    let (left, store, result) = serve_kept(alloc, job, kept, reader, writer);
+    let (left, store, result) = serve_kept(alloc, job, stored, reader, writer);
     (Some(left), store, result)
 }
 
@@ -230,7 +243,7 @@ pub fn serve_read_only<I: Read, R: Client, W: Write>(
         (streams (R.remaining reader.old) (R.remaining reader.new) (W.contents writer.old) (W.contents writer.new))
         result.session }
     // There is no drive to save.
-    ensures saved { result.saved ≡ Ok tt }
+    ensures saved { result.saved ≡ Ok (record { is_restored = false }) }
 {
     let begun = match restarted_drive(alloc, bytes, job.habit) {
         Ok(begun) => begun,
@@ -244,7 +257,7 @@ pub fn serve_read_only<I: Read, R: Client, W: Write>(
     let ended = serve_stopping(alloc, job, kept, reader, writer);
     Done {
         session: ended.result,
-        saved: Ok(()),
+        saved: Ok(Saved::IN_PLACE),
         statistics: ended.statistics,
         disk: ended.disk,
     }

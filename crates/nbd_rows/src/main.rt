@@ -10,6 +10,8 @@
 //!   keeps what it wrote. `again` runs it over the same file, and says no number. The first file has a fresh drive.
 //!   `reading` does what `again` does, read only. `counted N` runs it over a new file, and shows what was written,
 //!   moved and cleaned.
+//! - `fresh` makes a new file. `old N` makes one whose drive has a header of version 1, which says no size: block N was
+//!   written.
 //! - An empty line, and one that begins with `#`, says nothing.
 //!
 //! Shown are the lines `session`, a line for each reply, and how the session ended.
@@ -17,12 +19,14 @@
 
 mod fault;
 mod kept;
+mod old;
 mod run;
 mod show;
 mod words;
 
 use crate::fault::RowsFault;
 use crate::kept::{fresh_file, job_of, show_kept, show_read_only};
+use crate::old::old_file;
 use crate::run::{Setting, show_cuts, show_session};
 use crate::words::{number_of, put_bytes, setting_of};
 use std::alloc::Global;
@@ -51,6 +55,14 @@ impl Recorded {
             "reading" => {
                 let job = job_of(alloc, None, false);
                 show_read_only(alloc, &job, &self.input, &self.file, out)
+            }
+            "fresh" => {
+                self.file = fresh_file(alloc, self.setting)?;
+                Ok(())
+            }
+            _ if line.starts_with("old ") => {
+                self.file = old_file(alloc, self.setting, number_of(line)?)?;
+                Ok(())
             }
             _ if line.starts_with("kept ") => self.serve(alloc, Some(number_of(line)?), false, out),
             _ if line.starts_with("counted ") => {

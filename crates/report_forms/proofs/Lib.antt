@@ -1,1 +1,2 @@
 pub mod CountLaws
+mod NameLaws

@@ -1,10 +1,10 @@
-ghost use Rattle.std.specs.Prelude.{◌≡◌, ◌≢◌, ◌<◌, ◌≤◌, length, count_by, IfNone, IfSome};
+ghost use Rattle.std.specs.Prelude.{◌≡◌, ◌<◌, ◌≤◌, length, count_by, true, false, IfNone, IfSome};
 ghost use Rattle.nvme_wire.specs.declared.zone_state.ZoneState.{ZoneState};
-ghost use Rattle.zone_report.specs.ReportText.{state_text};
 ghost use Rattle.report_forms.specs.Counts.{is_in, one_where};
+ghost use Rattle.report_forms.specs.Named.{NamesNone, is_name_of};
 
 use nvme_wire::ZoneState;
-use zone_report::ReportedZones;
+use zone_report::{ReportedZones, state_text};
 
 /// All states, in the order of their codes.
 pub const STATES: [ZoneState; 7] = [
@@ -17,21 +17,32 @@ pub const STATES: [ZoneState; 7] = [
     ZoneState::Offline,
 ];
 
-/// The state with that name.
-pub fn state_named(name: &str) -> Option<ZoneState>
-    ensures some { IfSome result (λ state. name.now ≡ state_text state) }
-    ensures none { IfNone result ((state : ZoneState) → name.now ≢ state_text state) }
+/// Whether a word is the name of a state, in any case of its letters.
+fn is_name_of(word: &str, state: ZoneState) -> bool
+    ensures { result ≡ is_name_of word.now state }
 {
-    match name {
-        "Empty" => Some(ZoneState::Empty),
-        "ImplicitlyOpened" => Some(ZoneState::ImplicitlyOpened),
-        "ExplicitlyOpened" => Some(ZoneState::ExplicitlyOpened),
-        "Closed" => Some(ZoneState::Closed),
-        "ReadOnly" => Some(ZoneState::ReadOnly),
-        "Full" => Some(ZoneState::Full),
-        "Offline" => Some(ZoneState::Offline),
-        _ => None,
+    state_text(state).eq_ignore_ascii_case(word)
+}
+
+/// The first of these states with that name.
+fn named_in(states: &[ZoneState], word: &str) -> Option<ZoneState>
+    ensures some { IfSome result (λ state. is_name_of word.now state ≡ true) }
+    ensures none { IfNone result (NamesNone word.now states.now) }
+{
+    for state in states {
+        if is_name_of(word, *state) {
+            return Some(*state);
+        }
     }
+    None
+}
+
+/// The state with that name, in any case of its letters.
+pub fn state_named(word: &str) -> Option<ZoneState>
+    ensures some { IfSome result (λ state. is_name_of word.now state ≡ true) }
+    ensures none { IfNone result ((state : ZoneState) → is_name_of word.now state ≡ false) }
+{
+    named_in(&STATES, word)
 }
 
 /// Whether a zone is in a state.

@@ -17,7 +17,7 @@ use Rattle.tool_jobs.specs.declared.fault.ToolFault.{ToolFault}
 
 module _ (file : Bytes) (habit : Habit) (begun : Begun) (begins : IsRestarted file habit begun) where
   read-in : IsReadIn file begins.opened
-  read-in = record { whole = begun.whole; is_file = begins.is_file }
+  read-in = record { whole = begun.whole; sum = begun.sum; is_file = begins.is_file }
 
   -- all of its faults are found
   pub faults-found : (blocks : ℕ) (findings : Findings) → AreFindings begun.drive.state blocks findings → FindsFaults file blocks findings

@@ -17,7 +17,7 @@ pub info-found : (file : Bytes) (habit : Habit) (begun : Begun) → IsRestarted 
     → (IsInRange geometry → blocks ≡ most_size geometry) → IsInspected begun.drive.state blocks found → FindsInfo file found
 info-found file habit begun begins blocks geometry found same most is = record {
   saved = begins.opened;
-  is_read = record { whole = begun.whole; is_file = begins.is_file };
+  is_read = record { whole = begun.whole; sum = begun.sum; is_file = begins.is_file };
   blocks = blocks;
   most = subst (λ (drive : MemoryDrive). IsInRange drive.state.geometry → blocks ≡ most_size drive.state.geometry) begins.drive_is (subst (λ (g : Geometry). IsInRange g → blocks ≡ most_size g) same most);
   inspected = subst (λ (drive : MemoryDrive). IsInspected drive.state blocks found) begins.drive_is is;

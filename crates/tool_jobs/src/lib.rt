@@ -8,7 +8,7 @@
 //! ```
 //!
 //! A [`ToolJob`] says what is asked (`command_line` reads it). [`do_tool_job`] opens the file, locks it as a reader,
-//! and does the job by one of these:
+//! and does the job by one of these. [`tool_note`] says what else is to be known.
 //!
 //! * [`answer_check`]: all faults of a drive, and whether a mount would be done.
 //! * [`answer_info`]: what a drive holds, and what a mount takes.
@@ -39,6 +39,7 @@ mod file;
 mod form;
 mod informing;
 mod job;
+mod notes;
 mod picturing;
 mod planning;
 mod showing;
@@ -52,6 +53,7 @@ pub use file::do_tool_job;
 pub use form::Form;
 pub use informing::{InfoForm, answer_info};
 pub use job::{CheckJob, InfoJob, PlanJob, PlannedDrive, ToolJob, ZonesJob};
+pub use notes::tool_note;
 pub use picturing::{Picture, PicturedDrive, answer_picture};
 pub use planning::{FormatLine, PlanForm, PlanRows, answer_format, answer_plan};
 pub use showing::{ZonesForm, answer_zones};

@@ -57,3 +57,27 @@ pub fn size_advice(
     }
     slow_advice(alloc, geometry, blocks)
 }
+
+/// The greatest drive that a machine of 16 GiB of memory has room for, in bytes.
+const ROOMY: u64 = 14 << 30;
+
+/// How many bytes a drive of this shape holds once all its blocks are written.
+fn bytes_of(geometry: &Geometry) -> u64 {
+    u64::from(geometry.zones)
+        .saturating_mul(u64::from(geometry.capacity))
+        .saturating_mul(u64::from(geometry.block))
+}
+
+/// Says how much memory a drive of this shape needs once all its blocks are written. None where that is at most 14 GiB.
+pub fn memory_advice(alloc: Global, geometry: &Geometry) -> Result<Option<String>, AllocError> {
+    let bytes = bytes_of(geometry);
+    if bytes <= ROOMY {
+        return Ok(None);
+    }
+    let whole = bytes.div_ceil(1 << 30);
+    let text = format!(in alloc;
+        "a drive is held in memory: this one needs {whole} GiB once all its blocks are written, and 2 GiB more; \
+        with 16 GiB of memory take one of at most 14 GiB"
+    )?;
+    Ok(Some(text))
+}

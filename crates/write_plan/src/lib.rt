@@ -30,7 +30,7 @@ mod plot;
 mod row;
 mod text;
 
-pub use advice::size_advice;
+pub use advice::{memory_advice, size_advice};
 pub use aims::{Aim, SHARES, plan};
 pub use drive::{PLANNED_SHARE, drive_for};
 pub use estimate::{Estimate, WRITES, expected};

@@ -30,15 +30,15 @@ use clap::error::ErrorKind;
 pub use command_line::{Task, task_of};
 pub use copy_jobs::{CopyFault, CopyJob, do_export, do_import, export_drive, import_drive};
 pub use disk_jobs::{
-    Counted, DiskSize, Done, Explained, FileFault, Gate, Habit, Job, JobInput, Mounting,
-    ProgramFault, Stop, SystemError, Watched, do_job, explain, run_job, size_notes,
-    write_program_fault,
+    Counted, DiskSize, Done, Explained, FileFault, Gate, Habit, Job, JobInput, LineCount, Mounting,
+    ProgramFault, Saved, Stop, SystemError, Watched, do_job, explain, restored_note, run_job,
+    size_notes, write_program_fault,
 };
 pub use disk_runs::{RunFault, answer_reads, answer_trace, run_raw, run_trace, write_fault};
 pub use nbd_jobs::{NbdJob, do_nbd_job, serve_drive, serve_read_only};
 use std::alloc::Global;
 use std::env::Env;
-use std::io::{BufWriter, Write};
+use std::io::{BufWriter, Read, Write};
 use std::process::ExitCode;
 use std::rt::Files;
 use std::{fs, io};
@@ -76,11 +76,26 @@ fn tell_size<R: Eprint>(
     }
 }
 
+/// Says on standard error where a file was saved that had been removed.
+fn tell_saved<R: Eprint>(rt: &R, alloc: Global, path: &str, saved: Saved) {
+    if saved.is_restored
+        && let Ok(note) = restored_note(alloc, path)
+    {
+        let _ = eprintln!(rt; "zonedisk: {note}");
+    }
+}
+
 /// Says on standard error why a job or a save failed, a line for each.
-fn tell<R: Eprint>(rt: &R, alloc: Global, job: &Job, done: Done, line: &[u8]) {
-    for ended in [done.job, done.saved] {
+fn tell<R: Eprint, I: Read + Drop>(
+    rt: &R,
+    alloc: Global,
+    job: &Job,
+    done: Done,
+    input: &mut JobInput<'_, I>,
+) {
+    for ended in [done.job, done.saved.map(|_| ())] {
         if let Err(fault) = ended
-            && let Ok(text) = explain(alloc, job, fault, line, done.mounting)
+            && let Ok(text) = explain(alloc, job, fault, input, done.mounting)
         {
             let _ = eprintln!(rt; "zonedisk: {text}");
         }
@@ -96,7 +111,9 @@ fn do_lines<R: Eprint + Files<File = fs::File> + Input, W: Write>(
 ) -> ExitCode {
     let gate = Gate::open();
     let counted = job.shows_progress().then_some(Counted::Lines);
-    let mut input = JobInput::new(alloc, &gate, Watched::new(rt.reader(), rt, counted));
+    let count = LineCount::new();
+    let reader = Watched::new(rt.reader(), rt, counted);
+    let mut input = JobInput::new(alloc, &gate, &count, reader);
     let done = if job.explains() {
         do_job(rt, alloc, job, &mut input, &mut Explained::new(rt, output))
     } else {
@@ -104,12 +121,13 @@ fn do_lines<R: Eprint + Files<File = fs::File> + Input, W: Write>(
     };
     if let Some(path) = job.image() {
         tell_size(rt, alloc, path, job.blocks(), done.mounting.disk);
+        tell_saved(rt, alloc, path, done.saved.unwrap_or(Saved::IN_PLACE));
     }
     let Some(fault) = done.fault() else {
         return ExitCode::SUCCESS;
     };
     let code = fail(alloc, fault, output);
-    tell(rt, alloc, job, done, input.line());
+    tell(rt, alloc, job, done, &mut input);
     code
 }
 
@@ -122,11 +140,12 @@ fn do_nbd<R: Eprint + Files<File = fs::File> + Input, W: Write>(
 ) -> ExitCode {
     let done = do_nbd_job(rt, alloc, job, rt.reader(), output);
     tell_size(rt, alloc, &job.image, job.blocks, done.disk);
+    tell_saved(rt, alloc, &job.image, done.saved.unwrap_or(Saved::IN_PLACE));
     if let Some(text) = &done.statistics {
         let _ = eprint!(rt; "{text}");
     }
     let mut code = ExitCode::SUCCESS;
-    for ended in [done.session, done.saved] {
+    for ended in [done.session, done.saved.map(|_| ())] {
         if let Err(fault) = ended {
             code = ExitCode::FAILURE;
             if let Ok(text) = nbd_jobs::explain(alloc, job, fault) {
@@ -148,7 +167,13 @@ fn copy<R: Eprint + Files<File = fs::File> + Input + Print>(
         CopyJob::Export(job) => [do_export(rt, alloc, job, io::writer(rt)), Ok(())],
         CopyJob::Import(job) => {
             let imported = do_import(rt, alloc, job, rt.reader());
-            [imported.taken.map(|_| ()), imported.saved]
+            tell_saved(
+                rt,
+                alloc,
+                &job.image,
+                imported.saved.unwrap_or(Saved::IN_PLACE),
+            );
+            [imported.taken.map(|_| ()), imported.saved.map(|_| ())]
         }
     };
     let mut code = ExitCode::SUCCESS;
@@ -163,7 +188,7 @@ fn copy<R: Eprint + Files<File = fs::File> + Input + Print>(
     code
 }
 
-/// Does what a tool is asked for. Why it tells nothing goes to standard error.
+/// Does what a tool is asked for. Why it tells nothing goes to standard error, and what else is to be known.
 fn use_tool<R: Eprint + Files<File = fs::File>, W: Write>(
     rt: &R,
     alloc: Global,
@@ -171,7 +196,12 @@ fn use_tool<R: Eprint + Files<File = fs::File>, W: Write>(
     output: &mut W,
 ) -> ExitCode {
     match do_tool_job(rt, alloc, job, output) {
-        Ok(true) => ExitCode::SUCCESS,
+        Ok(true) => {
+            if let Ok(Some(note)) = tool_jobs::tool_note(alloc, job) {
+                let _ = eprintln!(rt; "zonedisk: {note}");
+            }
+            ExitCode::SUCCESS
+        }
         Ok(false) => ExitCode::FAILURE,
         Err(fault) => {
             if let Ok(text) = tool_jobs::explain(alloc, job, fault) {

@@ -13,7 +13,7 @@ returns g c =
       served = c.in-Ok.ensures.disk;
       last = c.import_blocks-taken.new.disk;
       imports = c.import_blocks-taken.ensures.imports;
-      keeps = c.import_blocks-taken.ensures.keeps.mounted c.in-Ok.ensures.disk.mounted.mountable;
+      keeps = c.import_blocks-taken.ensures.keeps.mounted c.in-Ok.ensures.disk.mountable;
       drive = c.into_device.ensures;
     } in
     rw c.import_end.ensures (drive-imported c.args.job.now input rest old c.import_blocks-taken.result new imports)

@@ -2,8 +2,8 @@ use Rattle.std.proofs.Common.{refl}
 use Rattle.disk_jobs.proofs.StoreLaws.{stores-nothing}
 use Rattle.disk_jobs.proofs.lines.answer_in_memory.Goals as goal
 
-pub returns : goal.returns
-returns g c =
+pub returns-clause-leaves : goal.returns-clause-leaves
+returns-clause-leaves g c =
     let left = c.run_lines-drive.result.0.state in
     record {
       drive = left;

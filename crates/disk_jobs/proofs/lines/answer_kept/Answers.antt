@@ -3,8 +3,8 @@ use Rattle.drive_port.specs.Drive.{DriveState}
 use Rattle.disk_jobs.proofs.StoreLaws.{stores-drive}
 use Rattle.disk_jobs.proofs.lines.answer_kept.Goals as goal
 
-pub returns : goal.returns
-returns g c =
+pub returns-clause-leaves : goal.returns-clause-leaves
+returns-clause-leaves g c =
     let left = c.run_lines-device.result.0 in
     let held = g.S.Store.held c.into_parts-drive.result.1 in
     record {
@@ -17,5 +17,5 @@ returns g c =
       };
       failed_is = c.has_failed-failed.ensures;
       back = λ kept. let same = c.into_parts-drive.ensures.device kept in (ap (λ (d : DriveState). d.geometry) same, ap (λ (d : DriveState). d.zones) same);
-      stored = stores-drive c.args.job.now c.args.device.contents held left.drive c.requires (rw c.into_parts-drive.ensures.store c.into_parts-drive.ensures.kept.stored);
+      stored = stores-drive c.args.job.now c.args.stored.device.contents held left.drive c.requires (rw c.into_parts-drive.ensures.store c.into_parts-drive.ensures.kept.stored);
     }

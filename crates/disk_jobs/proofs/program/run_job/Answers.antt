@@ -11,5 +11,6 @@ returns-in-Ok-clause-left g c = record {
   begins = (rw c.in-Ok-Some.field-0-is at c.in-Ok-Some.ensures.ok).0;
   told = g.W.Write.contents c.begin.new.output;
   says = (rw c.in-Ok-Some.field-0-is at c.in-Ok-Some.ensures.ok).1;
-  leaves = rw c.in-Ok.is at c.answer-left.ensures;
+  was_image = c.answer-left.ensures.was_image;
+  leaves = rw c.in-Ok.is at c.answer-left.ensures.leaves;
 }

@@ -15,7 +15,7 @@ returns g c =
       disk = rw c.new.ensures at c.in-Ok.ensures.disk;
       last = at_once c.serve-result.new.store.read_only c.serve-result.new.store.disk;
       serves = rw (c.served-store.ensures.disk, c.served-store.ensures.read_only) at c.serve-result.ensures.serves;
-      keeps = (rw c.served-store.ensures.disk at c.serve-result.ensures.keeps).mounted c.in-Ok.ensures.disk.mounted.mountable;
+      keeps = (rw c.served-store.ensures.disk at c.serve-result.ensures.keeps).mounted c.in-Ok.ensures.disk.mountable;
       drive = c.into_inner-2.ensures ∙ c.into_device.ensures ∙ ap (λ (d : DiskView). d.drive) c.into_parts-disk.ensures.disk;
     } in
     rw c.session_end.ensures (session-served c.args.kept.read_only c.args.job.now.blocks bytes old c.serve-result.result new session)

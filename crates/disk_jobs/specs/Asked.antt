@@ -1,0 +1,41 @@
+-- What the words of a job ask for, beside its drive.
+use Rattle.std.specs.Prelude.{ℕ, ◌-◌, ◌^◌, ◌==◌, ◌&&◌, if◌then◌else◌, not, Bool, false, Option, Some, None}
+use Rattle.disk_jobs.specs.declared.job.Job.{Job}
+use Rattle.disk_jobs.specs.declared.job.Job.TheVariants as jobs
+use Rattle.disk_jobs.specs.declared.job.Stop.{Stop}
+use Rattle.drive_store.specs.declared.changes_output.SentAfter.{SentAfter}
+use Rattle.drive_store.specs.declared.changes_output.SentAfter.TheVariants as sent
+
+-- whether replies wait until the changes before them are on the disk; a run that only reads makes none
+abbrev pub syncs : Job → Bool
+syncs (jobs.Run path blocks zones statistics stop habit sync read_only progress) = sync && not read_only
+syncs (jobs.Nvme path explain habit sync) = sync
+syncs job = false
+
+-- what the replies of a job wait for
+abbrev pub sent_after : Job → SentAfter
+sent_after job = if syncs job then sent.Sync else sent.Write
+
+-- whether people are told how many lines were read
+abbrev pub shows_progress : Job → Bool
+shows_progress (jobs.Run path blocks zones statistics stop habit sync read_only progress) = progress
+shows_progress job = false
+
+-- whether people are told what each status means
+abbrev pub explains : Job → Bool
+explains (jobs.Nvme path explain habit sync) = explain
+explains job = false
+
+-- the number of logical blocks that is asked for of the drive in a file
+abbrev pub blocks_asked : Job → Option ℕ
+blocks_asked (jobs.Run path blocks zones statistics stop habit sync read_only progress) = Some blocks
+blocks_asked job = None
+
+-- after how many commands the drive stops; the greatest number, with no block of the next Append, stands for never
+abbrev pub commands_of : Stop → Option ℕ
+commands_of stop = if (stop.commands == 2 ^ 64 - 1) && (stop.tear == 0) then None else Some stop.commands
+
+abbrev pub stop_asked : Job → Option ℕ
+stop_asked (jobs.Run path blocks zones statistics stop habit sync read_only progress) = commands_of stop
+stop_asked (jobs.Fresh geometry blocks shown statistics stop habit) = commands_of stop
+stop_asked job = None
