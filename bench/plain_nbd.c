@@ -101,6 +101,8 @@ static void sum(uint32_t *first, uint32_t *second, const unsigned char *bytes, s
 static const char *path;
 static int file = -1;
 static uint64_t length;
+// The checksum that runs through the changes.
+static uint32_t first, second;
 
 static void write_anew(const unsigned char *disk, uint64_t size) {
   char name[4096];
@@ -112,19 +114,21 @@ static void write_anew(const unsigned char *disk, uint64_t size) {
   if (file >= 0) close(file);
   file = next;
   length = size;
+  first = second = 0;
 }
 
 static void keep(const unsigned char *entry, const unsigned char *blocks, size_t count, const unsigned char *disk, uint64_t size) {
-  unsigned char seal[8];
-  uint32_t first = 0, second = 0;
+  unsigned char head[8], seal[8];
   if (length > 2 * size + (1 << 20)) write_anew(disk, size);
   sum(&first, &second, entry, 64);
+  memcpy(head, &first, 4);
+  memcpy(head + 4, &second, 4);
   sum(&first, &second, blocks, count);
   memcpy(seal, &first, 4);
   memcpy(seal + 4, &second, 4);
-  struct iovec parts[] = {{"ZNSCHG01", 8}, {(void *)entry, 64}, {(void *)blocks, count}, {seal, 8}};
-  if (writev(file, parts, 4) != (ssize_t)(count + 80)) finish(1);
-  length += count + 80;
+  struct iovec parts[] = {{"ZNSCHG02", 8}, {(void *)entry, 64}, {head, 8}, {(void *)blocks, count}, {seal, 8}};
+  if (writev(file, parts, 5) != (ssize_t)(count + 88)) finish(1);
+  length += count + 88;
 }
 
 int main(int count, char **words) {
