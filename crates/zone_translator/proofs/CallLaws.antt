@@ -1,5 +1,5 @@
 -- The calls of a disk: their answers, and the flat disk after them.
-use Rattle.std.proofs.Common.{◌≡◌, ◌==◌, ℕ, nat_lt, zero, suc, ◌+◌, ◌-◌, ◌*◌, ◌<◌, ◌≤◌, Bool, true, false, List, [], ◌∷◌, ◌++◌, length, take, drop, get_or, Some, None, Ok, Err, refl, sym, ap, ◌∙◌, inl, inr, arith, append_assoc, append-nil}
+use Rattle.std.proofs.Common.{◌≡◌, ◌==◌, ℕ, nat_lt, zero, suc, ◌+◌, ◌-◌, ◌*◌, ◌<◌, ◌≤◌, Bool, true, false, List, [], ◌∷◌, ◌++◌, length, take, drop, get_or, Some, None, Ok, Err, refl, sym, ap, subst, ◌∙◌, inl, inr, arith, append_assoc, append-nil}
 use Rattle.std.specs.Prelude.{Result}
 use Rattle.std.specs.Int.{div_ceil}
 use Rattle.std.specs.List.{concat}
@@ -24,8 +24,8 @@ use Rattle.zone_translator.specs.Batches.{IsBatchCount}
 use Rattle.zone_translator.specs.Calls.{Reads, answer_before, is_known, status_left}
 use Rattle.zone_cleaner.specs.Start.{trims}
 use Rattle.zone_translator.specs.Answers.{HasData}
-use Rattle.zone_translator.specs.Changes.{AreNamed, IsCause, Names}
-use Rattle.zone_translator.specs.Flat.{Call, FlatCall, IsAfterFront, IsFront, answer_while, blocks_from, grow, idle, known_answer, known_growth, known_range, may_refuse, read, replaced, report, status_after, with_nothing, write}
+use Rattle.zone_translator.specs.Changes.{IsCause, Names}
+use Rattle.zone_translator.specs.Flat.{FlatCall, IsAfterFront, IsFront, answer_while, blocks_from, grow, idle, known_answer, known_growth, known_range, may_refuse, read, replaced, report, status_after, with_nothing, write}
 use Rattle.zone_translator.specs.Read.{IsReadFault}
 use Rattle.zone_translator.specs.View.{DiskCause, DiskView, disk_array, disk_size, flat_of, most_batches, next_sequence, disk_places}
 use Rattle.zone_translator.proofs.FlatLaws.{replaced-append}
@@ -156,11 +156,21 @@ write-refused old new first n blocks fault long known front size status geometry
 -- ---- batches of a write
 
 -- more blocks have records of the kind
-pub named-more : (trim : Bool) (now new : List Place) (first done next count more : ℕ) → next ≡ first + done → more ≡ done + count → AreNamed trim now first done → Names trim now next count new → AreNamed trim new first more
-named-more trim now new first done next count more next-is more-is before names block low high = elim (cases_lt block next) as (λ _. trims (get_or new block places.None) ≡ Some trim) [
-  | inl below ↦ rw (names.others block (inl below)) (before block low (omega (arith, below, next-is)))
-  | inr above ↦ names.named block above (omega (arith, high, next-is, more-is))
-]
+pub names-more : (trim : Bool) (old now new : List Place) (first done next count more : ℕ) → next ≡ first + done → more ≡ done + count → Names trim old first done now → Names trim now next count new → Names trim old first more new
+names-more trim old now new first done next count more next-is more-is before names = record {
+  named = λ block low high. elim (cases_lt block next) as (λ _. trims (get_or new block places.None) ≡ Some trim) [
+    | inl below ↦ rw (names.others block (inl below)) (before.named block low (omega (arith, below, next-is)))
+    | inr above ↦ names.named block above (omega (arith, high, next-is, more-is))
+  ];
+  others = λ block out. elim out as (λ _. trims (get_or new block places.None) ≡ trims (get_or old block places.None)) [
+    | inl low ↦ names.others block (inl (omega (arith, low, next-is))) ∙ before.others block (inl low)
+    | inr high ↦ names.others block (inr (omega (arith, high, next-is, more-is))) ∙ before.others block (inr (omega (arith, high, more-is)))
+  ];
+}
+
+-- as many blocks as that
+pub names-all : (trim : Bool) (old new : List Place) (first done all : ℕ) → done ≡ all → Names trim old first done new → Names trim old first all new
+names-all trim old new first done all same names = subst (λ (n : ℕ). Names trim old first n new) same names
 
 -- one batch is at least one of those that there may be
 pub batches-some : (trim : Bool) (disk : DiskView) (left : ℕ) → IsInRange disk.drive.geometry → 1 ≤ left → 1 ≤ most_batches trim disk left

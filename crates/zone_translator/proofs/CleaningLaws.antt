@@ -115,7 +115,7 @@ goes-ended a b c None is newer = newer
 goes-ended a b c (Some d) is newer = absurd (cc)
 
 -- while it runs in between
-goes-on : (a b c : MountedView) (x y z : Option CleanView) → a.tables.next ≤ b.tables.next → b.drive.geometry ≡ a.drive.geometry → is_some y ≡ true → GoesOnOrEnds a x b y → GoesOnOrEnds b y c z → GoesOnOrEnds a x c z
+pub goes-on : (a b c : MountedView) (x y z : Option CleanView) → a.tables.next ≤ b.tables.next → b.drive.geometry ≡ a.drive.geometry → is_some y ≡ true → GoesOnOrEnds a x b y → GoesOnOrEnds b y c z → GoesOnOrEnds a x c z
 goes-on a b c None y z le same runs p q = tt
 goes-on a b c (Some u) None z le same runs p q = absurd (cc)
 goes-on a b c (Some u) (Some v) None le same runs p q = subst (λ (zone : ℕ). AreNewer a.tables.next (log_in_zone c.drive zone)) p.0 (newer-more a.tables.next b.tables.next (log_in_zone c.drive v.victim) le q)

@@ -1,6 +1,6 @@
 -- What is written to blocks: its bytes, cut into blocks, and what a batch of it tells.
 use Rattle.std.proofs.Common.{◌≡◌, ℕ, zero, suc, ◌+◌, ◌-◌, ◌*◌, ◌≤◌, Bool, true, List, [], ◌∷◌, length, take, drop, replicate, refl, sym, ap, ◌∙◌, arith}
-use Rattle.std.proofs.lemmas.List.{drop-drop, drop-take, length-drop, length-replicate, length-take}
+use Rattle.std.proofs.lemmas.List.{drop-drop, length-drop, length-replicate, length-take}
 use Rattle.std.proofs.Math.Nat.{add-mul}
 use Rattle.zone_states.specs.Zone.{cut_blocks}
 use Rattle.zone_states.proofs.Cutting.{length-cut, cut-front}
@@ -10,7 +10,7 @@ use Rattle.zone_choice.specs.Builder.{entries_from}
 use Rattle.zone_choice.specs.Changes.{told_over}
 use Rattle.zone_translator.specs.declared.write.Content.{Content}
 use Rattle.zone_translator.specs.declared.write.Content.TheVariants.{Byte, Bytes, Trim}
-use Rattle.zone_translator.specs.Batches.{IsAfter, HasBlocks, HasBytes, blocks_of, bytes_of, is_trim}
+use Rattle.zone_translator.specs.Batches.{IsAfter, HasBlocks, blocks_of, bytes_of, is_trim}
 use Rattle.zone_translator.specs.Changes.{Names}
 use Rattle.zone_translator.specs.Flat.{replaced}
 use Rattle.zone_translator.proofs.BatchLaws.{data_count-entries, data_count-trims, host_batch, told-data, told-trims}

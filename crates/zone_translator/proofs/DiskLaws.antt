@@ -1,7 +1,5 @@
 -- A disk, by what its parts change.
-use Rattle.std.proofs.Common.{◌≡◌, ℕ, Bool, true, false, List, length, Option, Some, None, is_some, ◌⊎◌, Result, Ok, Err, inl, inr, refl, sym, ap, subst, ◌≤◌, ◌∙◌, arith}
-use Rattle.std.specs.List.{AllByRecursion}
-use Rattle.std.specs.Prelude.{IfSome}
+use Rattle.std.proofs.Common.{◌≡◌, ℕ, Bool, true, false, List, length, Option, Some, None, is_some, Result, Ok, Err, inl, inr, refl, sym, ap, subst, ◌≤◌, ◌∙◌, arith}
 use Rattle.zone_states.specs.declared.geometry.Geometry.{Geometry}
 use Rattle.zone_choice.specs.Agreement.{MountedView, mounted_array}
 use Rattle.drive_array.specs.ZoneLogs.{drive_logs}
@@ -9,7 +7,7 @@ use Rattle.zone_choice.specs.Changes.{KeepsArray}
 use Rattle.zone_choice.specs.Roles.{empty_count}
 use Rattle.zone_choice.specs.Tables.{size_of}
 use Rattle.zone_choice.proofs.AgreementLaws.{size-encoded}
-use Rattle.drive_array.proofs.WholeLaws.{length-spelled, whole-spelled}
+use Rattle.drive_array.proofs.WholeLaws.{length-spelled}
 use Rattle.drive_array.specs.Mountable.{IsMountable}
 use Rattle.drive_array.specs.Reserve.{FitsReserve, batch_most}
 use Rattle.zone_cleaner.specs.declared.fault.CleanFault.{CleanFault}
@@ -27,15 +25,15 @@ use Rattle.zone_translator.specs.Changes.{GrowLeaves, Keeps, Names, NoMoreTurns,
 use Rattle.zone_translator.specs.declared.write.Rest.{Rest}
 use Rattle.zone_translator.specs.Answers.{KeepsClean}
 use Rattle.zone_translator.specs.Batches.{IsTaken, WritesRest, is_trim}
-use Rattle.zone_translator.specs.Cleaning.{AddsNewer, AreNewer, GoesOnOrEnds, KeepsCleaning, OnlyNewer, log_in_zone}
+use Rattle.zone_translator.specs.Cleaning.{AddsNewer, GoesOnOrEnds, KeepsCleaning, OnlyNewer}
 use Rattle.zone_translator.specs.Parts.{KeepsByRead, ReadStops, WroteSome}
-use Rattle.zone_translator.proofs.CleaningLaws.{StaysClean, newer-log, turns-join}
+use Rattle.zone_translator.proofs.CleaningLaws.{StaysClean, goes-on, newer-log}
 use Rattle.zone_translator.proofs.ContentLaws.{took-names}
 use Rattle.zone_translator.specs.Flat.{IsAfterFront, IsFront, grow}
 use Rattle.zone_translator.specs.Read.{IsBlockFault, IsReadFault}
 use Rattle.zone_translator.proofs.WriteLaws.{front-none}
 use Rattle.zone_translator.proofs.RoomLaws.{room-stops}
-use Rattle.zone_translator.specs.View.{AreBelowNext, DiskView, KeepsDisk, disk_array, disk_turns, flat_of, given_size, next_sequence, disk_places}
+use Rattle.zone_translator.specs.View.{AreBelowNext, DiskView, KeepsDisk, disk_turns, flat_of, given_size, disk_places}
 
 -- what a disk of these parts is seen as
 abbrev pub view_of : MountedView → Option CleanView → DiskStatus → DiskView
@@ -280,18 +278,24 @@ wrote-some a b clean clean' was is rest count serving serves taken leaves = reco
 
 -- ---- the clean that ran
 
+-- a clean that continues or ends is not thrown back
+pub goes-clean : (a b : MountedView) (x y : Option CleanView) (was is : DiskStatus) → b.drive.geometry ≡ a.drive.geometry → GoesOnOrEnds a x b y → KeepsClean (view_of a x was) (view_of b y is)
+goes-clean a b None y was is same goes = tt
+goes-clean a b (Some u) None was is same goes = inr goes
+goes-clean a b (Some u) (Some v) was is same goes =
+    inl (record { same = v; runs = refl; victim = goes.0; turns = turns-on a b (Some u) (Some v) was is same goes.1 })
+
 -- once a write is done
 pub done-clean : (a b : MountedView) (x y : Option CleanView) (was is : DiskStatus) → StaysClean a x b y → KeepsClean (view_of a x was) (view_of b y is)
-done-clean a b None y was is stays = tt
-done-clean a b (Some u) y was is stays = inl (turns-on a b (Some u) y was is stays.geometry stays.turns)
+done-clean a b x y was is stays = goes-clean a b x y was is stays.geometry stays.goes
 
 -- where nothing was done
 pub same-clean : (disk : DiskView) → KeepsClean disk disk
-same-clean disk = by disk.clean
+same-clean disk = by disk.clean refl
   where
-    by : (x : Option CleanView) → IfSome x (λ clean. (disk_turns disk ≤ disk_turns disk) ⊎ AreNewer (next_sequence disk) (log_in_zone disk.drive clean.victim))
-    by None = tt
-    by (Some u) = inl (omega arith)
+    by : (x : Option CleanView) → disk.clean ≡ x → KeepsClean disk disk
+    by None e = rw e tt
+    by (Some u) e = rw e (inl (record { same = u; runs = refl; victim = refl; turns = omega arith }))
 
 -- where a batch was refused, after some were written
 newer-unless : (b c : MountedView) (fault : DiskFault) → status_left fault ≡ statuses.Serving → AddsNewer {V = ℕ} b (Err fault) c → OnlyNewer b.tables.next (drive_logs b.drive) (drive_logs c.drive)
@@ -314,7 +318,7 @@ refused-clean a b c None y z was is fault same stays keeps serves = tt
 refused-clean a b c (Some u) None z was is fault same stays keeps serves =
     inr (newer-log a.tables.next b.tables.next (drive_logs b.drive) (drive_logs c.drive) u.victim stays.next stays.goes (newer-unless b c fault serves keeps.newer))
 refused-clean a b c (Some u) (Some v) z was is fault same stays keeps serves =
-    inl (turns-on a c (Some u) z was is same (turns-join a b c (Some u) (Some v) z stays.geometry stays.turns (goes-turns b c v z keeps.clean)))
+    goes-clean a c (Some u) z was is same (goes-on a b c (Some u) (Some v) z stays.next stays.geometry refl stays.goes keeps.clean)
 
 -- one batch leaves no more turns of a clean that ran
 pub batch-turns : {V : Type 0} (a b : MountedView) (x y : Option CleanView) (was is : DiskStatus) (result : Result V DiskFault) → b.drive.geometry ≡ a.drive.geometry → KeepsCleaning a x result b y → is_some x ≡ true → disk_turns (view_of b y is) ≤ disk_turns (view_of a x was)

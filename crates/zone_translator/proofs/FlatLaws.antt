@@ -1,5 +1,5 @@
 -- Lists in which a run of elements is replaced.
-use Rattle.std.proofs.Common.{◌≡◌, ℕ, zero, suc, ◌+◌, ◌<◌, List, [], ◌∷◌, ◌++◌, length, set, refl, sym, ap, ◌∙◌, arith}
+use Rattle.std.proofs.Common.{◌≡◌, ℕ, zero, suc, ◌+◌, ◌<◌, List, [], ◌∷◌, ◌++◌, length, set, refl, ap, arith}
 use Rattle.zone_translator.specs.Flat.{replaced}
 
 -- no block replaced changes nothing

@@ -1,5 +1,5 @@
 -- The host zone is sealed and taken, and the array stays.
-use Rattle.std.proofs.Common.{◌≡◌, ◌⊎◌, ℕ, ◌*◌, ◌/◌, ◌<◌, ◌≤◌, Bool, true, false, ◌||◌, map, ◌++◌, Option, Some, None, is_some, Result, Ok, Err, refl, sym, ap, subst, ◌∙◌, inl, inr, arith}
+use Rattle.std.proofs.Common.{◌≡◌, ◌⊎◌, ℕ, ◌*◌, ◌/◌, ◌<◌, ◌≤◌, Bool, true, ◌||◌, map, ◌++◌, Option, Some, None, Result, Ok, Err, refl, sym, ap, subst, ◌∙◌, inl, inr, arith}
 use Rattle.std.specs.List.{list_any}
 use Rattle.std.proofs.lemmas.Bool.{eq-eqb}
 use Rattle.drive_port.specs.Calls.{CanFinish, Finished, FinishedContents, FinishGives, FinishKeeps, FinishLeaves, IsNotRefused, Obeys}
@@ -11,7 +11,6 @@ use Rattle.zone_choice.specs.declared.roles.Filling.{Filling}
 use Rattle.zone_choice.specs.Agreement.{Agrees, HoldsFilling, MountedView, mounted}
 use Rattle.drive_array.specs.ZoneLogs.{drive_logs, spelled}
 use Rattle.zone_choice.specs.Changes.{IsHalt, KeepsArray, fault_halt}
-use Rattle.drive_array.specs.Mountable.{IsMountable}
 use Rattle.zone_choice.specs.declared.roles.Second.TheVariants.{Destination}
 use Rattle.zone_choice.specs.Roles.{IsLowestEmpty, RolesView, empty_count, is_at, is_filling_at, filling_list, next_of, promoted, sealed, taken}
 use Rattle.zone_choice.specs.Tables.{TablesView, size_of}
@@ -24,9 +23,9 @@ use Rattle.zone_choice.proofs.RolesLaws.{roles_with, second_list}
 use Rattle.zone_cleaner.specs.declared.fault.CleanFault.{CleanFault}
 use Rattle.zone_cleaner.specs.declared.fault.CleanFault.TheVariants as faults
 use Rattle.zone_cleaner.specs.Clean.{CleanView}
-use Rattle.zone_cleaner.specs.Start.{GoesOn, AgreesWithClean, IsCleaningCause, KeepsByCleaning, trims}
+use Rattle.zone_cleaner.specs.Start.{AgreesWithClean, IsCleaningCause, KeepsByCleaning, trims}
 use Rattle.zone_cleaner.proofs.NextLaws.{cleaned_kept, cleaning_kept, promote_gives}
-use Rattle.zone_cleaner.proofs.TurnLaws.{cleans_mountable, keeps-more}
+use Rattle.zone_cleaner.proofs.TurnLaws.{keeps-more}
 use Rattle.zone_translator.proofs.CleaningLaws.{StaysClean, array-stays, goes-same, newer-same, stays-cleaning}
 use Rattle.zone_translator.specs.Cleaning.{KeepsCleaning}
 use Rattle.zone_translator.specs.declared.fault.DiskFault.{DiskFault}

@@ -12,6 +12,7 @@ use Rattle.drive_port.specs.Drive.{DriveState}
 use Rattle.zone_choice.specs.Changes.{sequence_end}
 use Rattle.drive_array.specs.Mountable.{IsMountable}
 use Rattle.drive_array.specs.Reserve.{FitsReserve}
+use Rattle.zone_cleaner.specs.Clean.{CleanView}
 use Rattle.zone_cleaner.specs.Start.{TurnsFewer, trims}
 use Rattle.zone_translator.specs.declared.fault.DiskFault.{DiskFault}
 use Rattle.zone_translator.specs.declared.fault.DiskFault.TheVariants.{Stopped}
@@ -19,7 +20,7 @@ use Rattle.zone_translator.specs.declared.status.DiskStatus.TheVariants as statu
 use Rattle.zone_translator.specs.declared.write.Content.{Content}
 use Rattle.zone_translator.specs.Batches.{LogsAreCut, blocks_of}
 use Rattle.zone_translator.specs.Calls.{IsTurn, Reads, is_known}
-use Rattle.zone_translator.specs.Changes.{AreNamed, batch_commands}
+use Rattle.zone_translator.specs.Changes.{Names, batch_commands}
 use Rattle.zone_translator.specs.Cleaning.{AreNewer, log_in_zone}
 use Rattle.zone_translator.specs.Flat.{Call, FlatCall, FlatRemount, read, with_nothing, write}
 use Rattle.zone_translator.specs.Mount.{MountsDisk}
@@ -76,18 +77,25 @@ pub record AnswersRead (old : DiskView) (first n : ℕ) (result : Result (Unit {
 -- ---- writes
 
 -- Once n blocks from a given one on are written, their newest records say that they have data or, of a trim, that they
--- have none. The newest header has the disk's size, and the sequences kept for repairs are left. Each batch is as long
--- as it can be, also where the write was refused midway.
+-- have none; those of all other blocks say what they said. The newest header has the disk's size, and the sequences kept
+-- for repairs are left. Each batch is as long as it can be, also where the write was refused midway.
 pub record Stores (trim : Bool) (old : DiskView) (first n : ℕ) (result : Result (Unit {0}) DiskFault) (new : DiskView) : Type 0 where
-  pub named : OnOk result (AreNamed trim (disk_places new) first n)
+  pub names : OnOk result (Names trim (disk_places old) first n (disk_places new))
   pub says : OnOk result (1 ≤ n → size_on new ≡ Some (disk_size new))
   pub early : OnOk result (1 ≤ n → next_sequence new ≤ sequence_end old.drive.geometry)
   pub cut : LogsAreCut old.drive.geometry (logs_of old) (first + n - 1) (logs_of new)
 
--- The clean that ran before a call is not thrown back: it has as many turns left as then, or fewer; or it has ended in
--- the call, and its victim was emptied, in which only batches of the call are. Another clean may run then.
+-- a clean still runs, of the same zone, and has as many turns left as before, or fewer
+pub record RunsOn (clean : CleanView) (old new : DiskView) : Type 0 where
+  pub same : CleanView
+  pub runs : new.clean ≡ Some same
+  pub victim : same.victim ≡ clean.victim
+  pub turns : disk_turns new ≤ disk_turns old
+
+-- The clean that ran before a call is not thrown back: it still runs, or it has ended in the call, and its victim was
+-- emptied, in which only batches of the call are. Another clean may run then.
 abbrev pub KeepsClean : DiskView → DiskView → Type 0
-KeepsClean old new = IfSome old.clean (λ clean. (disk_turns new ≤ disk_turns old) ⊎ AreNewer (next_sequence old) (log_in_zone new.drive clean.victim))
+KeepsClean old new = IfSome old.clean (λ clean. RunsOn clean old new ⊎ AreNewer (next_sequence old) (log_in_zone new.drive clean.victim))
 
 -- What a write costs, whatever it answers: so many commands at most. One that is done adds no turns of a clean, and one
 -- after which the disk serves throws none back that runs.

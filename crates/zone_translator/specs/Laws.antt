@@ -1,13 +1,16 @@
 -- What holds of the flat disk, and of a disk whose drive stops.
-use Rattle.std.specs.Prelude.{◌≡◌, ◌⊎◌, ℕ, ◌+◌, ◌<◌, ◌≤◌, List, [], length, slice_index_or, Ok, Result}
+use Rattle.std.specs.Prelude.{◌≡◌, ◌⊎◌, ℕ, ◌+◌, ◌<◌, ◌≤◌, List, [], ◌∷◌, length, slice_index_or, IfErr, Ok, Result}
+use Rattle.std.specs.List.{concat}
 use Rattle.drive_port.specs.Drive.{DriveState}
 use Rattle.drive_port.specs.Run.{restarted}
+use Rattle.drive_survey.specs.Scan.{IsInterruption}
 use Rattle.drive_survey.specs.declared.fault.MountFault.{MountFault}
 use Rattle.remount.specs.Mount.{IsToMount}
-use Rattle.zone_translator.specs.Answers.{IsMounted, Remounts}
-use Rattle.zone_translator.specs.Flat.{FlatCall, FlatDisk, read, replaced, with_nothing, write}
-use Rattle.zone_translator.specs.Mount.{MountsDisk}
-use Rattle.zone_translator.specs.View.{DiskView, KeepsDisk, disk_array, given_size}
+use Rattle.zone_translator.specs.Answers.{Answers, AnswersRead, IsMounted, Remounts}
+use Rattle.zone_translator.specs.Flat.{Answer, Call, FlatCall, FlatDisk, FlatRemount, read, replaced, with_nothing, write}
+use Rattle.zone_translator.specs.Mount.{GivesBack, MountsDisk}
+use Rattle.zone_translator.specs.View.{DiskCause, DiskView, KeepsDisk, disk_array, flat_of, given_size}
+use Rattle.zone_translator.specs.declared.fault.DiskFault.{DiskFault}
 
 -- ---- the flat disk
 
@@ -39,10 +42,58 @@ CalledCan = (old new : DiskView) → CanMountAgain old → KeepsDisk old new →
 abbrev pub RemountedCan : Type 0
 RemountedCan = (old new : DiskView) (result : Result (Unit {0}) MountFault) → CanMountAgain old → Remounts old result new → CanMountAgain new
 
--- Then the drive, stopped or not, is restarted. It can be mounted, and each disk that is mounted on it has the array that was left.
+-- Then the drive, stopped or not, is restarted. It can be mounted, and each disk that is mounted on it has the array that was
+-- left. Only a stop or a failed allocation refuses that mount.
 pub record FindsAgain (left : DiskView) : Type 0 where
   pub can : IsToMount (restarted left.drive) (given_size left)
   pub found : (again : DiskView) → MountsDisk (restarted left.drive) (given_size left) again → disk_array again ≡ disk_array left
+  pub halts : (fault : MountFault) (back : DriveState) → GivesBack (restarted left.drive) (given_size left) fault back → IsInterruption back fault
 
 abbrev pub LeftIsFound : Type 0
 LeftIsFound = (left : DiskView) → CanMountAgain left → FindsAgain left
+
+-- ---- lists of calls
+
+-- a call with its answer, or a remount with its result
+pub data Step : Type 0 where
+  call : Call → Answer → Step
+  remount : Result (Unit {0}) MountFault → Step
+
+-- a flat disk is called with this answer, or mounted again with this result
+abbrev pub FlatStep : FlatDisk → Step → FlatDisk → Type 0
+FlatStep old (call asked answer) new = FlatCall old asked answer new
+FlatStep old (remount result) new = FlatRemount old result new
+
+-- what of the drive a call keeps, which is refused only for a cause, and what a remount keeps
+abbrev pub KeepsByStep : DiskView → Step → DiskView → Type 0
+KeepsByStep old (call asked answer) new = KeepsDisk old new × IfErr answer.result (DiskCause new)
+KeepsByStep old (remount result) new = Remounts old result new
+
+-- a disk is called, or mounted again
+pub record Steps (old : DiskView) (step : Step) (new : DiskView) : Type 0 where
+  pub flat : FlatStep (flat_of old) step (flat_of new)
+  pub keeps : KeepsByStep old step new
+
+-- the steps follow one another
+abbrev pub AllSteps : {S : Type 0} → (S → Step → S → Type 0) → S → List Step → S → Type 0
+AllSteps Takes old [] new = new ≡ old
+AllSteps {S} Takes old (step ∷ steps) new = (middle : S) × Takes old step middle × AllSteps Takes middle steps new
+
+-- each call of a disk is a step: a read with the blocks that it showed, any other call with nothing shown, and a remount
+pub record CallsAreSteps : Type 0 where
+  pub calls : (old new : DiskView) (asked : Call) (result : Result (Unit {0}) DiskFault)
+      → Answers old asked result new → Steps old (call asked (with_nothing result)) new
+  pub reads : (old new : DiskView) (first n : ℕ) (result : Result (Unit {0}) DiskFault) (bytes : List ℕ) → AnswersRead old first n result bytes new
+      → (shown : List (List ℕ)) × (bytes ≡ concat shown) × Steps old (call (read first n) (record { result = result; shown = shown })) new
+  pub remounts : (old new : DiskView) (result : Result (Unit {0}) MountFault) → Remounts old result new → Steps old (remount result) new
+
+-- Whatever steps a disk took since the mount of this drive: each answer was a flat disk's, and no command was refused. The drive that is left,
+-- once restarted, is mounted again with the array that the last step left.
+pub record ListLeaves (old : DriveState) (first : DiskView) (steps : List Step) (last : DiskView) : Type 0 where
+  pub flat : AllSteps FlatStep (flat_of first) steps (flat_of last)
+  pub refused : last.drive.refused ≡ old.refused
+  pub found : FindsAgain last
+
+abbrev pub ListIsFound : Type 0
+ListIsFound =
+    (old : DriveState) (n : ℕ) (first last : DiskView) (steps : List Step) → IsMounted old n first → AllSteps Steps first steps last → ListLeaves old first steps last

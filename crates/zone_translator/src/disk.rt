@@ -4,6 +4,7 @@ ghost use Rattle.logical_map.specs.declared.place.Place.TheVariants as places;
 ghost use Rattle.remount.specs.Kept.{KeepsMountable};
 ghost use Rattle.remount.specs.Mount.{MountFails, Mounts};
 ghost use Rattle.drive_survey.specs.Scan.{FailsBy};
+ghost use Rattle.drive_survey.specs.Survey.{MayAsk};
 ghost use Rattle.drive_array.specs.Reserve.{FitsReserve};
 ghost use Rattle.zone_choice.specs.Roles.{empty_count};
 ghost use Rattle.zone_choice.specs.Tables.{size_of};
@@ -112,6 +113,9 @@ impl<D: Device + Drop> Disk<D> {
         ensures disk { IfOk result (IsMounted (D.drive device) blocks) }
         ensures err { IfErr result
             (λ refusal. GivesBack (D.drive device) blocks refusal.0 (D.drive refusal.1)) }
+        // Nothing is sent if the geometry is out of range, or if the reserve does not allow the number.
+        ensures unsent { IfErr result (λ refusal. (MayAsk (D.drive device) blocks → ⊥)
+            → D.drive refusal.1 ≡ D.drive device) }
     {
         match mount(alloc, &mut device, blocks) {
             Ok(tables) => Ok(Disk {
@@ -384,9 +388,11 @@ impl<D: Device + Drop> Disk<D> {
         // It answers as a flat array does, and the drive can be mounted again. Done, a header has the new size.
         ensures answers { Answers self.old (grow blocks) result self.new }
         ensures says { OnOk result (SaysSize self.old blocks self.new) }
-        // Done, or if a clean ran before, no turns are added. It costs at most the commands of one batch.
+        // Done, or if a clean ran before, no turns are added, and the clean is not thrown back. It costs at most the
+        // commands of one batch.
         ensures turns { OnOk result (disk_turns self.new ≤ disk_turns self.old) }
-        ensures clean { is_some self.old.clean ≡ true → disk_turns self.new ≤ disk_turns self.old }
+        ensures fewer { is_some self.old.clean ≡ true → disk_turns self.new ≤ disk_turns self.old }
+        ensures clean { KeepsClean self.old self.new }
         ensures completed { CompletesAtMost self.old
             (batch_commands self.old.drive.geometry) self.new }
     {

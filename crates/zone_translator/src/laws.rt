@@ -1,8 +1,8 @@
 //! What holds of the flat disk, whose answers every call of `Disk` gives, and of a disk whose drive stops. Each
 //! function carries laws as its contract, and changes nothing.
 
-ghost use Rattle.zone_translator.specs.Laws.{CalledCan, LeftIsFound, MountedCan, RemountedCan};
-ghost use Rattle.zone_translator.specs.Laws.{WriteKeepsOthers, WrittenReadsBack};
+ghost use Rattle.zone_translator.specs.Laws.{CalledCan, CallsAreSteps, LeftIsFound, ListIsFound, MountedCan};
+ghost use Rattle.zone_translator.specs.Laws.{RemountedCan, WriteKeepsOthers, WrittenReadsBack};
 ghost use Rattle.zone_translator.specs.View.{flat_of};
 
 use crate::disk::Disk;
@@ -27,6 +27,15 @@ pub fn answered_is_found()
     ensures mounted { MountedCan }
     ensures called { CalledCan }
     ensures remounted { RemountedCan }
-    // Once restarted, it can be mounted, and each mount finds the array that was left.
+    // Once restarted, it can be mounted, and each mount finds the array that was left. Only a stop or a failed
+    // allocation refuses such a mount.
     ensures found { LeftIsFound }
+{}
+
+/// The same of whole lists of calls: each answer is a flat array's, no command is refused by the drive, and what the
+/// list left is found again once the drive is restarted.
+pub fn lists_are_found()
+    // A list has these steps: each call of a disk with its answer, and each remount with its result.
+    ensures steps { CallsAreSteps }
+    ensures found { ListIsFound }
 {}

@@ -1,6 +1,6 @@
 use Rattle.std.proofs.Common.{Err, Ok, refl}
 use Rattle.zone_translator.proofs.CallLaws.{cause-of, growth-done, growth-refused, growth-unknown}
-use Rattle.zone_translator.proofs.DiskLaws.{batch-turns, below-next, holds-agrees, holds-serving, keeps-disk, refused-growth, reserve-kept, turns-on, view_of}
+use Rattle.zone_translator.proofs.DiskLaws.{batch-turns, below-next, goes-clean, holds-agrees, holds-serving, keeps-disk, refused-growth, reserve-kept, same-clean, turns-on, view_of}
 use Rattle.zone_translator.proofs.disk.Disk.grow.Goals as goal
 
 pub invariant_of-self : goal.invariant_of-self
@@ -35,8 +35,8 @@ pub returns-in-Ok-clause-turns : goal.returns-in-Ok-clause-turns
 returns-in-Ok-clause-turns g c =
     rw (← c.self.view_is) (turns-on c.self.inside.mounted c.grow_batch.new.disk c.self.inside.cleaner c.grow_batch.new.cleaner c.self.inside.status c.self.inside.status c.in-Ok.ensures.leaves.keeps.geometry c.in-Ok.ensures.clean.turns)
 
-pub returns-in-Ok-clause-clean : goal.returns-in-Ok-clause-clean
-returns-in-Ok-clause-clean g c =
+pub returns-in-Ok-clause-fewer : goal.returns-in-Ok-clause-fewer
+returns-in-Ok-clause-fewer g c =
     rw (← c.self.view_is) (λ runs. batch-turns c.self.inside.mounted c.grow_batch.new.disk c.self.inside.cleaner c.grow_batch.new.cleaner c.self.inside.status c.self.inside.status (Ok tt) c.in-Ok.ensures.leaves.keeps.geometry c.in-Ok.ensures.clean runs)
 
 pub returns-in-Err-clause-answers : goal.returns-in-Err-clause-answers
@@ -52,8 +52,21 @@ returns-in-Err-clause-answers g c =
       cause = cause-of new c.in-Err.fault c.in-Err.ensures.cause;
     }
 
+pub returns-in-Err-clause-fewer : goal.returns-in-Err-clause-fewer
+returns-in-Err-clause-fewer g c =
+    let serves = holds-agrees c.self.inside.mounted c.self.inside.cleaner c.self.inside.status (rw (← c.self.view_is) at c.in_ok-check_growth.ensures.serving) c.self.invariant in
+    let lost = refused-growth c.self.inside.mounted c.grow_batch.new.disk c.self.inside.cleaner c.grow_batch.new.cleaner c.args.blocks c.in-Err.fault c.self.inside.status c.self.invariant.reserve serves c.in-Err.ensures.leaves in
+    rw (← c.self.view_is) (λ runs. batch-turns c.self.inside.mounted c.grow_batch.new.disk c.self.inside.cleaner c.grow_batch.new.cleaner c.self.inside.status c.status_of-self-inside.result (Err c.in-Err.fault) lost.refused.kept.geometry c.in-Err.ensures.clean runs)
+
+pub returns-in-Ok-clause-clean : goal.returns-in-Ok-clause-clean
+returns-in-Ok-clause-clean g c =
+    rw (← c.self.view_is) (goes-clean c.self.inside.mounted c.grow_batch.new.disk c.self.inside.cleaner c.grow_batch.new.cleaner c.self.inside.status c.self.inside.status c.in-Ok.ensures.leaves.keeps.geometry c.in-Ok.ensures.clean.clean)
+
 pub returns-in-Err-clause-clean : goal.returns-in-Err-clause-clean
 returns-in-Err-clause-clean g c =
     let serves = holds-agrees c.self.inside.mounted c.self.inside.cleaner c.self.inside.status (rw (← c.self.view_is) at c.in_ok-check_growth.ensures.serving) c.self.invariant in
     let lost = refused-growth c.self.inside.mounted c.grow_batch.new.disk c.self.inside.cleaner c.grow_batch.new.cleaner c.args.blocks c.in-Err.fault c.self.inside.status c.self.invariant.reserve serves c.in-Err.ensures.leaves in
-    rw (← c.self.view_is) (λ runs. batch-turns c.self.inside.mounted c.grow_batch.new.disk c.self.inside.cleaner c.grow_batch.new.cleaner c.self.inside.status c.status_of-self-inside.result (Err c.in-Err.fault) lost.refused.kept.geometry c.in-Err.ensures.clean runs)
+    rw (← c.self.view_is) (goes-clean c.self.inside.mounted c.grow_batch.new.disk c.self.inside.cleaner c.grow_batch.new.cleaner c.self.inside.status c.status_of-self-inside.result lost.refused.kept.geometry c.in-Err.ensures.clean.clean)
+
+pub returns-in_err-check_growth-clause-clean : goal.returns-in_err-check_growth-clause-clean
+returns-in_err-check_growth-clause-clean g c = same-clean c.args.self.now

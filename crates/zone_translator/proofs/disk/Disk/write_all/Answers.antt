@@ -3,7 +3,7 @@ use Rattle.zone_states.specs.declared.geometry.Geometry.{Geometry}
 use Rattle.zone_translator.specs.Batches.{blocks_of, is_trim}
 use Rattle.zone_translator.specs.Changes.{batch_commands}
 use Rattle.zone_translator.specs.View.{disk_array, logs_of, most_batches, mounted_of}
-use Rattle.zone_translator.proofs.CallLaws.{batches-less, batches-some, cause-of, done-known, goes-begun, named-more, spend, write-done, write-front, write-known, write-refused, write-unknown, written-more}
+use Rattle.zone_translator.proofs.CallLaws.{batches-less, batches-some, cause-of, done-known, goes-begun, names-all, names-more, spend, write-done, write-front, write-known, write-refused, write-unknown, written-more}
 use Rattle.zone_translator.proofs.CleaningLaws.{cleaning-stays, same-stays, stays-join}
 use Rattle.zone_translator.proofs.ContentLaws.{length-blocks, rest-is, rest-whole}
 use Rattle.zone_translator.proofs.CutLaws.{cut-old, cut-step}
@@ -22,7 +22,7 @@ returns-in_err-is_done-clause-answers g c = record {
 }
 
 pub returns-in_err-is_done-clause-stores : goal.returns-in_err-is_done-clause-stores
-returns-in_err-is_done-clause-stores g c = record { named = search rules; says = search rules; early = search rules; cut = cut-old c.args.self.now.drive.geometry (c.args.first + c.args.blocks - 1) (logs_of c.args.self.now) }
+returns-in_err-is_done-clause-stores g c = record { names = search rules; says = search rules; early = search rules; cut = cut-old c.args.self.now.drive.geometry (c.args.first + c.args.blocks - 1) (logs_of c.args.self.now) }
 
 pub returns-in_err-is_done-clause-costs : goal.returns-in_err-is_done-clause-costs
 returns-in_err-is_done-clause-costs g c = record { turns = search rules; clean = λ serves. same-clean c.args.self.now; completed = omega arith }
@@ -39,7 +39,7 @@ pub returns-then-branch-clause-stores : goal.returns-then-branch-clause-stores
 returns-then-branch-clause-stores g c =
     let none = c.in_ok-is_done.ensures.none c.if-branch.true in
     record {
-      named = λ block low high. absurd (omega (arith, none));
+      names = record { named = λ block low high. absurd (omega (arith, none)); others = λ block out. refl };
       says = λ some. absurd (omega (arith, none));
       early = λ some. absurd (omega (arith, none));
       cut = cut-old c.args.self.now.drive.geometry (c.args.first + c.args.blocks - 1) (logs_of c.args.self.now);
@@ -59,7 +59,7 @@ loop-done-init g c =
       c.in_ok-is_done.ensures.serving c.if-branch.false,
       omega arith,
       sym (replaced-none (disk_array disk) c.args.first),
-      λ block low high. absurd (omega arith),
+      record { named = λ block low high. absurd (omega arith); others = λ block out. refl },
       λ some. absurd (omega arith),
       λ some. absurd (omega arith),
       rw whole (omega arith),
@@ -101,7 +101,7 @@ loop-done-preserved g c =
       omega (arith, wrote.taken, so_far.3),
       written-more (disk_array disk) (disk_array now) (disk_array new) c.args.first c.loop-done.done c.in-Ok.count _ _ (blocks_of disk.drive.geometry.block c.args.blocks c.args.content) _
           so_far.4 refl refl (omega (arith, long, so_far.3)) left_is wrote.array,
-      named-more (is_trim c.args.content) _ _ c.args.first c.loop-done.done _ c.in-Ok.count _ refl refl so_far.5 (rw rest.trim at wrote.names),
+      names-more (is_trim c.args.content) _ _ _ c.args.first c.loop-done.done _ c.in-Ok.count _ refl refl so_far.5 (rw rest.trim at wrote.names),
       λ some. wrote.says,
       λ some. rw so_far.0.geometry at wrote.early,
       rw fewer (spend (most_batches (is_trim c.args.content) disk left) _ each _ new.drive.completed _ less (rw so_far.0.geometry at done.completed) so_far.8),
@@ -138,7 +138,7 @@ returns-in-Err-clause-stores g c =
     let so_far = c.loop-done.invariant in
     let disk = c.args.self.now in
     record {
-      named = tt;
+      names = tt;
       says = tt;
       early = tt;
       cut = cut-step disk.drive.geometry c.loop-done.self.drive.geometry (logs_of disk) (c.args.first + c.args.blocks - 1) _ (logs_of c.loop-done.self) (logs_of c.write_some.new.self) so_far.0.geometry (omega (arith, so_far.3)) (c.in-Err.ensures.cut (logs_of disk)) so_far.9;
@@ -179,7 +179,7 @@ pub returns-clause-stores : goal.returns-clause-stores
 returns-clause-stores g c =
     let so_far = c.loop-done.invariant in
     record {
-      named = λ block low high. so_far.5 block low (omega (arith, high, c.loop-done-test.false));
+      names = names-all (is_trim c.args.content) _ _ c.args.first c.loop-done.done c.args.blocks (omega (arith, so_far.3, c.loop-done-test.false)) so_far.5;
       says = λ some. so_far.6 (omega (arith, some, c.loop-done-test.false));
       early = λ some. so_far.7 (omega (arith, some, c.loop-done-test.false));
       cut = so_far.9;
