@@ -5,6 +5,7 @@ ghost use Rattle.std.specs.Io.KnownBytes.{Consumes, IsAtEnd};
 ghost use Rattle.nbd_session.specs.Streams.{DropsFewer};
 
 use crate::fault::ImportFault;
+use disk_files::read_again;
 use std::io::Read;
 
 /// Reads bytes into the front of a buffer, until it is full or the reader ends. It tells how many.
@@ -18,7 +19,7 @@ pub(crate) fn fill<R: Read>(reader: &mut R, buffer: &mut [u8]) -> Result<usize, 
 {
     let mut at = 0;
     while at < buffer.len() {
-        match reader.read(&mut buffer[at..]) {
+        match read_again(reader, &mut buffer[at..]) {
             Ok(0) => return Ok(at),
             Ok(n) => at += n,
             Err(_) => return Err(ImportFault::Input),

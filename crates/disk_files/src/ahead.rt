@@ -4,6 +4,7 @@ ghost use Rattle.std.specs.Io.KnownBytes.{Consumes, IsAtEnd, Keeps};
 ghost use Rattle.disk_files.specs.Ahead.{ReadsPart, Refills};
 ghost use Rattle.disk_files.specs.Line.{is_feed};
 
+use crate::again::read_again;
 use crate::bytes::first_place;
 use crate::line_reader::LineFault;
 use std::alloc::{AllocError, Global};
@@ -78,7 +79,7 @@ fn read_to<R: Read>(reader: &mut R, bytes: &mut [u8], end: usize) -> Result<usiz
     ensures err { IfErr result (λ fault. Keeps (R.remaining reader.old) (R.remaining reader.new)
         × (fault ≡ LineFault.Input)) }
 {
-    match reader.read(&mut bytes[end..end + PIECE]) {
+    match read_again(reader, &mut bytes[end..end + PIECE]) {
         Ok(n) => Ok(n),
         Err(_) => Err(LineFault::Input),
     }

@@ -26,6 +26,7 @@
 //! Tests: the rows of `worked_runs`, and `texts.rt` of `call_tests`.
 #![tactic(auto)]
 
+mod again;
 mod ahead;
 mod bytes;
 mod data;
@@ -40,6 +41,7 @@ mod reply;
 mod trace_line;
 mod words;
 
+pub use again::{read_again, write_again};
 pub use data::ParseFault;
 pub use fail_after::FailAfter;
 pub use line_reader::{LONGEST_LINE, LineFault, LineReader};

@@ -2,6 +2,7 @@ ghost use Rattle.std.specs.Prelude.{◌≡◌, OnErr, OnOk};
 ghost use Rattle.std.specs.Io.KnownBytes.{Appends};
 ghost use Rattle.disk_files.specs.Output.{AppendsFront};
 
+use crate::again::write_again;
 use std::io::Write;
 use thiserror::Error;
 
@@ -18,7 +19,7 @@ pub fn write_out<W: Write>(writer: &mut W, bytes: &[u8]) -> Result<(), WriteFaul
 {
     let mut at = 0;
     while at < bytes.len() {
-        match writer.write(&bytes[at..]) {
+        match write_again(writer, &bytes[at..]) {
             Ok(0) => return Err(WriteFault),
             Ok(n) => at += n,
             Err(_) => return Err(WriteFault),

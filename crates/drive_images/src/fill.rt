@@ -3,6 +3,7 @@ ghost use Rattle.std.specs.Io.KnownBytes.{Consumes};
 ghost use Rattle.drive_images.specs.Reading.{TellsFirst, short_of};
 
 use crate::fault::ImageFault;
+use disk_files::read_again;
 use std::io::Read;
 
 /// Reads until the buffer is full. It is `Short` if the reader ends before.
@@ -15,7 +16,7 @@ pub fn fill<R: Read>(reader: &mut R, buffer: &mut [u8]) -> Result<(), ImageFault
 {
     let mut at = 0;
     while at < buffer.len() {
-        match reader.read(&mut buffer[at..]) {
+        match read_again(reader, &mut buffer[at..]) {
             Ok(0) => return Err(ImageFault::Short),
             Ok(n) => at += n,
             Err(_) => return Err(ImageFault::Input),

@@ -10,6 +10,7 @@ use crate::fault::ImageFault;
 use crate::fill::fill;
 use crate::head::read_head;
 use crate::zone::read_zone;
+use disk_files::read_again;
 use std::alloc::Global;
 use std::io::Read;
 use zone_drive::Drive;
@@ -53,7 +54,7 @@ fn expect_end<R: Read>(reader: &mut R) -> Result<(), ImageFault>
         IfSome (R.remaining reader.old) (λ bytes. TellsFirst (end_fault bytes) fault)) }
 {
     let mut byte = [0; 1];
-    match reader.read(&mut byte) {
+    match read_again(reader, &mut byte) {
         Ok(0) => Ok(()),
         Ok(_) => Err(ImageFault::Long),
         Err(_) => Err(ImageFault::Input),

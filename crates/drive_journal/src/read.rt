@@ -9,6 +9,7 @@ ghost use Rattle.drive_journal.specs.Reading.{FindsBody, FindsChange, FindsEnd, 
 
 use crate::change::{EARLIER_MARK, MARK, Sum, sum_bytes, sum_over};
 use crate::found::Found;
+use disk_files::read_again;
 use drive_images::ImageFault;
 use nvme_wire::{Command, DecodeFault};
 use std::io::Read;
@@ -24,7 +25,7 @@ fn fill<R: Read>(reader: &mut R, buffer: &mut [u8]) -> Result<usize, ImageFault>
 {
     let mut at = 0;
     while at < buffer.len() {
-        match reader.read(&mut buffer[at..]) {
+        match read_again(reader, &mut buffer[at..]) {
             Ok(0) => return Ok(at),
             Ok(n) => at += n,
             Err(_) => return Err(ImageFault::Input),

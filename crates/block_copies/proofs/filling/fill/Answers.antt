@@ -7,7 +7,7 @@ pub loop-at-preserved : goal.loop-at-preserved
 loop-at-preserved g c =
     let at = c.loop-at in
     let n = c.in-Ok.n in
-    let read = c.read.new.buf in
+    let read = c.read_again.new.buffer in
     record {
       within = search rules;
       length_is = search rules;

@@ -7,7 +7,7 @@ pub loop-at-preserved : goal.loop-at-preserved
 loop-at-preserved g c =
     let at = c.loop-at in
     let n = c.in-Ok.n in
-    let read = c.read.new.buf in (
+    let read = c.read_again.new.buffer in (
       search rules,
       search rules,
       rw (filled at.at _ n at.buffer read at.invariant.1 (omega (arith, c.in-Ok.ensures.bound)))
