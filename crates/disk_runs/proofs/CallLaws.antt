@@ -11,9 +11,9 @@ use Rattle.zone_translator.specs.declared.fault.DiskFault.{DiskFault}
 use Rattle.zone_translator.specs.declared.fault.DiskFault.TheVariants.{OutOfRange, OutOfMemory, Stopped, Spent, Unmounted, Smaller, Reserve}
 use Rattle.zone_translator.specs.declared.status.DiskStatus.{DiskStatus}
 use Rattle.zone_translator.specs.declared.status.DiskStatus.TheVariants as statuses
-use Rattle.zone_translator.specs.View.{DiskCause, DiskView}
+use Rattle.zone_translator.specs.View.{CompletesAtMost, DiskCause, DiskView, disk_turns}
 use Rattle.disk_runs.specs.FlatLines.{IsRefused, RepliesTo, refusal_reply, single}
-use Rattle.disk_runs.specs.Trace.{EndCause}
+use Rattle.disk_runs.specs.Trace.{EndCause, ReadsFew}
 use Rattle.disk_runs.specs.declared.fault.RunFault.TheVariants.{Disk}
 
 -- ---- what is known of a call before it begins
@@ -77,6 +77,14 @@ no_reply first n Spent may = refl
 no_reply first n Smaller may = absurd (cc)
 no_reply first n Reserve may = absurd (cc)
 no_reply first n Unmounted may = refl
+
+-- one block more is asked for once
+pub reads_more : (n : ℕ) (old middle new : DiskView) → ReadsFew n old middle → disk_turns new ≡ disk_turns middle → CompletesAtMost middle 1 new → ReadsFew (n + 1) old new
+reads_more n old middle new so_far turns completed = record { turns = turns ∙ so_far.turns; completed = omega (arith, so_far.completed, completed) }
+
+-- and some of the blocks no more often than all of them
+pub reads_within : (n most : ℕ) (old new : DiskView) → n ≤ most → ReadsFew n old new → ReadsFew most old new
+reads_within n most old new few once = record { turns = once.turns; completed = omega (arith, few, once.completed) }
 
 -- a read of blocks is refused as a read of one of them is
 refused_block : (old new : FlatDisk) (at first n : ℕ) (bytes : List ℕ) (fault : DiskFault) → at + 1 ≤ old.size → 0 < n → first + n ≤ old.size → Reads old at 1 (Err fault) bytes new → IsRefused old (single (read first n)) fault new

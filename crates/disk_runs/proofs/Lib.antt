@@ -1,4 +1,5 @@
 pub mod CallLaws
+pub mod ProgressLaws
 pub mod ReadLaws
 pub mod RequestLaws
 pub mod RunLaws

@@ -8,16 +8,18 @@ use Rattle.drive_array.specs.Reserve.{most_size}
 use Rattle.drive_array.specs.Mountable.{IsMountable}
 use Rattle.remount.specs.Kept.{KeepsMountable}
 use Rattle.zone_translator.specs.Changes.{IsCause}
-use Rattle.zone_translator.specs.Flat.{FlatDisk, grow, idle, read, report, write}
+use Rattle.zone_translator.specs.Flat.{FlatDisk}
 use Rattle.zone_translator.specs.Mount.{MountsDisk}
 use Rattle.zone_translator.specs.View.{DiskView, KeepsDisk, disk_size, flat_of, given_size, next_sequence}
 use Rattle.zone_translator.specs.declared.fault.DiskFault.{DiskFault}
 use Rattle.zone_translator.specs.declared.fault.DiskFault.TheVariants as faults
 use Rattle.zone_translator.specs.declared.status.DiskStatus.{DiskStatus}
 use Rattle.zone_translator.specs.declared.status.DiskStatus.TheVariants as statuses
-use Rattle.disk_runs.specs.FlatLines.{Request, flat_lines, remount, single, turns}
+use Rattle.disk_files.specs.declared.trace_line.TraceLine.{TraceLine}
+use Rattle.disk_files.specs.declared.trace_line.TraceLine.TheVariants.{Read, Fill, Write, Trim, Idle, Grow, Remount}
+use Rattle.disk_runs.specs.FlatLines.{flat_lines}
 use Rattle.disk_runs.specs.Run.{AnswersAll, AtLine, Exchange, IsBeginning, IsLine, Known, Runs, StopsEarly, StopsAt}
-use Rattle.disk_runs.specs.Trace.{CallCause, EndCause, KeepsDrive, KeepsFault, KeepsRequest, KeepsServed, MountsAgain, RefusesLine, RunGives, RunKeeps, RunLeaves, RunsFlat, disk_at_first, disk_lines, disk_on, wanted_of}
+use Rattle.disk_runs.specs.Trace.{CallCause, Does, DoesSaid, EndCause, KeepsDrive, KeepsFault, KeepsServed, MountsAgain, RefusesLine, RunGives, RunKeeps, RunLeaves, RunsFlat, disk_at_first, disk_lines, disk_on, said_by}
 use Rattle.disk_runs.specs.declared.fault.RunFault.{RunFault}
 use Rattle.disk_runs.specs.declared.fault.RunFault.TheVariants as runs
 use Rattle.disk_runs.specs.declared.fault.RunFault.TheVariants.{Line, Long, Disk, Mount, Input, Output, Memory}
@@ -108,20 +110,23 @@ on_served old new m k = let kept = k.mounted m in record { drive = kept_served o
 on_again : (old new : DiskView) → MountsAgain old new → KeepsOn old new
 on_again old new k = record { drive = kept_again old new k; unmounted = λ e. let bad = sym k.disk.status ∙ e in absurd (cc) }
 
-on_request : (wanted : Option Request) (old new : DiskView) → IsMountable old.drive (given_size old) → KeepsRequest wanted old new → KeepsOn old new
-on_request None old new m k = on_served old new m k
-on_request (Some remount) old new m k = on_again old new k
-on_request (Some (turns n)) old new m k = on_served old new m k.0
-on_request (Some (single (read first n))) old new m k = on_served old new m k
-on_request (Some (single (write first blocks))) old new m k = on_served old new m k.0
-on_request (Some (single (grow n))) old new m k = on_served old new m k
-on_request (Some (single idle)) old new m k = on_served old new m k
-on_request (Some (single report)) old new m k = on_served old new m k
+on_line : (line : TraceLine) (bytes : List ℕ) (old new : DiskView) → IsMountable old.drive (given_size old) → Does line bytes (Ok tt) old new → KeepsOn old new
+on_line (Read first n) bytes old new m d = on_served old new m d.0
+on_line (Fill first n byte) bytes old new m d = on_served old new m d.served
+on_line (Write first) bytes old new m d = on_served old new m d.served
+on_line (Trim first n) bytes old new m d = on_served old new m d.served
+on_line (Idle n) bytes old new m d = on_served old new m d.0
+on_line (Grow size) bytes old new m d = on_served old new m d.served
+on_line Remount bytes old new m d = on_again old new d
+
+on_said : (said : Option (TraceLine × List ℕ)) (old new : DiskView) → IsMountable old.drive (given_size old) → DoesSaid said old new → KeepsOn old new
+on_said None old new m d = rw d (record { drive = kept_same old m; unmounted = λ e. e })
+on_said (Some (line, bytes)) old new m d = on_line line bytes old new m d
 
 on_all : (only_reads : Bool) (lines : List (List ℕ)) (text : List ℕ) (old new : DiskView) → IsMountable old.drive (given_size old) → AnswersAll (disk_lines only_reads) old lines text new → KeepsOn old new
 on_all only_reads [] text old new m p = rw p.1 (record { drive = kept_same old m; unmounted = λ e. e })
 on_all only_reads (line ∷ lines) text old new m p =
-    let one = on_request (wanted_of old line) old p.middle m p.answers.keeps in
+    let one = on_said (said_by line) old p.middle m p.answers.does in
     let more = on_all only_reads lines p.after p.middle new one.drive.mountable p.rest in
     record { drive = kept_on old p.middle new one.drive more.drive; unmounted = λ e. one.unmounted (more.unmounted e) }
 
@@ -140,7 +145,7 @@ kept_stop : (only_reads : Bool) (fault : RunFault) (left : Known) (number : ℕ)
 kept_stop only_reads (Line m) left number old shown new can p = rw p.3 (kept_same old can)
 kept_stop only_reads (Long m) left number old shown new can p = rw p.3 (kept_same old can)
 kept_stop only_reads Input left number old shown new can p = rw p.1 (kept_same old can)
-kept_stop only_reads Output left number old shown new can p = (on_request (wanted_of old p.line) old new can p.does.answers.keeps).drive
+kept_stop only_reads Output left number old shown new can p = (on_said (said_by p.line) old new can p.does.answers.does).drive
 kept_stop only_reads Memory left number old shown new can p = kept_served old new (p.1.keeps.mounted can)
 kept_stop only_reads (Disk f) left number old shown new can p = kept_fault (Disk f) old new can p.1.does.keeps
 kept_stop only_reads (Mount f) left number old shown new can p = kept_fault (Mount f) old new can p.1.does.keeps

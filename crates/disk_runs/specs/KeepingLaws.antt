@@ -1,8 +1,8 @@
 -- What the answers to lines keep of a disk.
-use Rattle.std.proofs.Common.{refl, ◌∙◌}
-use Rattle.zone_translator.specs.View.{DiskView, KeepsDisk}
+use Rattle.std.proofs.Common.{ℕ, refl, ◌∙◌, arith}
+use Rattle.zone_translator.specs.View.{DiskView, KeepsDisk, disk_size}
 use Rattle.zone_translator.proofs.DiskLaws.{kept-join, kept-refl}
-use Rattle.disk_runs.specs.Trace.{ComesToNothing, KeepsDrive, KeepsFault, KeepsServed}
+use Rattle.disk_runs.specs.Trace.{ComesToNothing, KeepsDrive, KeepsFault, KeepsServed, ReadsFew}
 use Rattle.disk_runs.specs.declared.fault.RunFault.{RunFault}
 use Rattle.disk_runs.specs.declared.fault.RunFault.TheVariants.{Line, Long, Disk, Mount, Geometry, Input, Output, Memory}
 
@@ -33,6 +33,10 @@ fault_keeps Input old new kept = kept
 fault_keeps Output old new kept = kept
 fault_keeps Memory old new kept = kept
 
+-- a read of no block costs nothing
+pub reads_none : (n : ℕ) (disk : DiskView) → ReadsFew n disk disk
+reads_none n disk = record { turns = refl; completed = omega arith }
+
 -- a disk of which nothing came
 pub nothing_same : (disk : DiskView) → ComesToNothing disk disk
-nothing_same disk = record { flat = refl; keeps = keeps_same disk }
+nothing_same disk = record { flat = refl; keeps = keeps_same disk; reads = reads_none (disk_size disk) disk }

@@ -1,5 +1,5 @@
 -- What a run of a trace gives, and what it leaves of the drive.
-use Rattle.std.specs.Prelude.{◌≡◌, ◌⊎◌, ℕ, zero, suc, ◌+◌, ◌-◌, Bool, true, List, length, Option, Some, Result, Ok, Err, IfErr, ⊤}
+use Rattle.std.specs.Prelude.{◌≡◌, ◌⊎◌, ℕ, zero, suc, ◌<◌, ◌≤◌, Bool, true, false, List, length, Option, Some, None, if◌then◌else◌, Result, Ok, Err, IfErr, OnOk, ⊤}
 use Rattle.std.specs.Io.KnownBytes.{Keeps}
 use Rattle.drive_port.specs.Drive.{DriveState}
 use Rattle.drive_array.specs.ZoneLogs.{spelled}
@@ -9,19 +9,24 @@ use Rattle.drive_survey.specs.declared.fault.MountFault.{MountFault}
 use Rattle.remount.specs.Kept.{KeepsMountable}
 use Rattle.remount.specs.Mount.{IsToMount}
 use Rattle.drive_survey.specs.Scan.{IsInterruption}
-use Rattle.zone_translator.specs.Batches.{LogsAreCut}
-use Rattle.zone_translator.specs.Calls.{IsTurn}
-use Rattle.zone_translator.specs.Changes.{IsCause}
-use Rattle.zone_translator.specs.Flat.{FlatDisk, write}
+use Rattle.zone_cleaner.specs.Start.{TurnsFewer}
+use Rattle.disk_files.specs.TraceLine.{is_skipped, trace_line}
+use Rattle.disk_files.specs.declared.trace_line.TraceLine.{TraceLine}
+use Rattle.disk_files.specs.declared.trace_line.TraceLine.TheVariants.{Read, Fill, Write, Trim, Idle, Grow, Remount}
+use Rattle.zone_translator.specs.Answers.{CostsAtMost, KeepsClean, SaysSize, Stores, count_of_blocks, write_bytes, write_commands}
+use Rattle.zone_translator.specs.Calls.{IsTurn, is_known}
+use Rattle.zone_translator.specs.Changes.{IsCause, batch_commands}
+use Rattle.zone_translator.specs.Flat.{Call, FlatDisk, fill, grow, trim}
 use Rattle.zone_translator.specs.Mount.{GivesBack, MountsDisk}
-use Rattle.zone_translator.specs.View.{DiskView, KeepsDisk, flat_of, given_size, logs_of, next_sequence}
+use Rattle.zone_translator.specs.View.{CompletesAtMost, DiskView, KeepsDisk, disk_size, disk_turns, flat_of, given_size, mounted_of, next_sequence}
+use Rattle.zone_translator.specs.declared.fault.DiskFault.{DiskFault}
 use Rattle.zone_translator.specs.declared.fault.DiskFault.TheVariants.{Unmounted}
 use Rattle.zone_translator.specs.declared.status.DiskStatus.{DiskStatus}
 use Rattle.zone_translator.specs.declared.status.DiskStatus.TheVariants as statuses
-use Rattle.disk_runs.specs.FlatLines.{AnswersRequest, RefusesRequest, Request, flat, is_legal, remount, request_of, single, takes, turns}
+use Rattle.disk_runs.specs.FlatLines.{AnswersRequest, RefusesRequest, Request, is_legal, request_of, takes}
 use Rattle.disk_runs.specs.Run.{Exchange, Language, Runs}
 use Rattle.disk_runs.specs.declared.fault.RunFault.{RunFault}
-use Rattle.disk_runs.specs.declared.fault.RunFault.TheVariants.{Disk, Mount, Geometry}
+use Rattle.disk_runs.specs.declared.fault.RunFault.TheVariants.{Disk, Mount, Geometry, Memory}
 
 -- ---- lines
 
@@ -35,21 +40,85 @@ pub record MountsAgain (old new : DiskView) : Type 0 where
   pub disk : MountsDisk old.drive (given_size old) new
   pub kept : KeepsMountable (given_size old) old.drive new.drive
 
--- that many turns of cleaning are taken, one after the other: each does the next step of the clean that runs, or begins one that is due
+-- A turn of cleaning is done. It is the next step of the clean that runs, which has fewer turns left then. If none runs, it is the start of
+-- one that is due, or nothing changes.
+pub record TakesOne (old new : DiskView) : Type 0 where
+  pub served : KeepsServed old new
+  pub turn : IsTurn old (Ok tt) new
+  pub turns : TurnsFewer (mounted_of old) (mounted_of new) old.clean new.clean
+  pub completed : CompletesAtMost old 2 new
+
+-- that many turns are done, one after the other
 abbrev pub TakesTurns : ℕ → DiskView → DiskView → Type 0
 TakesTurns zero old new = new ≡ old
-TakesTurns (suc n) old new = (middle : DiskView) × IsTurn old (Ok tt) middle × TakesTurns n middle new
+TakesTurns (suc n) old new = (middle : DiskView) × TakesOne old middle × TakesTurns n middle new
 
--- the batches of one write of n blocks: each has as many entries as a batch can have, or names the last block, or ends its zone, or is a Move
-abbrev pub IsOneWrite : ℕ → ℕ → DiskView → DiskView → Type 0
-IsOneWrite first n old new = LogsAreCut old.drive.geometry (logs_of old) (first + n - 1) (logs_of new)
+-- some of the turns are done, and the next one is refused, which leaves as many turns of a clean as before
+pub record TakesFewer (n : ℕ) (fault : DiskFault) (old new : DiskView) : Type 0 where
+  pub done : ℕ
+  pub few : done < n
+  pub middle : DiskView
+  pub before : TakesTurns done old middle
+  pub turn : middle.status ≡ statuses.Serving → IsTurn middle (Err fault) new
+  pub turns : disk_turns new ≡ disk_turns middle
+  pub completed : CompletesAtMost middle 2 new
 
--- what the answer to a line keeps of a disk, by what it asks for
-abbrev pub KeepsRequest : Option Request → DiskView → DiskView → Type 0
-KeepsRequest (Some remount) old new = MountsAgain old new
-KeepsRequest (Some (turns n)) old new = KeepsServed old new × TakesTurns n old new
-KeepsRequest (Some (single (write first blocks))) old new = KeepsServed old new × IsOneWrite first (length blocks) old new
-KeepsRequest wanted old new = KeepsServed old new
+-- turns by their answer
+abbrev pub TurnsBy : Result (Unit {0}) DiskFault → ℕ → DiskView → DiskView → Type 0
+TurnsBy (Ok done) n old new = TakesTurns n old new
+TurnsBy (Err fault) n old new = TakesFewer n fault old new
+
+-- n blocks are read: by n commands at most, and as many turns of a clean are left
+pub record ReadsFew (n : ℕ) (old new : DiskView) : Type 0 where
+  pub turns : disk_turns new ≡ disk_turns old
+  pub completed : CompletesAtMost old n new
+
+-- n blocks are written as one write, as data or by trims; a call whose answer is known beforehand changes nothing
+pub record WritesOnce (call : Call) (trim : Bool) (first n : ℕ) (result : Result (Unit {0}) DiskFault) (old new : DiskView) : Type 0 where
+  pub served : KeepsServed old new
+  pub untouched : is_known (flat_of old) call ≡ true → new ≡ old
+  pub stores : is_known (flat_of old) call ≡ false → Stores trim old first n result new
+  pub costs : CostsAtMost old (write_commands trim old n) result new
+
+-- a disk has this size, also if it had it before: a batch was appended, and the headers say the size
+pub record GrowsOnce (size : ℕ) (result : Result (Unit {0}) DiskFault) (old new : DiskView) : Type 0 where
+  pub served : KeepsServed old new
+  pub untouched : is_known (flat_of old) (grow size) ≡ true → new ≡ old
+  pub says : is_known (flat_of old) (grow size) ≡ false → OnOk result (SaysSize old size new)
+  pub turns : OnOk result (disk_turns new ≤ disk_turns old)
+  pub clean : KeepsClean old new
+  pub completed : CompletesAtMost old (batch_commands old.drive.geometry) new
+
+-- What a line does, by what it says and its data, and whether it was refused. A `fill` and a `write` leave data, a `trim` leaves trims. A line
+-- that was refused costs no more than one that is done.
+abbrev pub Does : TraceLine → List ℕ → Result (Unit {0}) DiskFault → DiskView → DiskView → Type 0
+Does (Read first n) bytes result old new = KeepsServed old new × ReadsFew n old new
+Does (Fill first n byte) bytes result old new = WritesOnce (fill old.drive.geometry.block first n byte) false first n result old new
+Does (Write first) bytes result old new = WritesOnce (write_bytes old first bytes) false first (count_of_blocks old bytes) result old new
+Does (Trim first n) bytes result old new = WritesOnce (trim old.drive.geometry.block first n) true first n result old new
+Does (Idle n) bytes result old new = KeepsServed old new × TurnsBy result n old new
+Does (Grow size) bytes result old new = GrowsOnce size result old new
+Does Remount bytes result old new = OnOk result (MountsAgain old new)
+
+-- What a line did that has no reply: where memory ran out for it, blocks were read. Of a remount that is refused nothing more is said.
+abbrev pub StopsBy : RunFault → TraceLine → List ℕ → DiskView → DiskView → Type 0
+StopsBy (Disk fault) line bytes old new = Does line bytes (Err fault) old new
+StopsBy Memory line bytes old new = ReadsFew (disk_size old) old new
+StopsBy fault line bytes old new = ⊤
+
+-- what a line says, and its data; a line that is skipped says nothing
+abbrev pub said_by : List ℕ → Option (TraceLine × List ℕ)
+said_by line = if is_skipped line then None else trace_line line
+
+-- a line that is skipped does nothing
+abbrev pub DoesSaid : Option (TraceLine × List ℕ) → DiskView → DiskView → Type 0
+DoesSaid None old new = new ≡ old
+DoesSaid (Some said) old new = Does said.0 said.1 (Ok tt) old new
+
+-- and is never refused
+abbrev pub StopsSaid : Option (TraceLine × List ℕ) → RunFault → DiskView → DiskView → Type 0
+StopsSaid None fault old new = ⊥
+StopsSaid (Some said) fault old new = StopsBy fault said.0 said.1 old new
 
 -- what a disk keeps whose drive was not mounted again: a drive that can be mounted
 pub record KeepsDrive (old new : DiskView) : Type 0 where
@@ -81,21 +150,23 @@ HasCause Cause fault = ⊤
 abbrev pub wanted_of : DiskView → List ℕ → Option Request
 wanted_of disk line = request_of disk.drive.geometry.block line
 
--- a line is answered as a flat disk answers it, and with what its answer keeps of the drive
+-- a line is answered as a flat disk answers it, and does to the disk and its drive what it says
 pub record AnswersLine (old : DiskView) (line reply : List ℕ) (new : DiskView) : Type 0 where
   pub flat : AnswersRequest (flat_of old) (wanted_of old line) reply (flat_of new)
-  pub keeps : KeepsRequest (wanted_of old line) old new
+  pub does : DoesSaid (said_by line) old new
 
--- a line is refused as a flat disk refuses it, for a cause of its own
+-- a line is refused as a flat disk refuses it, for a cause of its own, and costs no more than one that is done
 pub record RefusesLine (old : DiskView) (line : List ℕ) (fault : RunFault) (new : DiskView) : Type 0 where
   pub flat : RefusesRequest (flat_of old) (wanted_of old line) fault (flat_of new)
   pub keeps : KeepsFault fault old new
   pub cause : EndCause new fault
+  pub does : StopsSaid (said_by line) fault old new
 
--- nothing came of a line
+-- nothing came of a line, but that blocks of the disk were read
 pub record ComesToNothing (old new : DiskView) : Type 0 where
   pub flat : flat_of new ≡ flat_of old
   pub keeps : KeepsServed old new
+  pub reads : ReadsFew (disk_size old) old new
 
 -- the lines of a trace, as a disk above a drive answers them
 abbrev pub trace : Language DiskView

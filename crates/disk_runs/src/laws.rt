@@ -1,8 +1,21 @@
-//! What holds of runs. The function carries a law as its contract, and changes nothing.
+//! What holds of runs. Each function carries laws as its contract, and changes nothing.
 
-ghost use Rattle.disk_runs.specs.Laws.{ReadsKeepArray};
+ghost use Rattle.disk_runs.specs.Laws.{CleansEnd, CommandsAreFew, LastIsFew, ReadsKeepArray, TurnsAreFew};
 
 /// A run of which only the lines are taken that read leaves the array as it was.
 pub fn reads_keep_array()
     ensures { ReadsKeepArray }
+{}
+
+/// Whatever lines a run is given, it takes no more commands than those lines may. A clean that runs ends by its C-th
+/// turn, where a zone has C blocks, whatever lines fall between its turns.
+pub fn runs_make_progress()
+    // Each answered line takes so many commands at most. Those of a line that mounts the drive again are not counted.
+    ensures commands { CommandsAreFew }
+    // So does the line that ends a run.
+    ensures last { LastIsFew }
+    // The clean that runs has never more than C - 1 turns left.
+    ensures few { TurnsAreFew }
+    // Once lines have asked for as many turns as were left, there was a moment when no clean ran.
+    ensures ends { CleansEnd }
 {}

@@ -27,9 +27,13 @@
 //! - A run ends with `Ok` only where the reader ended and every line was answered.
 //! - A line is refused only where it asks for calls, and only as a flat disk may refuse one of them. After
 //!   `Memory` nothing came of the line.
-//! - A line `idle` that is answered took its turns, each by the step of the clean that was next; a line `fill`, `write`
-//!   or `trim` was one write of the disk, by batches that are as large as they can be. The lines that were answered
-//!   lead, one after the other, from the disk that was mounted to the one whose drive is given back.
+//! - A line `idle` that is answered took its turns, each by the step of the clean that was next. A line `fill`, `write`
+//!   or `trim` was one write of the disk, by batches that are as large as they can be: the first two leave records with
+//!   data, and the last one leaves trims. A line `grow` appended a batch, also where the size is the present one. The
+//!   lines that were answered lead, one after the other, from the disk that was mounted to the one whose drive is given
+//!   back.
+//! - A line takes no more commands than the disk's calls may, answered or refused, and throws no clean back that runs.
+//!   So a run takes no more than all its lines may, and a clean ends by its last turn ([`laws`]).
 //! - Where only reads are taken, any other call is not done, and ends the run as a line that is not in the grammar
 //!   does. Such a run leaves the array as it was ([`laws`]).
 //! - Data of a `write` that is not whole blocks is refused as a line that is not in the grammar.

@@ -6,7 +6,7 @@ ghost use Rattle.zone_translator.specs.View.{disk_array, disk_size, flat_of};
 ghost use Rattle.zone_translator.specs.declared.status.DiskStatus.TheVariants.{Serving};
 ghost use Rattle.disk_runs.specs.declared.fault.RunFault.TheVariants.{Memory};
 ghost use Rattle.disk_runs.specs.FlatLines.{IsFull, RepliesTo, RequestStops, single};
-ghost use Rattle.disk_runs.specs.Trace.{EndCause, HasCause, KeepsServed};
+ghost use Rattle.disk_runs.specs.Trace.{EndCause, HasCause, KeepsServed, ReadsFew};
 
 use crate::fault::RunFault;
 use crate::requests::SHORT_REPLY;
@@ -46,8 +46,9 @@ fn show_blocks<D: Device + Drop>(
     ensures cause { IfErr result (HasCause (EndCause disk.new)) }
     ensures full { IfErr result (λ fault. fault ≡ Memory →
         IsFull (vec_capacity reply.new) (vec_len reply.new) (vec_len block.new)) }
-    // Whatever it answers, a drive that could be mounted still can be.
+    // Whatever it answers, a drive that could be mounted still can be, and a block takes one command at most.
     ensures keeps { KeepsServed disk.old disk.new }
+    ensures costs { ReadsFew blocks disk.old disk.new }
 {
     for i in 0..blocks {
         if let Err(fault) = disk.read(first + i, 1, block) {
@@ -81,8 +82,10 @@ pub(crate) fn read_blocks<D: Device + Drop>(
     ensures cause { IfErr result (HasCause (EndCause disk.new)) }
     ensures full { IfErr result (λ fault. fault ≡ Memory →
         IsFull (vec_capacity reply.new) (vec_len reply.new) (vec_len block.new)) }
-    // Whatever it answers, a drive that could be mounted still can be.
+    // Whatever it answers, a drive that could be mounted still can be, and a block takes one command at most.
     ensures keeps { KeepsServed disk.old disk.new }
+    ensures costs { ReadsFew blocks disk.old disk.new }
+    ensures few { ReadsFew (disk_size disk.old) disk.old disk.new }
 {
     if is_past_end(disk.blocks(), first, blocks) {
         out_of_range_reply(reply).unwrap();

@@ -1,10 +1,11 @@
-ghost use Rattle.std.specs.Prelude.{◌≡◌, ◌≢◌, ◌<◌, ◌≤◌, [], IfErr, OnOk, Some, is_some, true, vec_capacity, vec_len};
+ghost use Rattle.std.specs.Prelude.{◌≡◌, ◌≢◌, ◌<◌, ◌≤◌, [], IfErr, Ok, OnOk, Some, is_some, true};
+ghost use Rattle.std.specs.Prelude.{vec_capacity, vec_len};
 ghost use Rattle.zone_translator.specs.View.{DiskCause, flat_of};
 ghost use Rattle.disk_runs.specs.FlatLines.{AnswersRequest, IsFull, IsUntold, RepliesTo, RequestStops};
 ghost use Rattle.disk_runs.specs.FlatLines.{Turns, asked, remount, reply_of};
 ghost use Rattle.disk_runs.specs.declared.fault.RunFault.TheVariants.{Memory};
-ghost use Rattle.disk_runs.specs.Trace.{EndCause, HasCause, KeepsFault, KeepsRequest};
-ghost use Rattle.disk_runs.specs.Trace.{KeepsServed, MountsAgain, TakesTurns};
+ghost use Rattle.disk_runs.specs.Trace.{Does, EndCause, HasCause, KeepsFault, KeepsServed};
+ghost use Rattle.disk_runs.specs.Trace.{MountsAgain, StopsBy, TurnsBy};
 
 use crate::fault::RunFault;
 use crate::reads::read_blocks;
@@ -50,7 +51,7 @@ fn tell(done: Result<(), DiskFault>, reply: &mut Vec<u8>) -> Result<(), RunFault
 fn clean<D: Device + Drop>(disk: &mut Disk<D>, turns: u32) -> Result<(), DiskFault>
     // Done, all turns count as taken. Refused, fewer were taken, and the fault has its cause.
     ensures flat { Turns turns (flat_of disk.old) result (flat_of disk.new) }
-    ensures turns { OnOk result (TakesTurns turns disk.old disk.new) }
+    ensures turns { TurnsBy result turns disk.old disk.new }
     ensures cause { IfErr result (DiskCause disk.new) }
     // Whatever it answers, a drive that could be mounted still can be.
     ensures keeps { KeepsServed disk.old disk.new }
@@ -112,10 +113,11 @@ pub(crate) fn answer_request<D: Device + Drop>(
     ensures cause { IfErr result (HasCause (EndCause disk.new)) }
     ensures full { IfErr result (λ fault. fault ≡ Memory →
         IsFull (vec_capacity reply.new) (vec_len reply.new) (vec_len block.new)) }
-    // Done, the turns were taken, and a write was one write. A drive that could be mounted still can be.
-    ensures keeps { OnOk result
-        (KeepsRequest (asked disk.old.drive.geometry.block line bytes.now) disk.old disk.new) }
+    // Done, the line did what it says. A drive that could be mounted still can be.
+    ensures does { OnOk result (Does line bytes.now (Ok tt) disk.old disk.new) }
     ensures leaves { IfErr result (λ fault. KeepsFault fault disk.old disk.new) }
+    // Refused, it takes no more commands than one that is done, and the clean that ran is not thrown back.
+    ensures stops { IfErr result (λ fault. StopsBy fault line bytes.now disk.old disk.new) }
 {
     match line {
         TraceLine::Read { first, blocks } => read_blocks(disk, first, blocks, block, reply),

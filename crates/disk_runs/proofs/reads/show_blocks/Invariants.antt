@@ -3,10 +3,10 @@ use Rattle.disk_files.specs.Reply.{block_lines}
 use Rattle.zone_translator.specs.Flat.{blocks_from}
 use Rattle.zone_translator.specs.View.{disk_array, flat_of}
 use Rattle.zone_translator.specs.declared.status.DiskStatus.TheVariants.{Serving}
-use Rattle.disk_runs.specs.Trace.{KeepsServed}
+use Rattle.disk_runs.specs.Trace.{KeepsServed, ReadsFew}
 use Rattle.disk_runs.proofs.reads.show_blocks.Given as goal
 
 abbrev pub invariant-loop-i : goal.invariant-loop-i
 invariant-loop-i g l =
-    (flat_of l.disk ≡ flat_of l.fn.disk) × (0 < l.i → l.fn.disk.status ≡ Serving) × KeepsServed l.fn.disk l.disk
+    (flat_of l.disk ≡ flat_of l.fn.disk) × (0 < l.i → l.fn.disk.status ≡ Serving) × KeepsServed l.fn.disk l.disk × ReadsFew l.i l.fn.disk l.disk
     × (l.reply.items ≡ l.fn.reply.items ++ block_lines l.first (blocks_from (disk_array l.fn.disk) l.first l.i))

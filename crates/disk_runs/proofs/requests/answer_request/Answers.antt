@@ -1,9 +1,8 @@
-use Rattle.std.proofs.Common.{refl}
-use Rattle.std.specs.Prelude.{replicate}
-use Rattle.batch_log.specs.Log.{zero_block}
+use Rattle.std.proofs.Common.{false, refl, true}
+use Rattle.disk_files.specs.declared.trace_line.TraceLine.TheVariants.{Fill, Grow, Idle, Trim, Write}
 use Rattle.zone_translator.specs.View.{flat_of}
 use Rattle.disk_runs.specs.FlatLines.{turns}
-use Rattle.disk_runs.proofs.RequestLaws.{always, keeps_bytes, keeps_copies, never_memory, on-ok, told, turns_told}
+use Rattle.disk_runs.proofs.RequestLaws.{growth_done, grows_once, never_memory, on-ok, read_stops, remount_stops, stops_by, told, turns_told, write_done, writes_once}
 use Rattle.disk_runs.proofs.requests.answer_request.Goals as goal
 
 pub returns-in-Idle-clause-ok : goal.returns-in-Idle-clause-ok
@@ -11,26 +10,74 @@ returns-in-Idle-clause-ok g c =
     rw c.in-Idle.is
     (on-ok c.tell-in-Idle.result (λ is. told (flat_of c.args.disk.now) (flat_of c.clean.new.disk) (turns c.in-Idle.turns) c.clean.result c.tell-in-Idle.new.reply.items (refl, c.clean.ensures.flat) is) c.tell-in-Idle.ensures.ok)
 
-pub returns-in-Idle-clause-keeps : goal.returns-in-Idle-clause-keeps
-returns-in-Idle-clause-keeps g c =
+pub returns-in-Idle-clause-does : goal.returns-in-Idle-clause-does
+returns-in-Idle-clause-does g c =
     rw c.in-Idle.is
     (on-ok c.tell-in-Idle.result (λ turns. (c.clean.ensures.keeps, turns))
-    (turns_told _ c.in-Idle.turns (flat_of c.args.disk.now) (flat_of c.clean.new.disk) c.clean.result c.tell-in-Idle.result c.tell-in-Idle.new.reply.items c.clean.ensures.flat c.tell-in-Idle.ensures.ok c.clean.ensures.turns))
+    (turns_told c.in-Idle.turns c.args.disk.now c.clean.new.disk c.clean.result c.tell-in-Idle.result c.tell-in-Idle.new.reply.items c.clean.ensures.flat c.tell-in-Idle.ensures.ok c.clean.ensures.turns))
+
+pub returns-in-Idle-clause-stops : goal.returns-in-Idle-clause-stops
+returns-in-Idle-clause-stops g c =
+    rw c.in-Idle.is (stops_by (Idle c.in-Idle.turns) c.args.bytes.now c.args.disk.now c.clean.new.disk c.clean.result c.tell-in-Idle.result c.tell-in-Idle.ensures.err (c.clean.ensures.keeps, c.clean.ensures.turns))
 
 pub returns-in-Remount-clause-full : goal.returns-in-Remount-clause-full
 returns-in-Remount-clause-full g c = never_memory c.mount_again.result _ c.mount_again.ensures.no_memory
 
-pub returns-in-Fill-clause-keeps : goal.returns-in-Fill-clause-keeps
-returns-in-Fill-clause-keeps g c =
+pub returns-in-Remount-clause-stops : goal.returns-in-Remount-clause-stops
+returns-in-Remount-clause-stops g c =
+    rw c.in-Remount.is (remount_stops c.args.bytes.now c.args.disk.now c.mount_again.new.disk c.mount_again.result c.mount_again.ensures.no_memory)
+
+pub returns-in-Read-clause-stops : goal.returns-in-Read-clause-stops
+returns-in-Read-clause-stops g c =
+    let read = c.read_blocks.ensures in
+    rw c.in-Read.is (read_stops c.in-Read.first c.in-Read.blocks c.args.bytes.now c.args.disk.now c.read_blocks.new.disk c.read_blocks.result read.keeps read.costs read.few)
+
+pub returns-in-Fill-clause-does : goal.returns-in-Fill-clause-does
+returns-in-Fill-clause-does g c =
+    let fill = c.fill.ensures in
+    rw c.in-Fill.is (writes_once _ false c.in-Fill.first c.in-Fill.blocks c.args.disk.now c.fill.new.self c.fill.result c.tell.result _ fill.answers fill.stores fill.costs c.tell.ensures.ok)
+
+pub returns-in-Fill-clause-stops : goal.returns-in-Fill-clause-stops
+returns-in-Fill-clause-stops g c =
+    let fill = c.fill.ensures in
     rw c.in-Fill.is
-    (always c.tell.result (keeps_copies (replicate c.args.disk.now.drive.geometry.block c.in-Fill.byte) c.in-Fill.first c.in-Fill.blocks c.args.disk.now c.fill.new.self c.fill.ensures.answers.kept c.fill.ensures.stores.cut))
+    (stops_by (Fill c.in-Fill.first c.in-Fill.blocks c.in-Fill.byte) c.args.bytes.now c.args.disk.now c.fill.new.self c.fill.result c.tell.result c.tell.ensures.err
+    (write_done _ false c.in-Fill.first c.in-Fill.blocks c.args.disk.now c.fill.new.self c.fill.result fill.answers fill.stores fill.costs))
 
-pub returns-in-Trim-clause-keeps : goal.returns-in-Trim-clause-keeps
-returns-in-Trim-clause-keeps g c =
+pub returns-in-Trim-clause-does : goal.returns-in-Trim-clause-does
+returns-in-Trim-clause-does g c =
+    let trim = c.trim.ensures in
+    rw c.in-Trim.is (writes_once _ true c.in-Trim.first c.in-Trim.blocks c.args.disk.now c.trim.new.self c.trim.result c.tell-in-Trim.result _ trim.answers trim.stores trim.costs c.tell-in-Trim.ensures.ok)
+
+pub returns-in-Trim-clause-stops : goal.returns-in-Trim-clause-stops
+returns-in-Trim-clause-stops g c =
+    let trim = c.trim.ensures in
     rw c.in-Trim.is
-    (always c.tell-in-Trim.result (keeps_copies (zero_block c.args.disk.now.drive.geometry.block) c.in-Trim.first c.in-Trim.blocks c.args.disk.now c.trim.new.self c.trim.ensures.answers.kept c.trim.ensures.stores.cut))
+    (stops_by (Trim c.in-Trim.first c.in-Trim.blocks) c.args.bytes.now c.args.disk.now c.trim.new.self c.trim.result c.tell-in-Trim.result c.tell-in-Trim.ensures.err
+    (write_done _ true c.in-Trim.first c.in-Trim.blocks c.args.disk.now c.trim.new.self c.trim.result trim.answers trim.stores trim.costs))
 
-pub returns-in-Write-clause-keeps : goal.returns-in-Write-clause-keeps
-returns-in-Write-clause-keeps g c =
+pub returns-in-Write-clause-does : goal.returns-in-Write-clause-does
+returns-in-Write-clause-does g c =
+    let write = c.write.ensures in
+    rw c.in-Write.is (writes_once _ false c.in-Write.first _ c.args.disk.now c.write.new.self c.write.result c.tell-in-Write.result _ write.answers write.stores write.costs c.tell-in-Write.ensures.ok)
+
+pub returns-in-Write-clause-stops : goal.returns-in-Write-clause-stops
+returns-in-Write-clause-stops g c =
+    let write = c.write.ensures in
     rw c.in-Write.is
-    (always c.tell-in-Write.result (keeps_bytes c.args.disk.now.drive.geometry.block c.in-Write.first c.args.bytes.now c.args.disk.now c.write.new.self c.write.ensures.answers.kept c.write.ensures.stores.cut))
+    (stops_by (Write c.in-Write.first) c.args.bytes.now c.args.disk.now c.write.new.self c.write.result c.tell-in-Write.result c.tell-in-Write.ensures.err
+    (write_done _ false c.in-Write.first _ c.args.disk.now c.write.new.self c.write.result write.answers write.stores write.costs))
+
+pub returns-in-Grow-clause-does : goal.returns-in-Grow-clause-does
+returns-in-Grow-clause-does g c =
+    let grow = c.grow.ensures in
+    rw c.in-Grow.is
+    (grows_once c.in-Grow.blocks c.args.disk.now c.grow.new.self c.grow.result c.tell-in-Grow.result _
+    (growth_done c.in-Grow.blocks c.args.disk.now c.grow.new.self c.grow.result grow.answers grow.says grow.turns grow.clean grow.completed) grow.answers.flat c.tell-in-Grow.ensures.ok)
+
+pub returns-in-Grow-clause-stops : goal.returns-in-Grow-clause-stops
+returns-in-Grow-clause-stops g c =
+    let grow = c.grow.ensures in
+    rw c.in-Grow.is
+    (stops_by (Grow c.in-Grow.blocks) c.args.bytes.now c.args.disk.now c.grow.new.self c.grow.result c.tell-in-Grow.result c.tell-in-Grow.ensures.err
+    (growth_done c.in-Grow.blocks c.args.disk.now c.grow.new.self c.grow.result grow.answers grow.says grow.turns grow.clean grow.completed))

@@ -1,0 +1,180 @@
+-- Whatever lines are answered, a run makes progress.
+use Rattle.std.proofs.Common.{◌≡◌, ◌⊎◌, ℕ, zero, suc, ◌+◌, ◌*◌, ◌<◌, ◌≤◌, Bool, true, false, List, [], ◌∷◌, Option, Some, None, is_some, Ok, Err, inl, inr, refl, ap, ◌∙◌, arith}
+use Rattle.std.specs.Prelude.{Result}
+use Rattle.zone_states.specs.declared.geometry.Geometry.{Geometry}
+use Rattle.disk_files.specs.declared.trace_line.TraceLine.{TraceLine}
+use Rattle.disk_files.specs.declared.trace_line.TraceLine.TheVariants.{Read, Fill, Write, Trim, Idle, Grow, Remount}
+use Rattle.zone_cleaner.specs.Clean.{CleanView}
+use Rattle.zone_translator.specs.View.{CompletesAtMost, DiskView, disk_turns}
+use Rattle.zone_translator.specs.declared.fault.DiskFault.{DiskFault}
+use Rattle.disk_runs.specs.Laws.{CleansEnd, CommandsAreFew, LastIsFew, Pauses, PausesAmong, PausesAt, TurnsAreFew, all_commands, all_turns, most_commands, mounts, turns_asked}
+use Rattle.disk_runs.specs.Run.{AnswersAll}
+use Rattle.disk_runs.specs.Trace.{Does, DoesSaid, StopsSaid, TakesFewer, TakesOne, TakesTurns, TurnsBy, disk_lines, said_by}
+use Rattle.disk_runs.specs.declared.fault.RunFault.TheVariants as runs
+use Rattle.disk_runs.specs.declared.fault.RunFault.TheVariants.{Disk, Mount, Output, Memory}
+
+-- ---- commands
+
+turns_cost : (n : ℕ) (old new : DiskView) → TakesTurns n old new → CompletesAtMost old (2 * n) new
+turns_cost zero old new same = rw same (omega arith)
+turns_cost (suc n) old new taken = omega (arith, taken.1.completed, turns_cost n taken.0 new taken.2)
+
+turns_keep : (n : ℕ) (old new : DiskView) → TakesTurns n old new → new.drive.geometry ≡ old.drive.geometry
+turns_keep zero old new same = ap (λ (d : DiskView). d.drive.geometry) same
+turns_keep (suc n) old new taken = turns_keep n taken.0 new taken.2 ∙ taken.1.served.geometry
+
+-- of which one is refused
+fewer_cost : (n : ℕ) (fault : DiskFault) (old new : DiskView) → TakesFewer n fault old new → CompletesAtMost old (2 * n) new
+fewer_cost n fault old new taken = omega (arith, taken.few, taken.completed, turns_cost taken.done old taken.middle taken.before)
+
+by_cost : (result : Result (Unit {0}) DiskFault) (n : ℕ) (old new : DiskView) → TurnsBy result n old new → CompletesAtMost old (2 * n) new
+by_cost (Ok done) n old new taken = turns_cost n old new taken
+by_cost (Err fault) n old new taken = fewer_cost n fault old new taken
+
+-- what a line does, done or refused, that does not mount the drive again
+does_few : (line : TraceLine) (bytes : List ℕ) (result : Result (Unit {0}) DiskFault) (old new : DiskView) → mounts (Some (line, bytes)) ≡ false → Does line bytes result old new
+    → CompletesAtMost old (most_commands old.drive.geometry (Some (line, bytes))) new
+does_few (Read first n) bytes result old new none does = does.1.completed
+does_few (Fill first n byte) bytes result old new none does = does.costs.completed
+does_few (Write first) bytes result old new none does = does.costs.completed
+does_few (Trim first n) bytes result old new none does = does.costs.completed
+does_few (Idle n) bytes result old new none does = by_cost result n old new does.1
+does_few (Grow size) bytes result old new none does = does.completed
+does_few Remount bytes result old new none does = absurd (cc)
+
+does_keep : (line : TraceLine) (bytes : List ℕ) (old new : DiskView) → Does line bytes (Ok tt) old new → new.drive.geometry ≡ old.drive.geometry
+does_keep (Read first n) bytes old new does = does.0.geometry
+does_keep (Fill first n byte) bytes old new does = does.served.geometry
+does_keep (Write first) bytes old new does = does.served.geometry
+does_keep (Trim first n) bytes old new does = does.served.geometry
+does_keep (Idle n) bytes old new does = does.0.geometry
+does_keep (Grow size) bytes old new does = does.served.geometry
+does_keep Remount bytes old new does = does.kept.geometry
+
+said_few : (said : Option (TraceLine × List ℕ)) (old new : DiskView) → mounts said ≡ false → DoesSaid said old new → CompletesAtMost old (most_commands old.drive.geometry said) new
+said_few None old new none does = rw does (omega arith)
+said_few (Some (line, bytes)) old new none does = does_few line bytes (Ok tt) old new none does
+
+said_keep : (said : Option (TraceLine × List ℕ)) (old new : DiskView) → DoesSaid said old new → new.drive.geometry ≡ old.drive.geometry
+said_keep None old new does = ap (λ (d : DiskView). d.drive.geometry) does
+said_keep (Some (line, bytes)) old new does = does_keep line bytes old new does
+
+pub commands_are_few : CommandsAreFew
+commands_are_few only_reads old new [] text all none = rw all.1 (omega arith)
+commands_are_few only_reads old new (line ∷ lines) text all none =
+    let first = said_few (said_by line) old all.middle none.0 all.answers.does in
+    let same : all.middle.drive.geometry ≡ old.drive.geometry = said_keep (said_by line) old all.middle all.answers.does in
+    let rest = commands_are_few only_reads all.middle new lines all.after all.rest none.1 in
+    let after : CompletesAtMost all.middle (all_commands old.drive.geometry lines) new = rw same at rest in
+    omega (arith, first, after)
+
+-- ---- the line that ends a run
+
+refused_few : (said : Option (TraceLine × List ℕ)) (fault : DiskFault) (old new : DiskView) → mounts said ≡ false → StopsSaid said (Disk fault) old new → CompletesAtMost old (most_commands old.drive.geometry said) new
+refused_few None fault old new none stops = absurd stops
+refused_few (Some (line, bytes)) fault old new none stops = does_few line bytes (Err fault) old new none stops
+
+pub last_is_few : LastIsFew
+last_is_few only_reads Output left number old shown new s = λ none. said_few (said_by s.line) old new none s.does.answers.does
+last_is_few only_reads (Disk fault) left number old shown new s = λ none. refused_few (said_by s.1.line) fault old new none s.1.does.does
+last_is_few only_reads (Mount fault) left number old shown new s = tt
+last_is_few only_reads Memory left number old shown new s = s.1.reads.completed
+last_is_few only_reads (runs.Line m) left number old shown new s = rw s.3 (omega arith)
+last_is_few only_reads (runs.Long m) left number old shown new s = rw s.3 (omega arith)
+last_is_few only_reads runs.Input left number old shown new s = rw s.1 (omega arith)
+last_is_few only_reads (runs.Geometry fault) left number old shown new s = absurd s.1.does.cause
+
+-- ---- turns
+
+-- as many are left as none, if no clean runs
+no_turns : (disk : DiskView) → disk.clean ≡ None → disk_turns disk ≡ 0
+no_turns disk none = rw none refl
+
+-- a turn leaves fewer, or fewer than a zone has blocks
+one_few : (old new : DiskView) → TakesOne old new → disk_turns old < old.drive.geometry.capacity → disk_turns new < new.drive.geometry.capacity
+one_few old new one few = by (is_some old.clean) refl
+  where
+    by : (runs : Bool) → is_some old.clean ≡ runs → disk_turns new < new.drive.geometry.capacity
+    by true e = let fewer = one.turns.fewer e in rw one.served.geometry (omega (arith, fewer, few))
+    by false e = let bound = one.turns.bound e in rw one.served.geometry (omega (arith, bound))
+
+turns_few : (n : ℕ) (old new : DiskView) → TakesTurns n old new → disk_turns old < old.drive.geometry.capacity → disk_turns new < new.drive.geometry.capacity
+turns_few zero old new same few = rw same few
+turns_few (suc n) old new taken few = turns_few n taken.0 new taken.2 (one_few old taken.0 taken.1 few)
+
+-- no more turns are left after a line that takes none
+host_few : (old new : DiskView) → new.drive.geometry ≡ old.drive.geometry → disk_turns new ≤ disk_turns old → disk_turns old < old.drive.geometry.capacity → disk_turns new < new.drive.geometry.capacity
+host_few old new same fewer few =
+    let capacity : new.drive.geometry.capacity ≡ old.drive.geometry.capacity = ap (λ (g : Geometry). g.capacity) same in
+    omega (arith, fewer, few, capacity)
+
+does_turns : (line : TraceLine) (bytes : List ℕ) (old new : DiskView) → Does line bytes (Ok tt) old new → disk_turns old < old.drive.geometry.capacity → disk_turns new < new.drive.geometry.capacity
+does_turns (Read first n) bytes old new does few = host_few old new does.0.geometry (omega (arith, does.1.turns)) few
+does_turns (Fill first n byte) bytes old new does few = host_few old new does.served.geometry does.costs.turns few
+does_turns (Write first) bytes old new does few = host_few old new does.served.geometry does.costs.turns few
+does_turns (Trim first n) bytes old new does few = host_few old new does.served.geometry does.costs.turns few
+does_turns (Idle n) bytes old new does few = turns_few n old new does.1 few
+does_turns (Grow size) bytes old new does few = host_few old new does.served.geometry does.turns few
+does_turns Remount bytes old new does few = host_few old new does.kept.geometry (omega (arith, no_turns new does.disk.clean)) few
+
+said_turns : (said : Option (TraceLine × List ℕ)) (old new : DiskView) → DoesSaid said old new → disk_turns old < old.drive.geometry.capacity → disk_turns new < new.drive.geometry.capacity
+said_turns None old new does few = rw does few
+said_turns (Some (line, bytes)) old new does few = does_turns line bytes old new does few
+
+all_few : (only_reads : Bool) (old new : DiskView) (lines : List (List ℕ)) (text : List ℕ) → AnswersAll (disk_lines only_reads) old lines text new → disk_turns old < old.drive.geometry.capacity → disk_turns new < new.drive.geometry.capacity
+all_few only_reads old new [] text all few = rw all.1 few
+all_few only_reads old new (line ∷ lines) text all few = all_few only_reads all.middle new lines all.after all.rest (said_turns (said_by line) old all.middle all.answers.does few)
+
+pub turns_are_few : TurnsAreFew
+turns_are_few only_reads drive n first new lines text mounted kept all =
+    let none = no_turns first mounted.clean in
+    let capacity : first.drive.geometry.capacity ≡ drive.geometry.capacity = ap (λ (g : Geometry). g.capacity) kept.geometry in
+    all_few only_reads first new lines text all (omega (arith, none, capacity, mounted.can.geometry.capacity.0))
+
+-- ---- how a clean ends
+
+no_clean : (clean : Option CleanView) → is_some clean ≡ false → clean ≡ None
+no_clean None none = refl
+no_clean (Some clean) none = absurd (cc none)
+
+-- before a turn no clean runs, or each turn leaves fewer
+pauses : (n : ℕ) (old new : DiskView) (taken : TakesTurns n old new) → PausesAmong n old new taken ⊎ (disk_turns new + n ≤ disk_turns old)
+pauses zero old new same = inr (rw same (omega arith))
+pauses (suc n) old new taken = by (is_some old.clean) refl (pauses n taken.0 new taken.2)
+  where
+    later : PausesAmong n taken.0 new taken.2 ⊎ (disk_turns new + n ≤ disk_turns taken.0) → disk_turns taken.0 < disk_turns old → PausesAmong (suc n) old new taken ⊎ (disk_turns new + suc n ≤ disk_turns old)
+    later (inl p) fewer = inl (inr p)
+    later (inr le) fewer = inr (omega (arith, le, fewer))
+
+    by : (runs : Bool) → is_some old.clean ≡ runs → PausesAmong n taken.0 new taken.2 ⊎ (disk_turns new + n ≤ disk_turns taken.0) → PausesAmong (suc n) old new taken ⊎ (disk_turns new + suc n ≤ disk_turns old)
+    by false e rest = inl (inl (no_clean old.clean e))
+    by true e rest = later rest (rw taken.1.served.geometry (taken.1.turns.fewer e))
+
+-- the same of what a line does
+said_pause : (said : Option (TraceLine × List ℕ)) (old new : DiskView) (does : DoesSaid said old new) → PausesAt said old new does ⊎ (disk_turns new + turns_asked said ≤ disk_turns old)
+said_pause None old new does = inr (rw does (omega arith))
+said_pause (Some (Read first n, bytes)) old new does = inr (omega (arith, does.1.turns))
+said_pause (Some (Fill first n byte, bytes)) old new does = inr (omega (arith, does.costs.turns))
+said_pause (Some (Write first, bytes)) old new does = inr (omega (arith, does.costs.turns))
+said_pause (Some (Trim first n, bytes)) old new does = inr (omega (arith, does.costs.turns))
+said_pause (Some (Idle n, bytes)) old new does = pauses n old new does.1
+said_pause (Some (Grow size, bytes)) old new does = inr (omega (arith, does.turns))
+said_pause (Some (Remount, bytes)) old new does = inr (omega (arith, no_turns new does.disk.clean))
+
+-- of a disk that has none left no clean runs
+none_runs : (disk : DiskView) → disk_turns disk ≤ 0 → disk.clean ≡ None
+none_runs disk few = by disk.clean refl
+  where
+    by : (clean : Option CleanView) → disk.clean ≡ clean → disk.clean ≡ None
+    by None e = e
+    by (Some clean) e = let bad = rw e at few in absurd (omega (arith, bad))
+
+pub cleans_end : CleansEnd
+cleans_end only_reads old new [] text all few = none_runs old few
+cleans_end only_reads old new (line ∷ lines) text all few =
+    by (said_pause (said_by line) old all.middle all.answers.does) (cleans_end only_reads all.middle new lines all.after all.rest)
+  where
+    by : PausesAt (said_by line) old all.middle all.answers.does ⊎ (disk_turns all.middle + turns_asked (said_by line) ≤ disk_turns old)
+        → (disk_turns all.middle ≤ all_turns lines → Pauses only_reads all.middle lines all.after new all.rest) → Pauses only_reads old (line ∷ lines) text new all
+    by (inl p) rest = inl p
+    by (inr le) rest = inr (rest (omega (arith, le, few)))
