@@ -70,3 +70,13 @@ abbrev pub counts_after : Counts → List ℕ → List ℕ → List ℕ → Coun
 counts_after counts entry bytes completion =
     let counted = with_command counts (decode_of entry) in
     if code_in completion == 0 then counting_data counted (decode_of entry) bytes else counted
+
+-- ---- a tally
+
+-- how many commands were counted
+abbrev pub commands_of : Counts → ℕ
+commands_of counts = counts.appends + counts.reads + counts.closes + counts.finishes + counts.resets + counts.reports + counts.others
+
+-- the drive within, as if it had completed the commands that were counted, and no other
+abbrev pub tallied : Counting → DriveState
+tallied tally = record tally.inner { completed = commands_of tally.counts }

@@ -7,11 +7,17 @@
 //! let counts = counter.counts();
 //! let device = counter.into_inner();
 //! let text = statistics_text(alloc, &counts, &Spread::of(&mut live))?;
+//!
+//! let mut tally = Tally::new(device);       // tally.completed() is 0
+//! // commands to the tally ..
+//! let counts = tally.counts();              // as many as tally.completed()
 //! ```
 //!
 //! What is promised: a `Counter` does what every device promises, and its counts rise with each completed
 //! command as `counts_after` in specs/Counting says. No command is sent for them. A count that would pass `u64::MAX`
 //! stays there. The text is in specs/StatisticsText.
+//! A `Tally` counts in the same way, and has completed exactly the commands that it counted (`tallied`). So a call that
+//! knows no more than a device can tell how many were counted: as many as were completed.
 //!
 //! Tests: the command lines with `--statistics` in `call_tests`.
 #![tactic(auto)]
@@ -19,9 +25,11 @@
 mod counter;
 mod counts;
 mod spread;
+mod tally;
 mod text;
 
 pub use counter::Counter;
 pub use counts::Counts;
 pub use spread::Spread;
+pub use tally::Tally;
 pub use text::statistics_text;

@@ -1,16 +1,15 @@
 -- Live records are counted by their places.
-use Rattle.std.proofs.Common.{◌≡◌, ℕ, ◌+◌, ◌<◌, ◌≤◌, cond, List, [], ◌∷◌, ◌++◌, drop, length, get_or, drop-cons, Some, None, refl, sym, ap, subst, ◌∙◌, add-one, arith}
+use Rattle.std.proofs.Common.{◌≡◌, ℕ, ◌+◌, ◌<◌, ◌≤◌, List, [], ◌∷◌, ◌++◌, drop, length, Some, None, refl, sym, ap, subst, ◌∙◌, arith}
 use Rattle.std.specs.List.{count_by}
 use Rattle.std.proofs.lemmas.List.{length-append}
 use Rattle.logical_map.specs.Live.{blocks_in, first_record}
 use Rattle.logical_map.specs.declared.place.Place.{Place}
 use Rattle.logical_map.specs.declared.place.Place.TheVariants as places
-use Rattle.drive_array.proofs.AllLaws.{count-cons}
 use Rattle.zone_choice.specs.Tables.{TablesView, size_of}
 use Rattle.remount.specs.Torn.{data_count_at, data_in, is_data_place}
 use Rattle.remount.proofs.TornLaws.{LiveSoFar, live-end, live-next, live-none}
 use Rattle.drive_info.specs.declared.info.LiveCount.{LiveCount}
-use Rattle.drive_info.specs.Found.{is_trim_place, counting_place, counting_record}
+use Rattle.drive_info.specs.Found.{is_trim_place, counting_record}
 
 -- ---- the records of a zone
 

@@ -1,5 +1,5 @@
 -- What is found of a drive that is looked at.
-use Rattle.std.proofs.Common.{◌≡◌, ◌≢◌, inl, inr, ℕ, List, sym, subst, ◌∙◌}
+use Rattle.std.proofs.Common.{◌≡◌, ◌≢◌, ◌^◌, inl, inr, ℕ, List, sym, subst, ◌∙◌, arith}
 use Rattle.std.specs.Prelude.{IfErr, IfOk, Result, Ok, Err}
 use Rattle.zone_states.specs.declared.geometry.Geometry.{Geometry}
 use Rattle.zone_states.specs.Geometry.{IsInRange}
@@ -98,3 +98,21 @@ reported-before old new zones k were range =
 pub rehearsed-so : (old new : DriveState) (n : ℕ) (mounted : Result Rehearsal MountFault) → IfOk mounted (Rehearses old new n) → IfErr mounted (FailsBy (MountFails old n) new) → IsRehearsed old new n mounted
 rehearsed-so old new n (Ok rehearsal) is fails = is
 rehearsed-so old new n (Err fault) is fails = fails
+
+-- a drive as if it had completed no command: its zones are kept
+pub keeps-uncounted : (old new : DriveState) → KeepsZones old new → KeepsZones old (record new { completed = 0 })
+keeps-uncounted old new k = record {
+  geometry = k.geometry;
+  lawful = record {
+    geometry = k.lawful.geometry;
+    count = k.lawful.count;
+    zones = k.lawful.zones;
+    active = k.lawful.active;
+    open_zones = k.lawful.open_zones;
+    completed = omega arith;
+    stopped = λ (all : 0 ≡ 2 ^ 63). absurd (omega arith);
+  };
+  closing = k.closing;
+  refused = k.refused;
+  appended = k.appended;
+}

@@ -15,6 +15,7 @@ use Rattle.drive_array.specs.Sizes.{encoded_size, greatest}
 use Rattle.drive_array.specs.Spare.{IsClearing, IsVacant, cleared}
 use Rattle.drive_array.specs.ZoneLogs.{drive_logs, log_at, sequences, zone_tails}
 use Rattle.zone_choice.specs.Tables.{TablesView}
+use Rattle.drive_counter.specs.Counting.{commands_of}
 use Rattle.drive_survey.specs.declared.fault.MountFault.{MountFault}
 use Rattle.drive_survey.specs.declared.reported.ReportedZone.{ReportedZone}
 use Rattle.drive_survey.specs.Heads.{greatest_sequence}
@@ -145,13 +146,14 @@ abbrev pub IsRehearsed : DriveState → DriveState → ℕ → Result Rehearsal 
 IsRehearsed old new n (Ok rehearsal) = Rehearses old new n rehearsal
 IsRehearsed old new n (Err fault) = FailsBy (MountFails old n) new fault
 
--- The drive was looked at, and then mounted.
+-- The drive was looked at, and then mounted. As many commands were counted as that mount completed.
 pub record IsInspected (drive : DriveState) (n : ℕ) (inspected : InspectedDrive) : Type 0 where
   pub info : IsDriveInfo drive n inspected.info
   pub seen : DriveState
   pub keeps : KeepsZones drive seen
   pub last : DriveState
   pub mounted : IsRehearsed seen last n inspected.mounted
+  pub counted : commands_of inspected.counts ≡ last.completed - seen.completed
 
 -- the look was given up: memory ran out, or the drive has stopped
 pub record IsGivenUp (drive : DriveState) (fault : MountFault) : Type 0 where

@@ -17,8 +17,9 @@
 //!   which zones are torn. A trim is no live data.
 //! * The zones that a mount resets, and the one that it repairs by so many Moves, are told exactly (`Foretells`).
 //! * A rehearsal mounts the drive. It tells how many commands that takes, and for how many batches of the host
-//!   sequences are left (`Rehearses`). How many commands are of which kind is tested.
-//! * `inspect_and_rehearse` does both (`IsInspected`), and drops the drive.
+//!   sequences are left (`Rehearses`).
+//! * `inspect_and_rehearse` does both (`IsInspected`), and drops the drive. The commands that it counts are as many as
+//!   the mount completes, whether it is done or refused. How many are of which kind is tested.
 //! * An inspection refuses no command and appends nothing. The zones are as before, but that the controller may have
 //!   closed some (`KeepsZones` in drive_survey/specs/Reported).
 //!

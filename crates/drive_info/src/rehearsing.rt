@@ -9,7 +9,7 @@ ghost use Rattle.drive_info.specs.Info.{IsInspected, IsGivenUp, Rehearses, batch
 
 use crate::info::{DriveInfo, InspectedDrive, Rehearsal};
 use crate::inspecting::inspect_drive;
-use drive_counter::Counter;
+use drive_counter::Tally;
 use drive_port::Device;
 use drive_survey::MountFault;
 use remount::mount;
@@ -45,7 +45,7 @@ pub fn rehearse_mount<D: Device>(
     })
 }
 
-/// Looks at a drive, and then rehearses a mount of it. The drive is dropped.
+/// Looks at a drive, and then rehearses a mount of it, whose commands are counted. The drive is dropped.
 pub fn inspect_and_rehearse<D: Device + Drop>(
     alloc: Global,
     device: D,
@@ -56,14 +56,15 @@ pub fn inspect_and_rehearse<D: Device + Drop>(
 {
     let mut device = device;
     let info = inspect_drive(alloc, &mut device, given)?;
-    let mut counter = Counter::new(device);
-    let mounted = rehearse_mount(alloc, &mut counter, given);
+    let mut tally = Tally::new(device);
+    let mounted = rehearse_mount(alloc, &mut tally, given);
+    let counts = tally.counts();
     if let Err(MountFault::OutOfMemory) = mounted {
         return Err(MountFault::OutOfMemory);
     }
     Ok(InspectedDrive {
         info,
         mounted,
-        counts: counter.counts(),
+        counts,
     })
 }

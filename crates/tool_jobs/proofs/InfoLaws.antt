@@ -7,7 +7,7 @@ use Rattle.zone_drive.specs.declared.habit.Habit.{Habit}
 use Rattle.drive_array.specs.Reserve.{most_size}
 use Rattle.drive_info.specs.Info.{IsInspected}
 use Rattle.drive_info.specs.declared.info.InspectedDrive.{InspectedDrive}
-use Rattle.drive_store.specs.Kept.{IsReadIn, IsRestarted}
+use Rattle.drive_store.specs.Kept.{IsRestarted}
 use Rattle.drive_store.specs.declared.kept_drive.Begun.{Begun}
 use Rattle.tool_jobs.specs.Telling.{Bytes}
 use Rattle.tool_jobs.specs.Infos.{FindsInfo}

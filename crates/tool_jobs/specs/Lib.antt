@@ -5,3 +5,4 @@ pub mod Plans
 pub mod Zones
 pub mod Entries
 pub mod Pictures
+pub mod Asked

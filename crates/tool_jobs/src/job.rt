@@ -1,3 +1,6 @@
+ghost use Rattle.std.specs.Prelude.{◌≡◌, IfNone, IfSome, None, Some};
+ghost use Rattle.tool_jobs.specs.Asked.{image_asked};
+
 use crate::checking::CheckForm;
 use crate::informing::InfoForm;
 use crate::planning::PlanForm;
@@ -66,7 +69,10 @@ pub enum ToolJob {
 
 impl ToolJob {
     /// The path of the file, if the job reads one.
-    pub fn image(&self) -> Option<&str> {
+    pub fn image(&self) -> Option<&str>
+        ensures path { IfSome result (λ path. image_asked self.now ≡ Some path.now) }
+        ensures none { IfNone result (image_asked self.now ≡ None) }
+    {
         match self {
             ToolJob::Check(job) => Some(job.image.as_str()),
             ToolJob::Info(job) => Some(job.image.as_str()),

@@ -7,8 +7,8 @@
 //! }
 //! ```
 //!
-//! A [`ToolJob`] says what is asked (`command_line` reads it). [`do_tool_job`] opens the file, locks it as a reader,
-//! and does the job by one of these. [`tool_note`] says what else is to be known.
+//! A [`ToolJob`] says what is asked (`command_line` reads it). [`do_tool_job`] opens the file, and locks it as a
+//! reader. [`answer_tool`] does the job over its bytes, by one of these. [`tool_note`] says what else is to be known.
 //!
 //! * [`answer_check`]: all faults of a drive, and whether a mount would be done.
 //! * [`answer_info`]: what a drive holds, and what a mount takes.
@@ -24,6 +24,8 @@
 //!   a beginning of it where the writer fails (`specs/Telling.antt`). Before another fault nothing is written.
 //! * What was found is what `drive_check`, `drive_info` and `write_plan` define, for the drive that the bytes hold:
 //!   [`answer_check`] finds all of its faults, and says that it can be mounted exactly where nothing refuses it.
+//! * Each job is done by its own call, with what it says (`specs/Asked.antt`). Only a check may say that not all is
+//!   well.
 //! * A fault of the file is the first fault in its bytes.
 //! * The lines of the zones in a state are those of a report of that state. What the other forms say is tested.
 //! * A picture is given the live blocks of each zone (`specs/Pictures.antt`). That it draws them is tested.
@@ -31,6 +33,7 @@
 //! Nothing is promised of [`do_tool_job`], since no contract says what a file holds.
 #![tactic(auto)]
 
+mod answering;
 mod checking;
 mod entries;
 mod explanation;
@@ -45,6 +48,7 @@ mod planning;
 mod showing;
 mod telling;
 
+pub use answering::answer_tool;
 pub use checking::{CheckForm, answer_check};
 pub use entries::answer_entry;
 pub use explanation::explain;
