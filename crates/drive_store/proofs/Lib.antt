@@ -1,1 +1,2 @@
+mod BackingLaws
 pub mod KeptLaws

@@ -1,11 +1,15 @@
 // The file of a drive, shared by what appends changes to it and what waits until it has them.
 
+ghost use Rattle.std.specs.Prelude.{◌≡◌, IfOk};
+
+use crate::changes_output::SentAfter;
 use crate::changes_store::ChangesStore;
 use crate::file_end::FileEnd;
 use crate::file_fault::{FileFault, SystemError};
-use crate::gathered_file::GatheredFile;
+use crate::gathered_file::{GatheredFile, Reached};
 use crate::image_file::ImageFile;
 use crate::input_gate::Gate;
+use crate::locked_file::LockedFile;
 use crate::new_file::{Saved, Saving};
 use std::cell::RefCell;
 use std::fs::File;
@@ -25,7 +29,18 @@ use zone_drive::Drive;
 /// change more, unless it cannot be written anew.
 #[derive(Drop)]
 pub struct ChangesFile<'a, F: Files<File = File>> {
-    file: RefCell<GatheredFile<'a, F>>,
+    /// How it is written anew. The file within has it too; here it says how long both may be used.
+    saving: &'a Saving<'a, F>,
+    file: RefCell<GatheredFile<'a, LockedFile<'a, F>>>,
+}
+
+/// The file of an image, for which nothing is gathered yet.
+fn gathered<'a, F: Files<File = File>>(
+    saving: &'a Saving<'a, F>,
+    image: ImageFile,
+) -> GatheredFile<'a, LockedFile<'a, F>> {
+    let read_only = image.read_only;
+    GatheredFile::new(saving.alloc, LockedFile::new(saving, image), read_only)
 }
 
 /// The fault of a file that is used within a use of it. That never is.
@@ -37,16 +52,18 @@ impl<'a, F: Files<File = File>> ChangesFile<'a, F> {
     /// The file of an image, of which nothing was read yet.
     pub fn new(saving: &'a Saving<'a, F>, image: ImageFile) -> Self {
         ChangesFile {
-            file: RefCell::new(GatheredFile::new(saving, image)),
+            saving,
+            file: RefCell::new(gathered(saving, image)),
         }
     }
 
     /// The same, and a gate is shut at the first fault of the file, so that the input that goes through it is read no
     /// further.
     pub fn with_gate(saving: &'a Saving<'a, F>, image: ImageFile, gate: &'a Gate) -> Self {
-        let mut file = GatheredFile::new(saving, image);
+        let mut file = gathered(saving, image);
         file.set_gate(gate);
         ChangesFile {
+            saving,
             file: RefCell::new(file),
         }
     }
@@ -58,17 +75,23 @@ impl<'a, F: Files<File = File>> ChangesFile<'a, F> {
 
     /// Writes all changes that were appended to the file.
     pub fn write_out(&self) -> Result<(), FileFault> {
-        match self.file.try_borrow_mut() {
-            Ok(mut file) => file.write_out(),
-            Err(_) => Err(busy()),
-        }
+        self.reach(SentAfter::Write)?;
+        Ok(())
     }
 
     /// Writes all changes that were appended to the file, and brings them to the disk, with all that it held before. If
     /// nothing was written since the last time, it does nothing.
     pub fn sync(&self) -> Result<(), FileFault> {
+        self.reach(SentAfter::Sync)?;
+        Ok(())
+    }
+
+    /// Does one of both, as it is asked for.
+    pub(crate) fn reach(&self, after: SentAfter) -> Result<Reached, FileFault>
+        ensures { IfOk result (λ reached. reached ≡ after) }
+    {
         match self.file.try_borrow_mut() {
-            Ok(mut file) => file.sync(),
+            Ok(mut file) => file.reach(after),
             Err(_) => Err(busy()),
         }
     }
@@ -95,7 +118,8 @@ impl<'a, F: Files<File = File>> ChangesFile<'a, F> {
     /// Saves a drive in the place of the file, if there is one to save. What is gathered is lost. The new file is on the
     /// disk before it takes the place of the old one. After a fault the file is as it was.
     pub fn save(self, drive: Option<Drive>) -> Result<Saved, FileFault> {
-        self.file.into_inner().save(drive)
+        let mut file = self.file.into_inner();
+        file.save(drive)
     }
 
     // Appends a change. It may be gathered.

@@ -1,9 +1,13 @@
 // An output whose bytes are sent once the file of a drive has the changes before them.
 
+ghost use Rattle.std.specs.Prelude.{◌≡◌, IfOk};
+
 use crate::changes_file::ChangesFile;
+use crate::gathered_file::Reached;
 use std::fs::File;
 use std::io;
 use std::io::Write;
+use std::marker::Model;
 use std::rt::Files;
 
 /// When the bytes of an output are sent.
@@ -25,9 +29,19 @@ pub struct ChangesOutput<'s, 'a, F: Files<File = File>, W: Write> {
     output: &'s mut W,
 }
 
+impl<'s, 'a, F: Files<File = File>, W: Write> Model for ChangesOutput<'s, 'a, F, W> {
+    ghost use Rattle.drive_store.specs.declared.changes_output.SentAfter.{SentAfter};
+
+    ghost Value = { SentAfter };
+
+    ghost view = { λ o. o.after };
+}
+
 impl<'s, 'a, F: Files<File = File>, W: Write> ChangesOutput<'s, 'a, F, W> {
     /// An output whose bytes wait for the changes of this file.
-    pub fn new(file: &'s ChangesFile<'a, F>, after: SentAfter, output: &'s mut W) -> Self {
+    pub fn new(file: &'s ChangesFile<'a, F>, after: SentAfter, output: &'s mut W) -> Self
+        ensures { result ≡ after }
+    {
         ChangesOutput {
             file,
             after,
@@ -35,13 +49,14 @@ impl<'s, 'a, F: Files<File = File>, W: Write> ChangesOutput<'s, 'a, F, W> {
         }
     }
 
-    // Waits for the file.
-    fn wait(&self) -> io::Result<()> {
-        let ready = match self.after {
-            SentAfter::Write => self.file.write_out(),
-            SentAfter::Sync => self.file.sync(),
-        };
-        ready.map_err(|_| io::Error::from(io::ErrorKind::Other))
+    // Waits until the file is as far as the bytes wait for.
+    fn wait(&self) -> io::Result<Reached>
+        ensures { IfOk result (λ reached. reached ≡ self.now) }
+    {
+        match self.file.reach(self.after) {
+            Ok(reached) => Ok(reached),
+            Err(_) => Err(io::Error::from(io::ErrorKind::Other)),
+        }
     }
 }
 

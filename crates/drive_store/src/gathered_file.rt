@@ -1,21 +1,40 @@
-// The file of a drive, open and locked, with the changes that are gathered for it.
+// The file of a drive, with the changes that are gathered for it.
 
+ghost use Rattle.std.specs.Prelude.{◌≡◌, ◌↔◌, ◌+◌, Err, IfErr, IfOk, IfSome, IsErr, IsTrue, None, OnErr, OnOk, false, is_some, true};
+ghost use Rattle.std.specs.Io.KnownBytes.{append_known};
+ghost use Rattle.drive_journal.specs.Change.{start};
+ghost use Rattle.drive_journal.specs.Cut.{front_of};
+ghost use Rattle.drive_journal.specs.File.{IsStoredWhole};
+ghost use Rattle.drive_store.specs.Backing.{IsFrontOf, IsTooLong, SavesDrive, fault_of, limit_of};
+
+use crate::backing::Backing;
+use crate::changes_output::SentAfter;
 use crate::file_end::FileEnd;
 use crate::file_fault::{FileFault, SystemError};
-use crate::image_file::ImageFile;
+use crate::gathered_bytes::GatheredBytes;
 use crate::input_gate::Gate;
-use crate::new_file::{Saved, Saving, replace, save, sync_name};
-use std::fs::File;
-use std::io;
-use std::io::{Seek, SeekFrom, Write};
-use std::rt::Files;
+use crate::new_file::Saved;
+use crate::whole_file::WholeFile;
+use std::alloc::Global;
+use std::marker::Model;
 use zone_drive::Drive;
-
-/// How many bytes of changes are gathered at most. A longer change is written directly.
-const MOST_GATHERED: usize = 1 << 16;
 
 /// By how much a file has to be longer than twice the image of its drive, before it is written anew.
 const ROOM: u64 = 1 << 20;
+
+/// How far the changes of a file have come. Only the file itself says so.
+#[derive(Drop)]
+pub struct Reached {
+    so_far: SentAfter,
+}
+
+impl Model for Reached {
+    ghost use Rattle.drive_store.specs.declared.changes_output.SentAfter.{SentAfter};
+
+    ghost Value = { SentAfter };
+
+    ghost view = { λ r. r.so_far };
+}
 
 /// The file of a drive, to which changes are appended. They are gathered, and written together. Until the first one is
 /// written, the file is unchanged.
@@ -24,22 +43,13 @@ const ROOM: u64 = 1 << 20;
 /// blocks of a drive takes time. So that is done only when the file has reached a length that the last count gave:
 /// 1 MiB more than would have been too long then.
 #[derive(Drop)]
-pub struct GatheredFile<'a, F: Files<File = File>> {
-    saving: &'a Saving<'a, F>,
-    image: ImageFile,
-    /// How many bytes of the file are its image and whole changes. What follows is cut off before the first change.
-    whole: u64,
-    /// The changes that follow these bytes, and are not written yet.
-    gathered: Vec<u8>,
+pub struct GatheredFile<'g, B: Backing + Drop> {
+    bytes: GatheredBytes<B>,
+    /// Why it cannot be written, if it was opened only to be read.
+    read_only: Option<SystemError>,
     /// The blocks of the drive are counted when the file is longer.
     limit: u64,
     is_changed: bool,
-    /// Whether the file ends after its whole bytes, and the next ones are written there.
-    is_at_end: bool,
-    /// Whether all that was written is on the disk.
-    is_synced: bool,
-    /// Whether the name of the file is on the disk, as far as this program knows.
-    is_name_synced: bool,
     /// Why it takes no more changes.
     change_fault: Option<FileFault>,
     /// Why what it has may not be on the disk. The system tells of lost bytes only once.
@@ -49,12 +59,40 @@ pub struct GatheredFile<'a, F: Files<File = File>> {
     /// Whether it had been removed, and was made again at its path.
     is_restored: bool,
     /// It is shut at the first fault.
-    gate: Option<&'a Gate>,
+    gate: Option<&'g Gate>,
+}
+
+impl<'g, B: Backing + Drop> Model for GatheredFile<'g, B> {
+    ghost use Rattle.std.specs.Prelude.{◌≡◌, ◌||◌, None, is_some};
+    ghost use Rattle.drive_store.specs.Backing.{Gathered, IsReady, IsWhole, held_by};
+
+    ghost Value = { Gathered };
+
+    ghost view = { λ f. record {
+      held = held_by (B.state f.bytes.file.file) f.bytes.file.whole f.bytes.gathered.items;
+      file = B.state f.bytes.file.file;
+      change_fault = f.change_fault;
+      sync_fault = f.sync_fault;
+      end = record { is_changed = f.is_changed; takes_none = is_some f.change_fault || is_some f.read_only };
+    } };
+
+    // While it takes changes, the file is ready for them.
+    ghost invariant = { λ f. IsWhole (B.state f.bytes.file.file) f.bytes.file.whole f.bytes.file.is_synced
+        × (f.change_fault ≡ None → IsReady (B.state f.bytes.file.file) f.bytes.file.whole f.bytes.file.is_at_end) };
 }
 
 /// How long a file may be before the blocks of its drive are counted again, by how long its image was.
-fn limit_of(image: u64) -> u64 {
+fn limit_of(image: u64) -> u64
+    ensures { result ≡ limit_of image }
+{
     image.saturating_add(ROOM).saturating_mul(2)
+}
+
+/// Whether a file of this length is written anew, by how long the image of its drive is.
+fn is_too_long(length: u64, image: u64) -> bool
+    ensures { IsTrue result ↔ IsTooLong length image }
+{
+    length > image.saturating_mul(2).saturating_add(ROOM)
 }
 
 /// How many bytes the image of a drive has.
@@ -68,18 +106,29 @@ fn image_length(drive: &Drive) -> u64 {
     bytes
 }
 
-impl<'a, F: Files<File = File>> GatheredFile<'a, F> {
-    pub fn new(saving: &'a Saving<'a, F>, image: ImageFile) -> Self {
-        GatheredFile {
-            saving,
-            whole: image.metadata.len(),
-            image,
-            gathered: Vec::new(saving.alloc),
-            limit: limit_of(0),
-            is_changed: false,
+impl<'g, B: Backing + Drop> GatheredFile<'g, B> {
+    /// A file to which nothing was appended, and why it cannot be written, if so.
+    pub fn new(alloc: Global, file: B, read_only: Option<SystemError>) -> Self
+        requires { IsFrontOf (B.state file).synced (B.state file).bytes }
+        ensures held { result.held ≡ (B.state file).bytes }
+        ensures file { result.file ≡ B.state file }
+        ensures sound { fault_of result ≡ None }
+        ensures unchanged { result.end ≡ record { is_changed = false; takes_none = is_some read_only } }
+    {
+        let file = WholeFile {
+            whole: file.length(),
+            file,
             is_at_end: false,
             is_synced: false,
-            is_name_synced: false,
+        };
+        GatheredFile {
+            bytes: GatheredBytes {
+                file,
+                gathered: Vec::new(alloc),
+            },
+            read_only,
+            limit: limit_of(0),
+            is_changed: false,
             change_fault: None,
             sync_fault: None,
             never_anew: None,
@@ -89,42 +138,36 @@ impl<'a, F: Files<File = File>> GatheredFile<'a, F> {
     }
 
     /// Shuts this gate at the first fault.
-    pub fn set_gate(&mut self, gate: &'a Gate) {
+    pub fn set_gate(&mut self, gate: &'g Gate)
+        ensures { self.new ≡ self.old }
+    {
         self.gate = Some(gate);
     }
 
     /// What is known of it when its job has ended.
-    pub fn end(&self) -> FileEnd {
+    pub fn end(&self) -> FileEnd
+        ensures { result ≡ self.now.end }
+    {
         FileEnd {
             is_changed: self.is_changed,
-            takes_none: self.change_fault.is_some() || self.image.read_only.is_some(),
+            takes_none: self.change_fault.is_some() || self.read_only.is_some(),
         }
     }
 
     /// Why it takes no more changes, or why what it has may not be on the disk.
-    pub fn fault(&self) -> Option<FileFault> {
+    pub fn fault(&self) -> Option<FileFault>
+        ensures { result ≡ fault_of self.now }
+    {
         self.change_fault.or(self.sync_fault)
     }
 
-    /// Saves a drive in it, if there is one to save. What is gathered is lost.
-    pub fn save(self, drive: Option<Drive>) -> Result<Saved, FileFault> {
-        let Some(drive) = drive else {
-            return Ok(Saved {
-                is_restored: self.is_restored,
-            });
-        };
-        if let Some(fault) = self.never_anew {
-            return Err(fault);
-        }
-        let saved = save(self.saving, &drive, &self.image)?;
-        Ok(Saved {
-            is_restored: self.is_restored || saved.is_restored,
-        })
-    }
-
     /// Says how many bytes of the file are its image and whole changes.
-    pub fn cut(&mut self, whole: u64) {
-        self.whole = whole;
+    pub fn cut(&mut self, whole: u64)
+        ensures held { self.new.held ≡ front_of whole self.old.held }
+        ensures file { self.new.file ≡ self.old.file }
+        ensures fault { fault_of self.new ≡ fault_of self.old }
+    {
+        self.bytes.cut(whole);
     }
 
     // Shuts the gate if there is a fault.
@@ -134,126 +177,138 @@ impl<'a, F: Files<File = File>> GatheredFile<'a, F> {
         }
     }
 
-    // Cuts off what is not whole, and goes to the end of what is. The cut is on the disk before more is written: else a
-    // loss of power could bring back what was cut off, after what is written now.
-    fn go_to_end(&mut self) -> io::Result<()> {
-        if self.whole < self.image.metadata.len() {
-            self.image.file.set_len(self.whole)?;
-            self.image.file.sync_all()?;
-        }
-        self.image.file.seek(SeekFrom::Start(self.whole))?;
-        self.is_at_end = true;
-        Ok(())
+    // Appends a change to a file that takes changes.
+    fn take(&mut self, change: &[u8]) -> Result<(), FileFault>
+        requires { self.old.change_fault ≡ None }
+        ensures ok { OnOk result (self.new.held ≡ append_known self.old.held change.now) }
+        ensures err { OnErr result (self.new.held ≡ self.old.held) }
+        ensures fault { IfErr result (λ fault. self.new.change_fault ≡ Some fault) }
+        ensures changed { self.new.end.is_changed ≡ true }
+        ensures sync_fault { self.new.sync_fault ≡ self.old.sync_fault }
+    {
+        self.is_changed = true;
+        let taken = match self.read_only {
+            Some(error) => Err(error),
+            None => self.bytes.append(change),
+        };
+        let taken = taken.map_err(FileFault::Change);
+        self.change_fault = taken.err();
+        taken
     }
 
-    // Makes ready for bytes to be written to the file.
-    fn begin(&mut self) -> Result<(), SystemError> {
-        if !self.is_at_end {
-            self.go_to_end()?;
-        }
-        self.is_synced = false;
-        Ok(())
-    }
-
-    fn write_gathered(&mut self) -> Result<(), SystemError> {
-        if self.gathered.is_empty() {
-            return Ok(());
-        }
-        self.begin()?;
-        self.image.file.write_all(&self.gathered)?;
-        self.whole = self.whole.saturating_add(self.gathered.len() as u64);
-        self.gathered.clear();
-        Ok(())
-    }
-
-    fn write(&mut self, bytes: &[u8]) -> Result<(), SystemError> {
-        self.begin()?;
-        self.image.file.write_all(bytes)?;
-        self.whole = self.whole.saturating_add(bytes.len() as u64);
-        Ok(())
-    }
-
-    fn take(&mut self, change: &[u8]) -> Result<(), SystemError> {
-        if let Some(error) = self.image.read_only {
-            return Err(error);
-        }
-        if change.len() > MOST_GATHERED.saturating_sub(self.gathered.len()) {
-            self.write_gathered()?;
-        }
-        if change.len() > MOST_GATHERED {
-            return self.write(change);
-        }
-        Ok(
-            self.gathered
-                .extend_from_slice(change)
-                .map_err(io::Error::from)?,
-        )
-    }
-
-    /// Appends a change. It may be gathered.
-    pub fn append(&mut self, change: &[u8]) -> Result<(), FileFault> {
+    /// Appends a change. It may be gathered. After a fault none is appended.
+    pub fn append(&mut self, change: &[u8]) -> Result<(), FileFault>
+        ensures ok { OnOk result (self.new.held ≡ append_known self.old.held change.now) }
+        ensures err { OnErr result (self.new.held ≡ self.old.held) }
+        ensures changed { OnOk result (self.new.end.is_changed ≡ true) }
+        ensures fault { IfErr result (λ fault. fault_of self.new ≡ Some fault) }
+        ensures refused { IfSome (fault_of self.old) (λ fault. result ≡ Err fault) }
+    {
         if let Some(fault) = self.fault() {
             return Err(fault);
         }
-        self.is_changed = true;
-        let taken = self.take(change).map_err(FileFault::Change);
-        self.change_fault = taken.err();
+        let taken = self.take(change);
         self.note();
         taken
     }
 
     /// Writes all changes that are gathered to the file. If none is, nothing fails, also after a change was refused.
-    pub fn write_out(&mut self) -> Result<(), FileFault> {
-        if self.gathered.is_empty() {
+    pub fn write_out(&mut self) -> Result<(), FileFault>
+        ensures held { self.new.held ≡ self.old.held }
+        ensures written { OnOk result (IsFrontOf self.new.held self.new.file.bytes) }
+        ensures fault { IfErr result (λ fault. self.new.change_fault ≡ Some fault) }
+        ensures sync_fault { self.new.sync_fault ≡ self.old.sync_fault }
+    {
+        if self.bytes.gathered.is_empty() {
             return Ok(());
         }
         if let Some(fault) = self.change_fault {
             return Err(fault);
         }
-        let written = self.write_gathered().map_err(FileFault::Change);
+        let written = self.bytes.write_out().map_err(FileFault::Change);
         self.change_fault = written.err();
         self.note();
         written
     }
 
-    // Brings all that was written to the disk, and the name of the file.
-    fn bring_to_disk(&mut self) -> Result<(), SystemError> {
-        if !self.is_name_synced {
-            self.image.file.sync_all()?;
-            sync_name(self.saving.files, &self.image.path)?;
-        } else if !self.is_synced {
-            self.image.file.sync_data()?;
-        }
-        self.is_name_synced = true;
-        self.is_synced = true;
-        Ok(())
-    }
-
-    /// Writes all changes that are gathered to the file, and brings it to the disk.
-    pub fn sync(&mut self) -> Result<(), FileFault> {
-        self.write_out()?;
+    // Brings what is written to the disk, unless that failed before.
+    fn bring_to_disk(&mut self) -> Result<(), FileFault>
+        ensures held { self.new.held ≡ self.old.held }
+        ensures file { self.new.file.bytes ≡ self.old.file.bytes }
+        ensures synced { OnOk result (self.new.file.synced ≡ self.new.file.bytes) }
+        ensures is_named { OnOk result (self.new.file.is_named ≡ true) }
+        ensures fault { IfErr result (λ fault. self.new.sync_fault ≡ Some fault) }
+        ensures refused { IfSome self.old.sync_fault (λ fault. result ≡ Err fault) }
+    {
         if let Some(fault) = self.sync_fault {
             return Err(fault);
         }
-        let synced = self.bring_to_disk().map_err(FileFault::Sync);
+        let synced = self.bytes.file.sync().map_err(FileFault::Sync);
         self.sync_fault = synced.err();
+        synced
+    }
+
+    /// Writes all changes that are gathered to the file, and brings it to the disk, with its name. After it failed once
+    /// it fails for good.
+    pub fn sync(&mut self) -> Result<(), FileFault>
+        ensures held { self.new.held ≡ self.old.held }
+        ensures synced { OnOk result (IsFrontOf self.new.held self.new.file.synced) }
+        ensures is_named { OnOk result (self.new.file.is_named ≡ true) }
+        ensures fault { OnErr result (is_some (fault_of self.new) ≡ true) }
+        ensures refused { IfSome self.old.sync_fault (λ fault. IsErr result) }
+    {
+        self.write_out()?;
+        let synced = self.bring_to_disk();
         self.note();
         synced
     }
 
+    /// Writes all changes that are gathered to the file, or brings them to the disk, too.
+    pub fn reach(&mut self, after: SentAfter) -> Result<Reached, FileFault>
+        ensures reached { IfOk result (λ reached. reached ≡ after) }
+        ensures held { self.new.held ≡ self.old.held }
+        ensures written { OnOk result (after ≡ SentAfter.Write → IsFrontOf self.new.held self.new.file.bytes) }
+        ensures synced { OnOk result (after ≡ SentAfter.Sync → IsFrontOf self.new.held self.new.file.synced) }
+    {
+        match after {
+            SentAfter::Write => self.write_out()?,
+            SentAfter::Sync => self.sync()?,
+        }
+        Ok(Reached { so_far: after })
+    }
+
     // Whether it is not written anew: it failed, cannot be written, or can never be replaced.
     fn is_never_renewed(&self) -> bool {
-        self.fault().is_some() || self.image.read_only.is_some() || self.never_anew.is_some()
+        self.fault().is_some() || self.read_only.is_some() || self.never_anew.is_some()
+    }
+
+    // Writes the image of the drive into a new file, which takes the place of this one. It has the changes that are
+    // gathered, and is on the disk.
+    fn write_anew(&mut self, drive: &Drive) -> Result<(), FileFault>
+        ensures ok { OnOk result (IfSome self.new.held (λ bytes. IsStoredWhole bytes drive.now.state start)) }
+        ensures synced { OnOk result (self.new.file.synced ≡ self.new.held) }
+        ensures err { OnErr result (self.new ≡ self.old) }
+        ensures known { is_some self.new.held ≡ is_some self.old.held }
+    {
+        let renewed = self.bytes.renew(drive)?;
+        self.limit = limit_of(self.bytes.file.whole);
+        self.is_restored = self.is_restored || renewed.is_restored;
+        Ok(())
     }
 
     /// Writes the file anew, if it is too long, and says whether it did.
-    pub fn renew(&mut self, drive: &Drive) -> bool {
-        let length = self.whole.saturating_add(self.gathered.len() as u64);
+    pub fn renew(&mut self, drive: &Drive) -> bool
+        ensures anew { IsTrue result → IfSome self.new.held (λ bytes. IsStoredWhole bytes drive.now.state start) }
+        ensures synced { IsTrue result → self.new.file.synced ≡ self.new.held }
+        ensures same { result ≡ false → self.new ≡ self.old }
+        ensures known { is_some self.new.held ≡ is_some self.old.held }
+    {
+        let length = self.bytes.length();
         if length <= self.limit || self.is_never_renewed() {
             return false;
         }
         let image = image_length(drive);
-        if length <= image.saturating_mul(2).saturating_add(ROOM) {
+        if !is_too_long(length, image) {
             self.limit = limit_of(image);
             return false;
         }
@@ -266,18 +321,22 @@ impl<'a, F: Files<File = File>> GatheredFile<'a, F> {
         true
     }
 
-    // Writes the image of the drive into a new file, which takes the place of this one. It has the changes that are
-    // gathered, and is on the disk.
-    fn write_anew(&mut self, drive: &Drive) -> Result<(), FileFault> {
-        let new = replace(self.saving, drive, &self.image)?;
-        self.image = new.image;
-        self.whole = self.image.metadata.len();
-        self.limit = limit_of(self.whole);
-        self.gathered.clear();
-        self.is_at_end = false;
-        self.is_synced = true;
-        self.is_name_synced = new.name.is_ok();
-        self.is_restored = self.is_restored || new.is_restored;
-        Ok(())
+    /// Saves a drive in it, if there is one to save. What is gathered is lost.
+    pub fn save(&mut self, drive: Option<Drive>) -> Result<Saved, FileFault>
+        ensures { SavesDrive drive self.old.file result self.new.file }
+    {
+        let Some(drive) = drive else {
+            return Ok(Saved {
+                is_restored: self.is_restored,
+            });
+        };
+        if let Some(fault) = self.never_anew {
+            return Err(fault);
+        }
+        let renewed = self.bytes.renew(&drive)?;
+        renewed.name.map_err(FileFault::Sync)?;
+        Ok(Saved {
+            is_restored: self.is_restored || renewed.is_restored,
+        })
     }
 }

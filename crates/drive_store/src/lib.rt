@@ -21,25 +21,37 @@
 //! * [`keep`] makes a device of that drive and a store: the device shows the drive, and the store holds it.
 //! * [`stays`] says when a file is not written anew at the end: only if it was the image of the drive at rest and took no
 //!   change, or if it takes no more changes.
+//! * Over every file that does what [`Backing`] says (`specs/Backing.antt`): its bytes and the changes that are gathered
+//!   for it hold all that was appended; after a fault, all before the change that was refused. Writing out puts all of
+//!   it in the file, and a sync on the disk, with the name of the file. What is cut off is cut off on the disk before
+//!   more is appended, so that no loss of power brings it back. A failed sync is remembered: no later one is done by
+//!   success, and no change is taken. The file is written anew, or saved, by the image of the drive, on the disk.
 //!
-//! Of files nothing is promised by contract, since std says nothing of what a path names, what a file holds or who has
-//! locked it. `tools/two_programs` and `tools/kill_runs` try them: an answered change is found again after a kill, and
-//! two programs never share a file.
+//! Of the files of the system nothing is promised by contract, since std says nothing of what a path names, what a file
+//! holds or who has locked it. One of them does what [`Backing`] says, by a call of the system for each call. Nor is it
+//! promised that the changes of a reply are in the file before it is sent: no contract sees into the cell that the store
+//! and the output share. `tools/two_programs` and `tools/kill_runs` try this: an answered change is found again after a
+//! kill, and two programs never share a file.
 //!
 //! Tests: `tools/kill_runs` and `tools/two_programs`, on files.
 #![tactic(auto)]
 
+mod backing;
 mod changes_file;
 mod changes_output;
 mod changes_store;
 mod file_end;
 mod file_fault;
+mod gathered_bytes;
 mod gathered_file;
 mod image_file;
 mod input_gate;
 mod kept_drive;
+mod locked_file;
 mod new_file;
+mod whole_file;
 
+pub use backing::{Backing, Renewed};
 pub use changes_file::ChangesFile;
 pub use changes_output::{ChangesOutput, SentAfter};
 pub use changes_store::ChangesStore;

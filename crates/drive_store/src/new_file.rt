@@ -1,5 +1,8 @@
 // A drive is saved in a new file in the folder of the image, which takes the image's place when it is whole.
 
+ghost use Rattle.std.specs.Prelude.{◌≡◌};
+ghost use Rattle.drive_store.specs.NewFile.{IsFolder, mode_of};
+
 use crate::file_fault::{FileFault, SystemError};
 use crate::image_file::ImageFile;
 use drive_images::write_image;
@@ -71,11 +74,12 @@ fn make_at_free_name<F: Files>(
 
 /// The mode of a new file, by the mode of the old one. Where the new file has another group, its group may do what all
 /// may do.
-fn mode_of(old: u32, is_group_kept: bool) -> u32 {
-    if is_group_kept {
-        return old & 0o777;
-    }
-    (old & 0o707) | ((old & 0o007) << 3)
+fn mode_of(old: u32, is_group_kept: bool) -> u32
+    ensures { result ≡ mode_of old is_group_kept }
+{
+    let (owner, group, others) = (old / 0o100 % 8, old / 0o10 % 8, old % 8);
+    let group = if is_group_kept { group } else { others };
+    owner * 0o100 + group * 0o10 + others
 }
 
 /// Gives a new file the owner, the group and the mode of the old one, as far as the system allows it.
@@ -106,7 +110,9 @@ fn write(alloc: Global, drive: &Drive, file: &File) -> Result<(), SystemError> {
 }
 
 /// The path of the folder of a file.
-fn folder(path: &str) -> &str {
+fn folder(path: &str) -> &str
+    ensures { IsFolder path.now result.now }
+{
     match path.rfind('/') {
         Some(0) => "/",
         Some(end) => &path[..end],
