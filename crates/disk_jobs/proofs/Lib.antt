@@ -1,1 +1,2 @@
+mod MountLaws
 mod StoreLaws

@@ -1,8 +1,10 @@
 -- What the words of a job ask for, beside its drive.
-use Rattle.std.specs.Prelude.{ℕ, ◌-◌, ◌^◌, ◌==◌, ◌&&◌, if◌then◌else◌, not, Bool, false, Option, Some, None}
+use Rattle.std.specs.Prelude.{ℕ, ◌-◌, ◌^◌, ◌==◌, ◌&&◌, if◌then◌else◌, not, Bool, false, List, Option, Some, None, string_bytes}
 use Rattle.disk_jobs.specs.declared.job.Job.{Job}
 use Rattle.disk_jobs.specs.declared.job.Job.TheVariants as jobs
 use Rattle.disk_jobs.specs.declared.job.Stop.{Stop}
+use Rattle.disk_jobs.specs.declared.saving.Access.{Access}
+use Rattle.disk_jobs.specs.declared.saving.Access.TheVariants as access
 use Rattle.drive_store.specs.declared.changes_output.SentAfter.{SentAfter}
 use Rattle.drive_store.specs.declared.changes_output.SentAfter.TheVariants as sent
 
@@ -39,3 +41,17 @@ abbrev pub stop_asked : Job → Option ℕ
 stop_asked (jobs.Run path blocks zones statistics stop habit sync read_only progress) = commands_of stop
 stop_asked (jobs.Fresh geometry blocks shown statistics stop habit) = commands_of stop
 stop_asked job = None
+
+-- the path of the file that has the drive, or is going to have it
+abbrev pub image_asked : Job → Option (List ℕ)
+image_asked (jobs.Format path geometry force) = Some (string_bytes path)
+image_asked (jobs.Run path blocks zones statistics stop habit sync read_only progress) = Some (string_bytes path)
+image_asked (jobs.Report path) = Some (string_bytes path)
+image_asked (jobs.Nvme path explain habit sync) = Some (string_bytes path)
+image_asked job = None
+
+-- how a file is opened whose drive is read: a report and a run that only reads share it, and all others save a drive in it
+abbrev pub file_access : Job → Access
+file_access (jobs.Run path blocks zones statistics stop habit sync read_only progress) = if read_only then access.ToRead else access.ToSave
+file_access (jobs.Report path) = access.ToRead
+file_access job = access.ToSave

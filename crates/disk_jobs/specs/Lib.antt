@@ -1,3 +1,4 @@
+pub mod Mounted
 pub mod Saved
 pub mod FaultLine
 pub mod Asked

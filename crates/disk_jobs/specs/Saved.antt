@@ -36,6 +36,7 @@ use Rattle.disk_jobs.specs.declared.job.Job.TheVariants as jobs
 use Rattle.disk_jobs.specs.declared.job.Stop.{Stop}
 use Rattle.drive_store.specs.declared.kept_drive.Begun.{Begun}
 use Rattle.disk_jobs.specs.declared.lines.Left.{Left}
+use Rattle.disk_jobs.specs.Mounted.{TellsJob}
 
 -- ---- the drive that a job begins with
 
@@ -212,7 +213,8 @@ IsHandedBack failed drive back = failed ≡ false → (back.geometry ≡ drive.g
 
 -- ---- the job
 
--- What the lines of a job leave of its drive, whatever ended them, and what its store holds then. Whether the store failed is told.
+-- What the lines of a job leave of its drive, whatever ended them, and what its store holds then. Whether the store failed is told, and which disk
+-- was mounted.
 pub record LeavesDrive (job : Job) (bytes : Exchange) (old : DriveState) (ended : Result (Unit {0}) RunFault) (left : Left)
     (before held : Known) (failed : Bool) : Type 0 where
   pub drive : DriveState
@@ -220,6 +222,7 @@ pub record LeavesDrive (job : Job) (bytes : Exchange) (old : DriveState) (ended 
   pub failed_is : left.failed ≡ failed
   pub back : IsHandedBack failed drive left.drive.state
   pub stored : StoresDrive job before held drive
+  pub mounting : TellsJob job old ended left.mounting
 
 -- What a job leaves of the drive that it began with. It is told whether the file was the image of that drive at rest.
 pub record LeftByLines (job : Job) (file : Known) (bytes : Exchange) (ended : Result (Unit {0}) RunFault) (left : Left)

@@ -4,7 +4,8 @@ use crate::job::Job;
 use crate::lines::Left;
 use crate::mounting::Mounting;
 use crate::program::run_job;
-use crate::saving::{drive_to_save, first_told, sent_after};
+use crate::saving::{Access, drive_to_save, file_access, first_told, sent_after};
+use crate::sending::{Ran, run_sending, send};
 use disk_files::LineReader;
 use disk_runs::RunFault;
 use drive_journal::Unknown;
@@ -15,7 +16,7 @@ use drive_store::{
 use std::alloc::Global;
 use std::fs::File;
 use std::io;
-use std::io::{BufReader, BufWriter, Read, Write};
+use std::io::{BufReader, Read, Write};
 use std::rt::Files;
 use zone_drive::Drive;
 
@@ -49,9 +50,6 @@ impl Done {
     }
 }
 
-/// What the lines of a job left, and how they ended.
-type Ran = (Option<Left>, Result<(), ProgramFault>);
-
 /// What is known of the mount of a job, if there was one.
 fn mounting(left: &Option<Left>) -> Mounting {
     match left {
@@ -68,11 +66,6 @@ fn told(fault: FileFault) -> ProgramFault {
     ProgramFault::File(fault)
 }
 
-/// Sends what was written.
-fn send<W: Write>(output: &mut W) -> Result<(), ProgramFault> {
-    output.flush().or(Err(ProgramFault::Run(RunFault::Output)))
-}
-
 /// Opens and locks the file of a job that reads one, and gives its bytes.
 fn open_image<F: Files<File = File>>(
     files: &F,
@@ -80,10 +73,9 @@ fn open_image<F: Files<File = File>>(
     job: &Job,
     path: &str,
 ) -> Result<(ImageFile, BufReader<File>), FileFault> {
-    match job {
-        Job::Report { .. } => image_to_read(files, alloc, path),
-        _ if job.reads_only() => image_to_read(files, alloc, path),
-        _ => image_to_save(files, alloc, path),
+    match file_access(job) {
+        Access::ToRead => image_to_read(files, alloc, path),
+        Access::ToSave => image_to_save(files, alloc, path),
     }
 }
 
@@ -103,7 +95,7 @@ fn run_without_file<R: Read + Drop, W: Write>(
 }
 
 /// Does a job over the bytes of a file for which its changes are gathered, and sends what it wrote. A reply is sent
-/// once the file has the changes before it.
+/// once the file has the changes before it, and after the sync that the job asks for.
 fn run_over<F: Files<File = File>, I: Read + Drop, R: Read + Drop, W: Write>(
     saving: &Saving<'_, F>,
     job: &Job,
@@ -111,19 +103,15 @@ fn run_over<F: Files<File = File>, I: Read + Drop, R: Read + Drop, W: Write>(
     input: &mut LineReader<R>,
     output: &mut W,
 ) -> Ran {
-    let waiting = ChangesOutput::new(file, sent_after(job), output);
-    let Ok(mut output) = BufWriter::new(saving.alloc, waiting) else {
-        return (None, Err(ProgramFault::Run(RunFault::Memory)));
-    };
     let store = file.store();
-    let (left, _, ran) = run_job(
+    let waiting = ChangesOutput::new(file, sent_after(job), output);
+    run_sending(
         saving.alloc,
         job,
         DriveFile { bytes, store },
         input,
-        &mut output,
-    );
-    (left, ran.and(send(&mut output)))
+        waiting,
+    )
 }
 
 /// Does a job on the drive in a file, sends what it wrote, and saves the drive, if there is one to save. Its changes go

@@ -1,5 +1,5 @@
-ghost use Rattle.std.specs.Prelude.{◌≡◌};
-ghost use Rattle.disk_jobs.specs.Asked.{blocks_asked, explains, shows_progress, stop_asked, syncs};
+ghost use Rattle.std.specs.Prelude.{◌≡◌, IfNone, IfSome, None, Some};
+ghost use Rattle.disk_jobs.specs.Asked.{blocks_asked, explains, image_asked, shows_progress, stop_asked, syncs};
 ghost use Rattle.disk_jobs.specs.Saved.{reads_only};
 
 use zone_drive::Habit;
@@ -148,7 +148,10 @@ impl Job {
     }
 
     /// The path of the image file, if the job has one.
-    pub fn image(&self) -> Option<&str> {
+    pub fn image(&self) -> Option<&str>
+        ensures path { IfSome result (λ path. image_asked self.now ≡ Some path.now) }
+        ensures none { IfNone result (image_asked self.now ≡ None) }
+    {
         match self {
             Job::Format { image, .. }
             | Job::Run { image, .. }

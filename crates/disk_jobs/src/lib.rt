@@ -58,6 +58,7 @@ mod mounting;
 mod notes;
 mod program;
 mod saving;
+mod sending;
 mod statistics;
 mod status_words;
 mod watched;

@@ -3,6 +3,7 @@
 ghost use Rattle.std.specs.Prelude.{◌≡◌, false, true};
 ghost use Rattle.disk_runs.specs.Run.{Runs, exchange};
 ghost use Rattle.disk_runs.specs.Trace.{disk_lines};
+ghost use Rattle.disk_jobs.specs.Mounted.{TellsJob, TellsMount};
 ghost use Rattle.disk_jobs.specs.Saved.{LeavesDrive, RunsLines, RunsTrace, ThenShows};
 ghost use Rattle.disk_jobs.specs.Saved.{has_changes, shows_zones, stopping};
 
@@ -91,8 +92,9 @@ fn run_stopping<D: Device + Drop, R: Read + Drop, W: Write>(
     input: &mut LineReader<R>,
     output: &mut W,
 ) -> (D, Mounting, Result<(), RunFault>)
-    ensures { RunsTrace how.only_reads how.blocks (stopping how.stop (D.drive device))
+    ensures runs { RunsTrace how.only_reads how.blocks (stopping how.stop (D.drive device))
         (exchange input.old.left (W.contents output.old) (W.contents output.new)) result.2 (D.drive result.0) }
+    ensures mounting { TellsMount how.blocks (D.drive device) result.2 result.1 }
 {
     let disk = match Disk::mount(alloc, stopping(device, how.stop), how.blocks) {
         Ok(disk) => disk,
@@ -114,8 +116,9 @@ fn run_lines<D: Device + Drop, R: Read + Drop, W: Write>(
     input: &mut LineReader<R>,
     output: &mut W,
 ) -> (D, Mounting, Result<(), RunFault>)
-    ensures { RunsLines job.now (exchange input.old.left (W.contents output.old) (W.contents output.new))
+    ensures runs { RunsLines job.now (exchange input.old.left (W.contents output.old) (W.contents output.new))
         (D.drive device) result.2 (D.drive result.0) }
+    ensures mounting { TellsJob job.now (D.drive device) result.2 result.1 }
 {
     match job {
         Job::Run {

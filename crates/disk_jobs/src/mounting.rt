@@ -1,3 +1,6 @@
+ghost use Rattle.std.specs.Prelude.{◌≡◌, None, Some};
+ghost use Rattle.disk_jobs.specs.Mounted.{size_of};
+
 use drive_port::{Device, Geometry};
 use zone_translator::Disk;
 
@@ -12,7 +15,9 @@ pub struct DiskSize {
 
 impl DiskSize {
     /// That of a disk.
-    pub fn of<D: Device + Drop>(disk: &Disk<D>) -> DiskSize {
+    pub fn of<D: Device + Drop>(disk: &Disk<D>) -> DiskSize
+        ensures { result ≡ size_of disk.now }
+    {
         DiskSize {
             geometry: disk.device().geometry(),
             blocks: disk.blocks(),
@@ -37,7 +42,10 @@ impl Mounting {
     };
 
     /// Of the disk that was just mounted.
-    pub(crate) fn done<D: Device + Drop>(disk: &Disk<D>) -> Mounting {
+    pub(crate) fn done<D: Device + Drop>(disk: &Disk<D>) -> Mounting
+        ensures commands { result.commands ≡ disk.now.drive.completed }
+        ensures disk { result.disk ≡ Some (size_of disk.now) }
+    {
         Mounting {
             commands: disk.device().completed(),
             disk: Some(DiskSize::of(disk)),
@@ -45,7 +53,9 @@ impl Mounting {
     }
 
     /// Of a mount that was refused, after this many commands.
-    pub(crate) fn refused(commands: u64) -> Mounting {
+    pub(crate) fn refused(commands: u64) -> Mounting
+        ensures { result ≡ record { commands = commands; disk = None } }
+    {
         Mounting {
             commands,
             disk: None,

@@ -1,5 +1,5 @@
 ghost use Rattle.std.specs.Prelude.{◌≡◌};
-ghost use Rattle.disk_jobs.specs.Asked.{sent_after};
+ghost use Rattle.disk_jobs.specs.Asked.{file_access, sent_after};
 ghost use Rattle.disk_jobs.specs.Saved.{drive_to_save, first_told};
 
 use crate::fault::ProgramFault;
@@ -7,6 +7,26 @@ use crate::job::Job;
 use crate::lines::Left;
 use drive_store::{FileEnd, FileFault, SentAfter, stays};
 use zone_drive::Drive;
+
+/// How a file is opened whose drive is read.
+#[derive(Clone, Copy, Debug, PartialEq, Eq)]
+pub(crate) enum Access {
+    /// To read it, as others may do at the same time.
+    ToRead,
+    /// To save a drive in it. No other program reads or changes it.
+    ToSave,
+}
+
+/// How the file of a job is opened.
+pub(crate) fn file_access(job: &Job) -> Access
+    ensures { result ≡ file_access job.now }
+{
+    match job {
+        Job::Report { .. } => Access::ToRead,
+        _ if job.reads_only() => Access::ToRead,
+        _ => Access::ToSave,
+    }
+}
 
 /// What the replies of a job wait for.
 pub(crate) fn sent_after(job: &Job) -> SentAfter

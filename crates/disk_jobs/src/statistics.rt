@@ -1,5 +1,6 @@
 ghost use Rattle.std.specs.Prelude.{◌≡◌, Ok};
 ghost use Rattle.disk_runs.specs.Run.{exchange};
+ghost use Rattle.disk_jobs.specs.Mounted.{TellsMount};
 ghost use Rattle.disk_jobs.specs.Saved.{RunsCounted, ThenTells, stopping};
 
 use crate::lines::{TraceRun, answer_lines, stopping};
@@ -70,8 +71,9 @@ pub(crate) fn run_counted<D: Device + Drop, R: Read + Drop, W: Write>(
     input: &mut LineReader<R>,
     output: &mut W,
 ) -> (D, Mounting, Result<(), RunFault>)
-    ensures { RunsCounted how.only_reads how.blocks (stopping how.stop (D.drive device))
+    ensures runs { RunsCounted how.only_reads how.blocks (stopping how.stop (D.drive device))
         (exchange input.old.left (W.contents output.old) (W.contents output.new)) result.2 (D.drive result.0) }
+    ensures mounting { TellsMount how.blocks (D.drive device) result.2 result.1 }
 {
     let device = stopping(device, how.stop);
     let disk = match Disk::mount(alloc, Counter::new(device), how.blocks) {

@@ -6,11 +6,12 @@ use Rattle.disk_runs.specs.Run.{exchange}
 use Rattle.disk_runs.specs.Trace.{IsNotMounted, RunGives, RunLeaves, disk_lines}
 use Rattle.disk_runs.proofs.TraceLaws.{led, led_gives, led_leaves}
 use Rattle.disk_jobs.specs.Saved.{stopping}
+use Rattle.disk_jobs.proofs.MountLaws.{mount_told}
 use Rattle.disk_jobs.proofs.lines.run_stopping.Goals as goal
 
 -- the lines were answered by the disk that was mounted
-pub returns : goal.returns
-returns g c =
+pub returns-clause-runs : goal.returns-clause-runs
+returns-clause-runs g c =
     let only_reads = c.args.how.only_reads in
     let n = c.args.how.blocks in
     let old = drive_of c.stopping.result in
@@ -31,8 +32,8 @@ returns g c =
     }
 
 -- the drive was not mounted
-pub returns-in-Err : goal.returns-in-Err
-returns-in-Err g c =
+pub returns-in-Err-clause-runs : goal.returns-in-Err-clause-runs
+returns-in-Err-clause-runs g c =
     let bytes = exchange c.args.input.now.left (g.W.Write.contents c.args.output.now) (g.W.Write.contents c.args.output.now) in
     let none : IsNotMounted c.args.how.blocks bytes (drive_of (stopping c.args.how.stop (g.D.Device.drive c.args.device))) c.in-Err.fault (drive_of c.in-Err.device) =
     record { back = rw c.stopping.ensures at c.in-Err.ensures.err; unwritten = search rules } in
@@ -43,3 +44,8 @@ returns-in-Err g c =
       geometry = ap (λ (d : DriveState). d.geometry) c.into_inner.ensures;
       zones = ap (λ (d : DriveState). d.zones) c.into_inner.ensures;
     }
+
+-- the disk is told that was mounted
+pub returns-clause-mounting : goal.returns-clause-mounting
+returns-clause-mounting g c =
+    mount_told c.args.how.blocks c.args.how.stop (g.D.Device.drive c.args.device) c.in-Ok.disk _ c.done-mounting.result (rw c.stopping.ensures at c.in-Ok.ensures.disk) c.done-mounting.ensures.disk

@@ -8,11 +8,12 @@ use Rattle.disk_runs.specs.declared.fault.RunFault.TheVariants.{Mount}
 use Rattle.std.specs.Prelude.{Err}
 use Rattle.disk_runs.proofs.TraceLaws.{led, led_gives, led_leaves}
 use Rattle.disk_jobs.specs.Saved.{stopping}
+use Rattle.disk_jobs.proofs.MountLaws.{mount_told}
 use Rattle.disk_jobs.proofs.statistics.run_counted.Goals as goal
 
 -- the lines were answered by the disk that was mounted, and then it was told what was counted
-pub returns : goal.returns
-returns g c =
+pub returns-clause-runs : goal.returns-clause-runs
+returns-clause-runs g c =
     let only_reads = c.args.how.only_reads in
     let n = c.args.how.blocks in
     let old = c.new.result.inner in
@@ -38,8 +39,8 @@ returns g c =
     }
 
 -- the drive was not mounted
-pub returns-in-Err : goal.returns-in-Err
-returns-in-Err g c =
+pub returns-in-Err-clause-runs : goal.returns-in-Err-clause-runs
+returns-in-Err-clause-runs g c =
     let middle = g.W.Write.contents c.args.output.now in
     let bytes = exchange c.args.input.now.left middle middle in
     let none : IsNotMounted c.args.how.blocks bytes (drive_of (stopping c.args.how.stop (g.D.Device.drive c.args.device))) c.in-Err.fault c.in-Err.counter.inner =
@@ -56,3 +57,8 @@ returns-in-Err g c =
       };
       tells = (refl, refl);
     }
+
+-- the disk is told that was mounted
+pub returns-clause-mounting : goal.returns-clause-mounting
+returns-clause-mounting g c =
+    mount_told c.args.how.blocks c.args.how.stop (g.D.Device.drive c.args.device) c.in-Ok.disk _ c.done-mounting.result (rw (c.new.ensures, c.stopping-device.ensures) at c.in-Ok.ensures.disk) c.done-mounting.ensures.disk
