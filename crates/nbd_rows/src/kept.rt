@@ -68,14 +68,14 @@ pub fn show_kept(
     let served = ServedFile {
         bytes: file.as_slice(),
         store: Held::new(alloc, Vec::from_slice(alloc, file)?, LIMIT),
-        medium: WriteThrough,
+        medium: WriteThrough::new(),
     };
     let mut sent = Vec::new(alloc);
-    let (left, store, result) = serve_drive(alloc, job, served, &mut &*input, &mut sent);
-    *file = Vec::from_slice(alloc, store.bytes())?;
+    let ended = serve_drive(alloc, job, served, &mut &*input, &mut sent);
+    *file = Vec::from_slice(alloc, ended.store.bytes())?;
     show_replies(&sent, out)?;
-    show_counts(&left, out)?;
-    show_end(result, out)
+    show_counts(&ended.left, out)?;
+    show_end(ended.result, out)
 }
 
 /// Serves the drive in a file read only. Shows what the server sent, and how the session ended.

@@ -4,7 +4,7 @@ use crate::fault::RowsFault;
 use crate::show::show_replies;
 use disk_files::FailAfter;
 use drive_port::{Geometry, StopAfter};
-use nbd_session::{Medium, MediumFault, ServedDisk, SessionFault, serve};
+use nbd_session::{Medium, MediumFault, ServedDisk, SessionFault, SyncCount, serve};
 use std::alloc::Global;
 use std::io::Write;
 use zone_drive::Drive;
@@ -51,21 +51,18 @@ impl Setting {
 /// Counts its syncs, or fails in each.
 #[derive(Drop)]
 struct Counting {
-    syncs: u64,
+    syncs: SyncCount,
     is_worn: bool,
 }
 
 impl Medium for Counting {
-    ghost use Rattle.std.specs.Prelude.{⊤};
-
-    ghost is_synced = { λ _ _. ⊤ };
+    ghost syncs = { λ m. m.syncs };
 
     fn sync(&mut self) -> Result<(), MediumFault> {
         if self.is_worn {
             return Err(MediumFault);
         }
-        self.syncs = self.syncs.saturating_add(1);
-        Ok(())
+        self.syncs.add_one()
     }
 }
 
@@ -92,7 +89,7 @@ fn run_session<W: Write>(
         return Err(RowsFault::Drive);
     };
     let medium = Counting {
-        syncs: 0,
+        syncs: SyncCount::new(),
         is_worn: setting.is_worn,
     };
     let mut store = ServedDisk::new(disk, medium);
@@ -102,7 +99,7 @@ fn run_session<W: Write>(
     Ok(Ended {
         result,
         left: reader.len(),
-        syncs: medium.syncs,
+        syncs: medium.syncs.get(),
     })
 }
 

@@ -1,5 +1,5 @@
 -- What is answered by success was synced, where it had to be.
-use Rattle.std.proofs.Common.{◌≡◌, ℕ, List, ◌++◌, Ok, Err, true, refl, ap, sym, ◌∙◌, arith}
+use Rattle.std.proofs.Common.{◌≡◌, ℕ, ◌<◌, List, ◌++◌, Ok, Err, true, refl, ap, sym, ◌∙◌, arith}
 use Rattle.std.specs.Prelude.{Contains, Result, slice_index}
 use Rattle.nbd_wire.specs.Transmission.{error_code, simple_reply_bytes}
 use Rattle.nbd_wire.specs.declared.error_code.ErrorCode.{ErrorCode}
@@ -45,13 +45,14 @@ refused wanted disk.Smaller none = omega (arith, none)
 refused wanted disk.Reserve none = omega (arith, none)
 
 durable : (middle : StoreView) (first : Result (Unit {0}) DiskFault) (wanted : Asked) (result : Result (Unit {0}) StoreFault) (new : StoreView)
-    → Forces true middle first result new → error_code (code_of wanted result) ≡ 0 → (array : List (List ℕ)) → Contains new.since array → array ≡ disk_array new.disk
-durable middle (Err fault) wanted result new f none array found = absurd (refused wanted fault (rw f.0 at none))
-durable middle (Ok done) wanted (Ok d) new s none array found = s.3 array found ∙ ap disk_array (sym s.1)
-durable middle (Ok done) wanted (Err (Disk fault)) new s none array found = absurd (refused wanted fault none)
-durable middle (Ok done) wanted (Err Medium) new s none array found = absurd (omega (arith, none))
+    → Forces true middle first result new → error_code (code_of wanted result) ≡ 0
+    → (middle.syncs < new.syncs) × ((array : List (List ℕ)) → Contains new.since array → array ≡ disk_array new.disk)
+durable middle (Err fault) wanted result new f none = absurd (refused wanted fault (rw f.0 at none))
+durable middle (Ok done) wanted (Ok d) new s none = (s.3, λ array found. s.4 array found ∙ ap disk_array (sym s.1))
+durable middle (Ok done) wanted (Err (Disk fault)) new s none = absurd (refused wanted fault none)
+durable middle (Ok done) wanted (Err Medium) new s none = absurd (omega (arith, none))
 
--- after a forced request that succeeded, a loss of power does not change the array
+-- after a forced request that succeeded, one sync more was completed, and a loss of power does not change the array
 pub forced-durable : ForcedIsDurable
 forced-durable old new request wanted bytes reply shown a forced said =
     durable a.middle a.answer.result wanted a.result new (rw forced at a.forces) (is_success (code_of wanted a.result) request.cookie _ shown (sym a.reply_is ∙ said))

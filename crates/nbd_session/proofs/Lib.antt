@@ -6,3 +6,4 @@ pub mod StoreLaws
 pub mod ServedLaws
 pub mod DurableLaws
 pub mod ReadOnlyLaws
+pub mod ModeLaws

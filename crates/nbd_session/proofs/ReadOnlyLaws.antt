@@ -1,10 +1,10 @@
 -- A session of a store that is read only leaves its array as it was.
-use Rattle.std.proofs.Common.{◌≡◌, ℕ, List, Option, Some, None, Ok, Err, true, false, refl, ap, sym, inl, inr, ◌∙◌}
-use Rattle.std.specs.Prelude.{Bool, MatchOption, Result, if◌then◌else◌}
+use Rattle.std.proofs.Common.{◌≡◌, ℕ, List, Ok, Err, true, false, refl, ap, sym, ◌∙◌}
+use Rattle.std.specs.Prelude.{Bool, ◌&&◌, not, Result, if◌then◌else◌}
 use Rattle.nbd_wire.specs.declared.error_code.ErrorCode.{ErrorCode}
 use Rattle.nbd_wire.specs.declared.error_code.ErrorCode.TheVariants as errors
 use Rattle.nbd_wire.specs.declared.request.Request.{Request}
-use Rattle.zone_translator.specs.Flat.{Answer, Begun, FlatDisk, known_answer, read, with_nothing}
+use Rattle.zone_translator.specs.Flat.{Answer, known_answer, read}
 use Rattle.zone_translator.specs.View.{disk_array, flat_of}
 use Rattle.zone_translator.specs.declared.fault.DiskFault.{DiskFault}
 use Rattle.nbd_session.specs.declared.asked.Asked.{Asked}
@@ -13,8 +13,9 @@ use Rattle.nbd_session.specs.declared.fault.StoreFault.{StoreFault}
 use Rattle.nbd_session.specs.declared.fault.StoreFault.TheVariants.{Disk, Medium}
 use Rattle.nbd_session.specs.Laws.{ReadOnlyKeepsArray}
 use Rattle.nbd_session.specs.Requests.{AnswersAsked, Does, Forces, asked_of, changes_disk, permitted}
-use Rattle.nbd_session.specs.Store.{Rests, StoreView, Syncs}
+use Rattle.nbd_session.specs.Store.{Rests, RestsBy, StoreView, Syncs}
 use Rattle.nbd_session.proofs.KeptLaws.{IsKept, session_kept}
+use Rattle.nbd_session.proofs.ServedLaws.{read-kept}
 
 -- the array of a store that is read only stays, and it is read only still
 abbrev Stays : StoreView → StoreView → Type 0
@@ -29,25 +30,19 @@ stays_again a b c first second read_only =
     let y = second x.1 in
     (y.0 ∙ x.0, y.1)
 
--- a read leaves the array, done or refused
-read-kept : (known : Option (Result (Unit {0}) DiskFault)) (old : FlatDisk) (first n : ℕ) (answer : Answer) (result : Result (Unit {0}) DiskFault) (shown : List (List ℕ)) (new : FlatDisk)
-    → MatchOption known (Begun old (read first n) result shown new) (λ r. (answer ≡ with_nothing r) × (new ≡ old)) → new.array ≡ old.array
-read-kept (Some r) old first n answer result shown new c = ap (λ (d : FlatDisk). d.array) c.1
-read-kept None old first n answer (Ok done) shown new c = ap (λ (d : FlatDisk). d.array) c.1
-read-kept None old first n answer (Err fault) shown new c = c.2
-
 does_stays : (old : StoreView) (wanted : Asked) (bytes : List ℕ) (answer : Answer) (new : StoreView) → changes_disk wanted ≡ false → Does old wanted bytes answer new → Stays old new
 does_stays old (Read first n) bytes answer new harmless c read_only =
-    (read-kept (known_answer (flat_of old.disk) (read first n)) (flat_of old.disk) first n answer answer.result answer.shown (flat_of new.disk) c.flat, c.read_only ∙ read_only)
+    (read-kept (known_answer (flat_of old.disk) (read first n)) (flat_of old.disk) first n answer answer.result answer.shown (flat_of new.disk) c.calls.flat, c.calls.mode.read_only ∙ read_only)
 does_stays old Flush bytes answer new harmless c read_only = same_stays old new c.1 read_only
 does_stays old (Write first) bytes answer new harmless c read_only = absurd (cc harmless)
 does_stays old (Trim first n) bytes answer new harmless c read_only = absurd (cc harmless)
-does_stays old (WriteZeroes first n hole) bytes answer new harmless c read_only = absurd (cc harmless)
+does_stays old (WriteZeroes first n true) bytes answer new harmless c read_only = absurd (cc harmless)
+does_stays old (WriteZeroes first n false) bytes answer new harmless c read_only = absurd (cc harmless)
 
 sync_stays : (old : StoreView) (result : Result (Unit {0}) StoreFault) (new : StoreView) → Syncs old result new → Stays old new
-sync_stays old (Ok done) new s read_only = (ap disk_array s.1, s.2 ∙ read_only)
+sync_stays old (Ok done) new s read_only = (ap disk_array s.1, s.2.read_only ∙ read_only)
 sync_stays old (Err (Disk fault)) new s read_only = same_stays old new s.1 read_only
-sync_stays old (Err Medium) new s read_only = (ap disk_array s.1, s.2 ∙ read_only)
+sync_stays old (Err Medium) new s read_only = (ap disk_array s.1, s.2.read_only ∙ read_only)
 
 force_stays : (forced : Bool) (old : StoreView) (first : Result (Unit {0}) DiskFault) (result : Result (Unit {0}) StoreFault) (new : StoreView) → Forces forced old first result new → Stays old new
 force_stays forced old (Err fault) result new f = same_stays old new f.1
@@ -67,9 +62,14 @@ asked_stays old request false wanted bytes reply new is a read_only = absurd (cc
 asked_stays old request true (Err error) bytes reply new is a read_only = same_stays old new a.1 read_only
 asked_stays old request true (Ok wanted) bytes reply new is a read_only = chosen_stays old request wanted bytes reply new (changes_disk wanted) refl a read_only
 
+-- a store that is read only takes no turn
+no_turn : (cleans read_only : Bool) (old new : StoreView) → read_only ≡ true → RestsBy (cleans && not read_only) old new → new ≡ old
+no_turn cleans false old new is r = absurd (cc is)
+no_turn true true old new is r = r
+no_turn false true old new is r = r
+
 rests_stays : (old new : StoreView) → Rests old new → Stays old new
-rests_stays old new (inl same) read_only = same_stays old new same read_only
-rests_stays old new (inr c) read_only = absurd (cc (sym c.1 ∙ read_only))
+rests_stays old new r read_only = same_stays old new (no_turn old.cleans old.read_only old new read_only r) read_only
 
 array_kept : IsKept Stays
 array_kept = record {

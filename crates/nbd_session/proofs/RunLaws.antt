@@ -1,5 +1,5 @@
 -- A session continues by one message.
-use Rattle.std.proofs.Common.{◌≡◌, ℕ, ◌+◌, List, [], ◌∷◌, ◌++◌, length, Option, Ok, Err, refl, ap, sym, ◌∙◌, append_assoc}
+use Rattle.std.proofs.Common.{◌≡◌, ℕ, ◌+◌, List, [], ◌∷◌, ◌++◌, length, Option, Ok, Err, true, refl, ap, sym, ◌∙◌, append_assoc}
 use Rattle.std.specs.Prelude.{IsErrAnd, Result}
 use Rattle.std.specs.List.{flat_map}
 use Rattle.std.specs.Io.KnownBytes.{Keeps}
@@ -24,7 +24,7 @@ served_none left contents s = record {
   count_is = refl;
 }
 
-each-more : (ds : List Dialogue) (d : Dialogue) (old middle new : Session) → AnswersEach old ds middle → AnswersMessage middle d.message d.reply new → AnswersEach old (ds ++ d ∷ []) new
+each-more : (ds : List Dialogue) (d : Dialogue) (old middle new : Session) → AnswersEach old ds middle → AnswersMessage true middle d.message d.reply new → AnswersEach old (ds ++ d ∷ []) new
 each-more [] d old middle new p a = (new, rw p at a, refl)
 each-more (x ∷ xs) d old middle new p a = (p.0, p.1, each-more xs d p.0 middle new p.2 a)
 
@@ -34,7 +34,7 @@ joined f (x ∷ xs) d = rw (joined f xs d) (sym (append_assoc (f x) (flat_map f 
 
 -- once the next message is answered, the count of answered messages is one higher
 pub served_more : (input middle rest written between contents : Option (List ℕ)) (old mid new : Session) (n : ℕ)
-    → ServedCount (streams input middle written between) old mid n → AnswersOne (streams middle rest between contents) mid new → ServedCount (streams input rest written contents) old new (n + 1)
+    → ServedCount (streams input middle written between) old mid n → AnswersOne true (streams middle rest between contents) mid new → ServedCount (streams input rest written contents) old new (n + 1)
 served_more input middle rest written between contents old mid new n s x =
     let d : Dialogue = record { message = x.message; reply = x.reply } in
     let ds = s.served.dialogues in

@@ -1,6 +1,6 @@
 -- A session keeps the drive of its disk.
 use Rattle.std.proofs.Common.{◌≡◌, ℕ, List, Ok, Err, true, false, inl, inr}
-use Rattle.std.specs.Prelude.{Bool, Result}
+use Rattle.std.specs.Prelude.{Bool, ◌&&◌, not, Result}
 use Rattle.disk_runs.specs.KeepingLaws.{keeps_again, keeps_call, keeps_same}
 use Rattle.disk_runs.specs.Trace.{KeepsServed}
 use Rattle.nbd_wire.specs.declared.error_code.ErrorCode.{ErrorCode}
@@ -14,7 +14,7 @@ use Rattle.nbd_session.specs.declared.fault.StoreFault.{StoreFault}
 use Rattle.nbd_session.specs.declared.fault.StoreFault.TheVariants.{Disk, Medium}
 use Rattle.nbd_session.specs.Requests.{AnswersAsked, Does, Forces, asked_of_store}
 use Rattle.nbd_session.specs.Session.{Session}
-use Rattle.nbd_session.specs.Store.{Calls, Rests, StoreView, Syncs}
+use Rattle.nbd_session.specs.Store.{Calls, RestsBy, StoreView, Syncs, Writes}
 use Rattle.nbd_session.specs.Streams.{Streams}
 use Rattle.nbd_session.specs.Turns.{Serves}
 use Rattle.nbd_session.proofs.KeptLaws.{IsKept, session_kept}
@@ -28,13 +28,17 @@ same_keeps old new same = rw same (keeps_same old.disk)
 call_keeps : (old : StoreView) (call : Call) (answer : Answer) (new : StoreView) → Calls old call answer new → KeepsStore old new
 call_keeps old call answer new c = keeps_call old.disk new.disk c.kept
 
+write_keeps : (is_trim : Bool) (old : StoreView) (call : Call) (first n : ℕ) (answer : Answer) (new : StoreView) → Writes is_trim old call first n answer new → KeepsStore old new
+write_keeps is_trim old call first n answer new w = call_keeps old call answer new w.calls
+
 -- what is asked, done, keeps the drive
 does_keeps : (old : StoreView) (wanted : Asked) (bytes : List ℕ) (answer : Answer) (new : StoreView) → Does old wanted bytes answer new → KeepsStore old new
-does_keeps old (Write first) bytes answer new (inl c) = call_keeps old _ answer new c
+does_keeps old (Write first) bytes answer new (inl w) = write_keeps false old _ first _ answer new w
 does_keeps old (Write first) bytes answer new (inr c) = same_keeps old new c.1
-does_keeps old (Read first n) bytes answer new c = call_keeps old _ answer new c
-does_keeps old (Trim first n) bytes answer new c = call_keeps old _ answer new c
-does_keeps old (WriteZeroes first n hole) bytes answer new c = call_keeps old _ answer new c
+does_keeps old (Read first n) bytes answer new r = call_keeps old _ answer new r.calls
+does_keeps old (Trim first n) bytes answer new w = write_keeps true old _ first n answer new w
+does_keeps old (WriteZeroes first n true) bytes answer new w = write_keeps true old _ first n answer new w
+does_keeps old (WriteZeroes first n false) bytes answer new w = write_keeps false old _ first n answer new w
 does_keeps old Flush bytes answer new c = same_keeps old new c.1
 
 sync_keeps : (old : StoreView) (result : Result (Unit {0}) StoreFault) (new : StoreView) → Syncs old result new → KeepsStore old new
@@ -52,16 +56,16 @@ asked_keeps old request (Err error) bytes reply new a = same_keeps old new a.1
 asked_keeps old request (Ok wanted) bytes reply new a =
     keeps_again old.disk a.middle.disk new.disk (does_keeps old wanted bytes a.answer a.middle a.does) (force_keeps _ a.middle a.answer.result a.result new a.forces)
 
-rests_keeps : (old new : StoreView) → Rests old new → KeepsStore old new
-rests_keeps old new (inl same) = same_keeps old new same
-rests_keeps old new (inr c) = call_keeps old _ _ new c.2
+rests_keeps : (turn : Bool) (old new : StoreView) → RestsBy turn old new → KeepsStore old new
+rests_keeps true old new t = call_keeps old _ _ new t.calls
+rests_keeps false old new same = same_keeps old new same
 
 drive_kept : IsKept KeepsStore
 drive_kept = record {
   same = λ store. keeps_same store.disk;
   again = λ a b c. keeps_again a.disk b.disk c.disk;
   asked = λ old request bytes reply new. asked_keeps old request (asked_of_store old request) bytes reply new;
-  rests = rests_keeps;
+  rests = λ old new. rests_keeps (old.cleans && not old.read_only) old new;
 }
 
 -- a session keeps the drive of its disk, however it ends

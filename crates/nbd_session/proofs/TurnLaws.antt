@@ -1,5 +1,5 @@
 -- A message is its head and what follows it.
-use Rattle.std.proofs.Common.{◌≡◌, ℕ, ◌<◌, List, ◌++◌, length, Option, Ok, Err, false, refl, ap, inl, inr, ◌∙◌}
+use Rattle.std.proofs.Common.{◌≡◌, ℕ, ◌<◌, List, ◌++◌, length, Option, Ok, Err, true, false, refl, ap, inr, ◌∙◌}
 use Rattle.std.specs.Prelude.{Bool, IfErr, IsErrAnd, OnOk, Result, ⊤}
 use Rattle.std.specs.Io.KnownBytes.{Appends, Consumes, Keeps}
 use Rattle.std.proofs.KnownBytes.{Appends-kept, Consumes-trans}
@@ -16,8 +16,8 @@ use Rattle.nbd_session.specs.declared.fault.SessionFault.TheVariants.{Input, Mag
 use Rattle.nbd_session.specs.declared.phase.Phase.{Phase}
 use Rattle.nbd_session.specs.declared.phase.Phase.TheVariants as phases
 use Rattle.nbd_session.specs.Requests.{AnswersAsked, asked_of_store, data_length, is_disconnect}
-use Rattle.nbd_session.specs.Session.{AnswersMessage, Session, answer_bytes, export_of, option_answer, phase_after, session}
-use Rattle.nbd_session.specs.Store.{Rests, StoreView}
+use Rattle.nbd_session.specs.Session.{AnswersMessage, Follows, Session, answer_bytes, export_of, option_answer, phase_after, session}
+use Rattle.nbd_session.specs.Store.{StoreView}
 use Rattle.nbd_session.specs.Streams.{Drops, Streams, streams}
 use Rattle.nbd_session.specs.Turns.{AnswersOne, IsCutMessage, Replies, RepliesInPart, ReplyStops, StopsSession, TurnGives}
 
@@ -48,10 +48,10 @@ stops-so Output bytes count A B P Q so nothing r = record {
 }
 
 -- the head is read, and the rest is answered
-exchanged : (input middle rest written contents : Option (List ℕ)) (head : List ℕ) (count : ℕ) (A : List ℕ → List ℕ → Type 0) (old new : Session) → Consumes input middle head
-    → ((after reply : List ℕ) → length after ≡ count → A after reply → AnswersMessage old (head ++ after) reply new)
-    → Replies (streams middle rest written contents) count A → AnswersOne (streams input rest written contents) old new
-exchanged input middle rest written contents head count A old new first so r = record {
+exchanged : (passes : Bool) (input middle rest written contents : Option (List ℕ)) (head : List ℕ) (count : ℕ) (A : List ℕ → List ℕ → Type 0) (old new : Session) → Consumes input middle head
+    → ((after reply : List ℕ) → length after ≡ count → A after reply → AnswersMessage passes old (head ++ after) reply new)
+    → Replies (streams middle rest written contents) count A → AnswersOne passes (streams input rest written contents) old new
+exchanged passes input middle rest written contents head count A old new first so r = record {
   message = head ++ r.after;
   reply = r.reply;
   read = Consumes-trans input middle rest head r.after first r.read;
@@ -63,7 +63,7 @@ exchanged input middle rest written contents head count A old new first so r = r
 stopped : (fault : SessionFault) (input middle rest written contents : Option (List ℕ)) (head : List ℕ) (count : ℕ) (A : List ℕ → List ℕ → Type 0) (P : Type 0) (old : Session) (phase : Phase) (new : StoreView)
     → Consumes input middle head → (P → new ≡ old.store)
     → ((front : List ℕ) → length front < count → IsCutMessage old.phase (head ++ front))
-    → ((after reply : List ℕ) → length after ≡ count → A after reply → AnswersMessage old (head ++ after) reply (session phase new))
+    → ((after reply : List ℕ) → length after ≡ count → A after reply → AnswersMessage false old (head ++ after) reply (session phase new))
     → ReplyStops fault (streams middle rest written contents) count A P → StopsSession fault (streams input rest written contents) old new
 stopped Input input middle rest written contents head count A P old phase new first nothing cut so r = record {
   front = head ++ r.0.bytes;
@@ -130,33 +130,33 @@ dropped-front input rest written contents n count reply wanted dropped same is s
 
 -- ---- a request that is no DISC
 
-request-answered : (old answered new : StoreView) (request : Request) (head : List ℕ) → (head ≡ request_bytes request) × FitsRequest request → is_disconnect request ≡ false → Rests answered new
+request-answered : (passes : Bool) (old answered new : StoreView) (request : Request) (head : List ℕ) → (head ≡ request_bytes request) × FitsRequest request → is_disconnect request ≡ false → Follows passes answered new
     → (after reply : List ℕ) → length after ≡ data_length request → AnswersAsked old request (asked_of_store old request) after reply answered
-    → AnswersMessage (session phases.Transmission old) (head ++ after) reply (session phases.Transmission new)
-request-answered old answered new request head is goes_on rests after reply count a = record {
+    → AnswersMessage passes (session phases.Transmission old) (head ++ after) reply (session phases.Transmission new)
+request-answered passes old answered new request head is goes_on follows after reply count a = record {
   request = request;
   fits = is.1;
   bytes = after;
   message_is = ap (λ (h : List ℕ). h ++ after) is.0;
   length_is = count;
-  answer = rw goes_on (refl, record { answered = answered; answers = a; rests = rests });
+  answer = rw goes_on (refl, record { answered = answered; answers = a; follows = follows });
 }
 
 request-cut : (request : Request) (head : List ℕ) → (head ≡ request_bytes request) × FitsRequest request → (front : List ℕ) → length front < data_length request → IsCutMessage phases.Transmission (head ++ front)
 request-cut request head is front fewer =
     inr (record { request = request; fits = is.1; front = front; bytes_are = ap (λ (h : List ℕ). h ++ front) is.0; fewer = fewer })
 
--- a request is answered, its reply is written, and the store rests
-pub request-exchanged : (input middle rest written between contents : Option (List ℕ)) (old answered new : StoreView) (request : Request) (head : List ℕ) → Consumes input middle head
-    → (head ≡ request_bytes request) × FitsRequest request → is_disconnect request ≡ false → Rests answered new → Keeps between contents
+-- a request is answered, its reply is written, and what follows is done
+pub request-exchanged : (passes : Bool) (input middle rest written between contents : Option (List ℕ)) (old answered new : StoreView) (request : Request) (head : List ℕ) → Consumes input middle head
+    → (head ≡ request_bytes request) × FitsRequest request → is_disconnect request ≡ false → Follows passes answered new → Keeps between contents
     → Replies (streams middle rest written between) (data_length request) (λ after reply. AnswersAsked old request (asked_of_store old request) after reply answered)
-    → AnswersOne (streams input rest written contents) (session phases.Transmission old) (session phases.Transmission new)
-request-exchanged input middle rest written between contents old answered new request head first is goes_on rests kept r = record {
+    → AnswersOne passes (streams input rest written contents) (session phases.Transmission old) (session phases.Transmission new)
+request-exchanged passes input middle rest written between contents old answered new request head first is goes_on follows kept r = record {
   message = head ++ r.after;
   reply = r.reply;
   read = Consumes-trans input middle rest head r.after first r.read;
   written = Appends-kept written between contents r.reply r.written kept;
-  answers = request-answered old answered new request head is goes_on rests r.after r.reply r.count_is r.answer;
+  answers = request-answered passes old answered new request head is goes_on follows r.after r.reply r.count_is r.answer;
 }
 
 -- if what follows the head of a request is not answered, the session stops
@@ -165,11 +165,11 @@ pub request-stopped : (fault : SessionFault) (input middle rest written contents
     → StopsSession fault (streams input rest written contents) (session phases.Transmission old) new
 request-stopped fault input middle rest written contents old new request head first is goes_on r =
     stopped fault input middle rest written contents head (data_length request) (λ after reply. AnswersAsked old request (asked_of_store old request) after reply new) (new ≡ old) (session phases.Transmission old) phases.Transmission new
-    first (λ same. same) (request-cut request head is) (request-answered old new new request head is goes_on (inl refl)) r
+    first (λ same. same) (request-cut request head is) (request-answered false old new new request head is goes_on refl) r
 
 -- a reply was written, and is not passed on
 pub request-unsent : (fault : SessionFault) (bytes : Streams) (old new : StoreView) → fault ≡ Unsent
-    → AnswersOne bytes (session phases.Transmission old) (session phases.Transmission new) → StopsSession fault bytes (session phases.Transmission old) new
+    → AnswersOne false bytes (session phases.Transmission old) (session phases.Transmission new) → StopsSession fault bytes (session phases.Transmission old) new
 request-unsent Unsent bytes old new is a = record { phase = phases.Transmission; answers = a }
 request-unsent Input bytes old new is a = absurd (cc is)
 request-unsent Magic bytes old new is a = absurd (cc is)
@@ -184,10 +184,10 @@ turn-stops bytes old (Err e) fault new is p = rw is p
 
 -- ---- an option
 
-option-answered : (old : StoreView) (no_zeroes : Bool) (option : OptionHead) (kind : Option OptionKind) (head : List ℕ) → kind ≡ option_of option.option → (head ≡ option_head_bytes option) × FitsHead option
+option-answered : (passes : Bool) (old : StoreView) (no_zeroes : Bool) (option : OptionHead) (kind : Option OptionKind) (head : List ℕ) → kind ≡ option_of option.option → (head ≡ option_head_bytes option) × FitsHead option
     → (after reply : List ℕ) → length after ≡ option.length → reply ≡ answer_bytes (export_of old) no_zeroes option.option (option_answer kind option.length)
-    → AnswersMessage (session (phases.Options no_zeroes) old) (head ++ after) reply (session (phase_after no_zeroes kind) old)
-option-answered old no_zeroes option kind head kind_is is after reply count said = record {
+    → AnswersMessage passes (session (phases.Options no_zeroes) old) (head ++ after) reply (session (phase_after no_zeroes kind) old)
+option-answered passes old no_zeroes option kind head kind_is is after reply count said = record {
   head = option;
   fits = is.1;
   bytes = after;
@@ -204,10 +204,10 @@ option-cut no_zeroes option head is front fewer =
 -- if the head of an option is read and what follows is answered, the message is answered
 pub option-exchanged : (input middle rest written contents : Option (List ℕ)) (old : StoreView) (no_zeroes : Bool) (option : OptionHead) (kind : Option OptionKind) (head : List ℕ) → Consumes input middle head → kind ≡ option_of option.option → (head ≡ option_head_bytes option) × FitsHead option
     → Replies (streams middle rest written contents) option.length (λ after reply. reply ≡ answer_bytes (export_of old) no_zeroes option.option (option_answer kind option.length))
-    → AnswersOne (streams input rest written contents) (session (phases.Options no_zeroes) old) (session (phase_after no_zeroes kind) old)
+    → AnswersOne true (streams input rest written contents) (session (phases.Options no_zeroes) old) (session (phase_after no_zeroes kind) old)
 option-exchanged input middle rest written contents old no_zeroes option kind head first kind_is is r =
-    exchanged input middle rest written contents head option.length (λ after reply. reply ≡ answer_bytes (export_of old) no_zeroes option.option (option_answer kind option.length)) (session (phases.Options no_zeroes) old) (session (phase_after no_zeroes kind) old)
-    first (option-answered old no_zeroes option kind head kind_is is) r
+    exchanged true input middle rest written contents head option.length (λ after reply. reply ≡ answer_bytes (export_of old) no_zeroes option.option (option_answer kind option.length)) (session (phases.Options no_zeroes) old) (session (phase_after no_zeroes kind) old)
+    first (option-answered true old no_zeroes option kind head kind_is is) r
 
 -- if what follows the head of an option is not answered, the session stops
 pub option-stopped : (fault : SessionFault) (input middle rest written contents : Option (List ℕ)) (old : StoreView) (no_zeroes : Bool) (option : OptionHead) (kind : Option OptionKind) (head : List ℕ) → Consumes input middle head → kind ≡ option_of option.option → (head ≡ option_head_bytes option) × FitsHead option
@@ -215,4 +215,4 @@ pub option-stopped : (fault : SessionFault) (input middle rest written contents 
     → StopsSession fault (streams input rest written contents) (session (phases.Options no_zeroes) old) old
 option-stopped fault input middle rest written contents old no_zeroes option kind head first kind_is is r =
     stopped fault input middle rest written contents head option.length (λ after reply. reply ≡ answer_bytes (export_of old) no_zeroes option.option (option_answer kind option.length)) ⊤ (session (phases.Options no_zeroes) old) (phase_after no_zeroes kind) old
-    first (λ t. refl) (option-cut no_zeroes option head is) (option-answered old no_zeroes option kind head kind_is is) r
+    first (λ t. refl) (option-cut no_zeroes option head is) (option-answered false old no_zeroes option kind head kind_is is) r

@@ -9,8 +9,7 @@ use Rattle.nbd_wire.specs.declared.command.Command.TheVariants as commands
 use Rattle.nbd_wire.specs.declared.error_code.ErrorCode.{ErrorCode}
 use Rattle.nbd_wire.specs.declared.error_code.ErrorCode.TheVariants as errors
 use Rattle.nbd_wire.specs.declared.request.Request.{Request}
-use Rattle.zone_translator.specs.Answers.{write_bytes}
-use Rattle.zone_translator.specs.Flat.{Answer, read, trim, with_nothing}
+use Rattle.zone_translator.specs.Flat.{Answer, with_nothing}
 use Rattle.zone_translator.specs.declared.fault.DiskFault.{DiskFault}
 use Rattle.zone_translator.specs.declared.fault.DiskFault.TheVariants as disk
 use Rattle.nbd_session.specs.declared.asked.Asked.{Asked}
@@ -20,7 +19,7 @@ use Rattle.nbd_session.specs.declared.fault.SessionFault.{SessionFault}
 use Rattle.nbd_session.specs.declared.fault.SessionFault.TheVariants.{Input}
 use Rattle.nbd_session.specs.declared.fault.StoreFault.{StoreFault}
 use Rattle.nbd_session.specs.declared.fault.StoreFault.TheVariants.{Disk, Medium}
-use Rattle.nbd_session.specs.Store.{Calls, StoreView, Syncs}
+use Rattle.nbd_session.specs.Store.{ReadsBlocks, StoreView, Syncs, Trims, WritesBytes, WritesZeros}
 use Rattle.nbd_session.specs.Streams.{DropsFewer}
 
 -- ---- what is asked
@@ -97,13 +96,16 @@ is_forced (Trim first n) r = r.flags % 2 == 1
 is_forced (WriteZeroes first n hole) r = r.flags % 2 == 1
 is_forced Flush r = true
 
--- what is asked is done by one call of the disk; of a WRITE nothing is done where there is no memory for its data
+-- What is asked is done by one call of the disk. A TRIM leaves records without data, and so does a WRITE_ZEROES that
+-- may leave a hole; one that may not, and a WRITE, leave records with data. Of a WRITE nothing is done where there is no
+-- memory for its data.
 abbrev pub Does : StoreView → Asked → List ℕ → Answer → StoreView → Type 0
 Does old (Write first) bytes answer new =
-    Calls old (write_bytes old.disk first bytes) answer new ⊎ ((answer ≡ with_nothing (Err disk.OutOfMemory)) × (new ≡ old))
-Does old (Read first n) bytes answer new = Calls old (read first n) answer new
-Does old (Trim first n) bytes answer new = Calls old (trim old.disk.drive.geometry.block first n) answer new
-Does old (WriteZeroes first n hole) bytes answer new = Calls old (trim old.disk.drive.geometry.block first n) answer new
+    WritesBytes old first bytes answer new ⊎ ((answer ≡ with_nothing (Err disk.OutOfMemory)) × (new ≡ old))
+Does old (Read first n) bytes answer new = ReadsBlocks old first n answer new
+Does old (Trim first n) bytes answer new = Trims old first n answer new
+Does old (WriteZeroes first n true) bytes answer new = Trims old first n answer new
+Does old (WriteZeroes first n false) bytes answer new = WritesZeros old first n answer new
 Does old Flush bytes answer new = (answer ≡ with_nothing (Ok tt)) × (new ≡ old)
 
 -- what was done is synced where it has to be durable, unless it was refused

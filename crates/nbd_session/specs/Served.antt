@@ -1,4 +1,4 @@
--- A disk that is served, the medium that keeps its drive, and whether it is read only.
+-- A disk that is served, the medium that keeps its drive, whether it is read only, and whether it cleans.
 use Rattle.std.specs.Prelude.{Bool}
 use Rattle.zone_translator.specs.View.{DiskView}
 
@@ -6,3 +6,4 @@ pub record Served (Medium : Type 0) : Type 0 where
   pub disk : DiskView
   pub medium : Medium
   pub read_only : Bool
+  pub cleans : Bool

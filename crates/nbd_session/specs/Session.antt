@@ -75,26 +75,31 @@ pub record ServesOption (old : StoreView) (no_zeroes : Bool) (message reply : Li
 
 -- ---- requests
 
--- a request is answered, and then the store rests
-pub record AnswersAndRests (old : StoreView) (request : Request) (bytes reply : List ℕ) (new : StoreView) : Type 0 where
+-- what follows the reply to a request: the store rests or, if the reply is not passed on, nothing is done
+abbrev pub Follows : Bool → StoreView → StoreView → Type 0
+Follows true old new = Rests old new
+Follows false old new = new ≡ old
+
+-- a request is answered, and what follows is done
+pub record AnswersAndRests (passes : Bool) (old : StoreView) (request : Request) (bytes reply : List ℕ) (new : StoreView) : Type 0 where
   pub answered : StoreView
   pub answers : AnswersAsked old request (asked_of_store old request) bytes reply answered
-  pub rests : Rests answered new
+  pub follows : Follows passes answered new
 
 -- a DISC has no reply, and ends the session
-abbrev pub AnswersBy : StoreView → Bool → Request → List ℕ → List ℕ → Session → Type 0
-AnswersBy old true request bytes reply new = (reply ≡ []) × (new ≡ session phases.Ended old)
-AnswersBy old false request bytes reply new =
-    (new.phase ≡ phases.Transmission) × AnswersAndRests old request bytes reply new.store
+abbrev pub AnswersBy : Bool → StoreView → Bool → Request → List ℕ → List ℕ → Session → Type 0
+AnswersBy passes old true request bytes reply new = (reply ≡ []) × (new ≡ session phases.Ended old)
+AnswersBy passes old false request bytes reply new =
+    (new.phase ≡ phases.Transmission) × AnswersAndRests passes old request bytes reply new.store
 
 -- a message is the head of a request and its data
-pub record ServesRequest (old : StoreView) (message reply : List ℕ) (new : Session) : Type 0 where
+pub record ServesRequest (passes : Bool) (old : StoreView) (message reply : List ℕ) (new : Session) : Type 0 where
   pub request : Request
   pub fits : FitsRequest request
   pub bytes : List ℕ
   pub message_is : message ≡ request_bytes request ++ bytes
   pub length_is : length bytes ≡ data_length request
-  pub answer : AnswersBy old (is_disconnect request) request bytes reply new
+  pub answer : AnswersBy passes old (is_disconnect request) request bytes reply new
 
 -- ---- messages
 
@@ -105,16 +110,16 @@ pub record TakesFlags (old : StoreView) (message reply : List ℕ) (new : Sessio
   pub reply_is : reply ≡ []
   pub new_is : new ≡ session (phases.Options flags.no_zeroes) old
 
--- a message is answered; the greeting answers to none
-abbrev pub AnswersIn : Phase → StoreView → List ℕ → List ℕ → Session → Type 0
-AnswersIn phases.Greeting old message reply new = (message ≡ []) × (reply ≡ greeting) × (new ≡ session phases.Flags old)
-AnswersIn phases.Flags old message reply new = TakesFlags old message reply new
-AnswersIn (phases.Options no_zeroes) old message reply new = ServesOption old no_zeroes message reply new
-AnswersIn phases.Transmission old message reply new = ServesRequest old message reply new
-AnswersIn phases.Ended old message reply new = ⊥
+-- A message is answered, and its reply is passed on or not. The greeting answers to none.
+abbrev pub AnswersIn : Bool → Phase → StoreView → List ℕ → List ℕ → Session → Type 0
+AnswersIn passes phases.Greeting old message reply new = (message ≡ []) × (reply ≡ greeting) × (new ≡ session phases.Flags old)
+AnswersIn passes phases.Flags old message reply new = TakesFlags old message reply new
+AnswersIn passes (phases.Options no_zeroes) old message reply new = ServesOption old no_zeroes message reply new
+AnswersIn passes phases.Transmission old message reply new = ServesRequest passes old message reply new
+AnswersIn passes phases.Ended old message reply new = ⊥
 
-abbrev pub AnswersMessage : Session → List ℕ → List ℕ → Session → Type 0
-AnswersMessage old message reply new = AnswersIn old.phase old.store message reply new
+abbrev pub AnswersMessage : Bool → Session → List ℕ → List ℕ → Session → Type 0
+AnswersMessage passes old message reply new = AnswersIn passes old.phase old.store message reply new
 
 -- ---- many messages
 
@@ -123,10 +128,10 @@ pub record Dialogue : Type 0 where
   pub message : List ℕ
   pub reply : List ℕ
 
--- messages are answered, one after the other
+-- messages are answered, one after the other, and each reply is passed on
 abbrev pub AnswersEach : Session → List Dialogue → Session → Type 0
 AnswersEach old [] new = new ≡ old
-AnswersEach old (d ∷ ds) new = (middle : Session) × AnswersMessage old d.message d.reply middle × AnswersEach middle ds new
+AnswersEach old (d ∷ ds) new = (middle : Session) × AnswersMessage true old d.message d.reply middle × AnswersEach middle ds new
 
 -- the bytes that were read are messages, and those that were written are the replies to them
 pub record Served (bytes : Streams) (old new : Session) : Type 0 where

@@ -1,5 +1,5 @@
 -- What comes of one message, and how a session ends.
-use Rattle.std.specs.Prelude.{◌≡◌, ◌≢◌, ◌⊎◌, ℕ, ◌-◌, ◌<◌, ◌^◌, List, ◌++◌, length, Option, Some, None, Result, Ok, Err}
+use Rattle.std.specs.Prelude.{◌≡◌, ◌≢◌, ◌⊎◌, ℕ, ◌-◌, ◌<◌, ◌^◌, Bool, true, false, List, ◌++◌, length, Option, Some, None, Result, Ok, Err}
 use Rattle.std.specs.Io.KnownBytes.{Appends, Consumes, IsAtEnd, Keeps}
 use Rattle.disk_files.specs.Output.{AppendsFront}
 use Rattle.nbd_wire.specs.Handshake.{FitsHead, client_flags_bytes, option_head_bytes}
@@ -18,13 +18,13 @@ use Rattle.nbd_session.specs.Streams.{DropsFewer, Streams, streams}
 
 -- ---- one message
 
--- one message more is answered
-pub record AnswersOne (bytes : Streams) (old new : Session) : Type 0 where
+-- one message more is answered, and its reply is passed on or not
+pub record AnswersOne (passes : Bool) (bytes : Streams) (old new : Session) : Type 0 where
   pub message : List ℕ
   pub reply : List ℕ
   pub read : Consumes bytes.input bytes.rest message
   pub written : Appends bytes.written bytes.contents reply
-  pub answers : AnswersMessage old message reply new
+  pub answers : AnswersMessage passes old message reply new
 
 -- nothing is read, written or done
 pub record DoesNothing (bytes : Streams) (old : Session) (new : StoreView) : Type 0 where
@@ -76,19 +76,19 @@ pub record ReadsOnly (bytes : Streams) (Holds : List ℕ → Type 0) (old : Sess
   pub written : Keeps bytes.written bytes.contents
   pub new_is : new ≡ old.store
 
--- a message is answered, and of the reply a beginning is written, not all of it
+-- a message is answered, and of the reply a beginning is written, not all of it; nothing else is done
 pub record Breaks (bytes : Streams) (old : Session) (new : StoreView) : Type 0 where
   pub message : List ℕ
   pub reply : List ℕ
   pub phase : Phase
   pub read : Consumes bytes.input bytes.rest message
   pub written : AppendsFront bytes.written bytes.contents reply
-  pub answers : AnswersMessage old message reply (session phase new)
+  pub answers : AnswersMessage false old message reply (session phase new)
 
--- a message is answered, and its reply is written
+-- a message is answered, and its reply is written, and not passed on; nothing else is done
 pub record AnswersUnsent (bytes : Streams) (old : Session) (new : StoreView) : Type 0 where
   pub phase : Phase
-  pub answers : AnswersOne bytes old (session phase new)
+  pub answers : AnswersOne false bytes old (session phase new)
 
 -- Why a session stops at a message: the reader failed or ended before all of it was read, its head is foreign, or the writer failed in the reply
 -- or did not pass it on.
@@ -101,7 +101,7 @@ StopsSession TooMany bytes old new = ⊥
 
 -- what came of one message: a session continues in a phase, is over, or stops
 abbrev pub TurnGives : Streams → Session → Result (Option Phase) SessionFault → StoreView → Type 0
-TurnGives bytes old (Ok (Some phase)) new = AnswersOne bytes old (session phase new)
+TurnGives bytes old (Ok (Some phase)) new = AnswersOne true bytes old (session phase new)
 TurnGives bytes old (Ok None) new = DoesNothing bytes old new × IsOver old bytes.rest
 TurnGives bytes old (Err fault) new = StopsSession fault bytes old new
 

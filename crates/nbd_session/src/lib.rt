@@ -15,9 +15,13 @@
 //!   as a flat disk answers them, an array of blocks.
 //! - A request is answered after it was done. The data of a READ follow only a reply that says so, and a request that
 //!   is refused has its error, also one that is not aligned or past the end.
-//! - A FLUSH, and a write with FUA, is answered by success only after a sync. Then a loss of power leaves the array as
-//!   it is (`laws::forced_is_durable`). Until the next sync it leaves an array that the disk had since.
-//! - Between requests a store may clean ([`ServedDisk::cleaning`]). That changes no block.
+//! - A TRIM leaves records without data, and so does a WRITE_ZEROES that may leave a hole. One that may not, and a
+//!   WRITE, leave records with data. Each takes so many commands at most.
+//! - A FLUSH, and a write with FUA, is answered by success only after a sync, which a store counts. Then a loss of
+//!   power leaves the array as it is (`laws::forced_is_durable`). Until the next sync it leaves an array that the disk
+//!   had since.
+//! - After each request a store that cleans ([`ServedDisk::cleaning`]) takes one turn of cleaning. That changes no
+//!   block. Any other store does nothing then.
 //! - The client is told whether a store is read only ([`ServedDisk::reading`]). If so, a WRITE, a TRIM and a
 //!   WRITE_ZEROES are refused by `EPERM`, and the array stays as it is (`laws::read_only_keeps_array`).
 //! - After the drive has stopped each request that needs it is answered by `ESHUTDOWN`, and the session continues.
@@ -34,6 +38,7 @@ mod asked;
 mod client;
 mod fault;
 pub mod laws;
+mod medium;
 mod option_answer;
 mod options;
 mod output;
@@ -47,8 +52,9 @@ mod store;
 pub use asked::{Asked, MOST_BYTES};
 pub use client::Client;
 pub use fault::{MediumFault, SessionFault, StoreFault};
+pub use medium::{Medium, SyncCount, WriteThrough};
 pub use option_answer::OptionAnswer;
 pub use phase::Phase;
-pub use served_disk::{Medium, ServedDisk, WriteThrough};
+pub use served_disk::ServedDisk;
 pub use serving::serve;
 pub use store::Store;

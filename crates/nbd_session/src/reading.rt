@@ -3,6 +3,7 @@ ghost use Rattle.std.specs.Io.KnownBytes.{Consumes};
 ghost use Rattle.nbd_session.specs.Streams.{Drops, DropsFewer, FillsBuffer};
 
 use crate::fault::SessionFault;
+use disk_files::read_again;
 use std::alloc::AllocError;
 use std::io::Read;
 
@@ -16,7 +17,7 @@ pub fn fill<R: Read>(reader: &mut R, buffer: &mut [u8]) -> Result<bool, SessionF
 {
     let mut at = 0;
     while at < buffer.len() {
-        match reader.read(&mut buffer[at..]) {
+        match read_again(reader, &mut buffer[at..]) {
             Ok(0) if at == 0 => return Ok(false),
             Ok(0) => return Err(SessionFault::Input),
             Ok(n) => at += n,

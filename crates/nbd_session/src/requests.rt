@@ -190,14 +190,15 @@ fn answer_rest<R: Read, W: Write, S: Store>(
     }
 }
 
-/// Passes replies on, unless the next request has come whole, and then lets the store rest.
+/// Passes replies on, unless the next request has come whole, and then lets the store rest. If replies are not passed
+/// on, the store does nothing.
 fn pass_on<R: Client, W: Write, S: Store>(
     reader: &R,
     writer: &mut W,
     store: &mut S,
 ) -> Result<(), SessionFault>
     ensures written { Keeps (W.contents writer.old) (W.contents writer.new) }
-    ensures rests { Rests (S.view store.old) (S.view store.new) }
+    ensures rests { OnOk result (Rests (S.view store.old) (S.view store.new)) }
     ensures err { IfErr result (λ fault. (fault ≡ SessionFault.Unsent) × (S.view store.new ≡ S.view store.old)) }
 {
     if !reader.has_request() && writer.flush().is_err() {

@@ -1,35 +1,11 @@
-ghost use Rattle.std.specs.Prelude.{◌≡◌, OnOk, false, true};
+ghost use Rattle.std.specs.Prelude.{◌≡◌, false, true};
 
 use crate::fault::{MediumFault, StoreFault};
+use crate::medium::Medium;
 use crate::store::Store;
 use drive_port::Device;
 use std::marker::Model;
 use zone_translator::{Disk, DiskFault, DiskStatus};
-
-/// What keeps a drive when the power fails, as the file that its changes are written to. No contract can say what it
-/// keeps: a `sync` that answers `Ok` has made all that was written before durable.
-pub trait Medium {
-    /// That a sync which was done leads from one medium to the other. Only a call of `sync` can give it.
-    ghost is_synced: { Self → Self → Type 0 };
-
-    /// Makes durable what was written. After a fault it never answers `Ok` again, since what it lost is unknown.
-    fn sync(&mut self) -> Result<(), MediumFault>
-        ensures { OnOk result (is_synced self.old self.new) };
-}
-
-/// The medium of a drive that keeps each completed command by itself, or is only read.
-#[derive(Debug, Drop)]
-pub struct WriteThrough;
-
-impl Medium for WriteThrough {
-    ghost use Rattle.std.specs.Prelude.{⊤};
-
-    ghost is_synced = { λ _ _. ⊤ };
-
-    fn sync(&mut self) -> Result<(), MediumFault> {
-        Ok(())
-    }
-}
 
 /// A disk, and the medium that keeps its drive.
 #[derive(Drop)]
@@ -47,7 +23,7 @@ impl<D: Device + Drop, M: Medium + Drop> Model for ServedDisk<D, M> {
 
     ghost Value = { Served M };
 
-    ghost view = { λ s. record { disk = s.disk; medium = s.medium; read_only = s.read_only } };
+    ghost view = { λ s. record { disk = s.disk; medium = s.medium; read_only = s.read_only; cleans = s.cleans } };
 }
 
 impl<D: Device + Drop, M: Medium + Drop> ServedDisk<D, M> {
@@ -56,6 +32,7 @@ impl<D: Device + Drop, M: Medium + Drop> ServedDisk<D, M> {
         ensures disk { result.disk ≡ disk }
         ensures medium { result.medium ≡ medium }
         ensures read_only { result.read_only ≡ false }
+        ensures cleans { result.cleans ≡ false }
     {
         ServedDisk {
             disk,
@@ -71,6 +48,7 @@ impl<D: Device + Drop, M: Medium + Drop> ServedDisk<D, M> {
         ensures disk { result.disk ≡ disk }
         ensures medium { result.medium ≡ medium }
         ensures read_only { result.read_only ≡ false }
+        ensures cleans { result.cleans ≡ true }
     {
         ServedDisk {
             disk,
@@ -85,6 +63,7 @@ impl<D: Device + Drop, M: Medium + Drop> ServedDisk<D, M> {
         ensures disk { result.disk ≡ disk }
         ensures medium { result.medium ≡ medium }
         ensures read_only { result.read_only ≡ true }
+        ensures cleans { result.cleans ≡ false }
     {
         ServedDisk {
             disk,
@@ -114,10 +93,14 @@ impl<D: Device + Drop, M: Medium + Drop> Store for ServedDisk<D, M> {
     ghost use Rattle.std.specs.Prelude.{[], ◌∷◌};
     ghost use Rattle.zone_translator.specs.View.{disk_array};
 
-    // The drive itself has no other array than the one that the disk serves.
-    ghost view = { λ s. record { disk = s.disk; since = disk_array s.disk ∷ []; read_only = s.read_only } };
-
-    ghost is_synced = { λ old new. M.is_synced old.medium new.medium };
+    // The drive itself has no other array than the one that the disk serves. The syncs are those of its medium.
+    ghost view = { λ s. record {
+      disk = s.disk;
+      since = disk_array s.disk ∷ [];
+      syncs = M.syncs s.medium;
+      read_only = s.read_only;
+      cleans = s.cleans;
+    } };
 
     fn block_bytes(&self) -> u32 {
         let bytes = self.disk.block_bytes();

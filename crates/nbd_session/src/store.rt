@@ -1,19 +1,16 @@
-ghost use Rattle.std.specs.Prelude.{◌≡◌, ◌*◌, ◌<◌, ◌^◌, OnOk};
-ghost use Rattle.zone_translator.specs.Answers.{AreBlocksOf, write_bytes};
-ghost use Rattle.zone_translator.specs.Flat.{trim, with_nothing};
+ghost use Rattle.std.specs.Prelude.{◌≡◌, ◌*◌, ◌<◌, ◌^◌};
+ghost use Rattle.zone_translator.specs.Answers.{AreBlocksOf};
+ghost use Rattle.zone_translator.specs.Flat.{with_nothing};
 ghost use Rattle.zone_translator.specs.View.{disk_size};
-ghost use Rattle.nbd_session.specs.Store.{Calls, Rests, Shows, StoreView, Syncs};
+ghost use Rattle.nbd_session.specs.Store.{Rests, Shows, StoreView, Syncs, Trims, WritesBytes, WritesZeros};
 
 use crate::fault::StoreFault;
 use zone_translator::DiskFault;
 
 /// A disk that can be synced.
 pub trait Store {
-    /// The disk, and the arrays that a loss of power may leave.
+    /// The disk, the arrays that a loss of power may leave, and how many syncs were completed.
     ghost view: { Self → StoreView };
-
-    /// That a sync which was done leads from one store to the other. Only a call of `sync` can give it.
-    ghost is_synced: { Self → Self → Type 0 };
 
     /// How many bytes a block has.
     fn block_bytes(&self) -> u32
@@ -36,26 +33,22 @@ pub trait Store {
     /// Writes whole blocks from `first` on. After a refusal a front of them may be written.
     fn write(&mut self, first: u64, bytes: &[u8]) -> Result<(), DiskFault>
         requires { AreBlocksOf (view self.old).disk bytes.now }
-        ensures { Calls (view self.old) (write_bytes (view self.old).disk first bytes.now)
-            (with_nothing result) (view self.new) };
+        ensures { WritesBytes (view self.old) first bytes.now (with_nothing result) (view self.new) };
 
-    /// Makes `blocks` blocks from `first` on zeros that take no room.
+    /// Makes `blocks` blocks from `first` on zeros. That is recorded, and their data take no room.
     fn trim(&mut self, first: u64, blocks: u64) -> Result<(), DiskFault>
-        ensures { Calls (view self.old) (trim (view self.old).disk.drive.geometry.block first blocks)
-            (with_nothing result) (view self.new) };
+        ensures { Trims (view self.old) first blocks (with_nothing result) (view self.new) };
 
-    /// Writes `blocks` blocks of zeros from `first` on.
+    /// Writes `blocks` blocks of zeros from `first` on. They take room, as other data do.
     fn write_zeroes(&mut self, first: u64, blocks: u64) -> Result<(), DiskFault>
-        ensures { Calls (view self.old) (trim (view self.old).disk.drive.geometry.block first blocks)
-            (with_nothing result) (view self.new) };
+        ensures { WritesZeros (view self.old) first blocks (with_nothing result) (view self.new) };
 
     /// Makes the array durable: after a loss of power it is found again.
     fn sync(&mut self) -> Result<(), StoreFault>
-        ensures gives { Syncs (view self.old) result (view self.new) }
-        ensures synced { OnOk result (is_synced self.old self.new) };
+        ensures { Syncs (view self.old) result (view self.new) };
 
-    /// What a store does once a request is answered, while its client does not wait. The array stays, and so does all
-    /// else of a store that is read only.
+    /// What a store does once a request is answered, while its client does not wait: a turn of cleaning, if it cleans
+    /// and is not read only. The array stays.
     fn rest(&mut self)
         ensures { Rests (view self.old) (view self.new) };
 }

@@ -7,7 +7,7 @@ pub loop-at-preserved : goal.loop-at-preserved
 loop-at-preserved g c =
     let at = c.loop-at in
     let n = c.in-Ok.n in
-    let read = c.read.new.buf in
+    let read = c.read_again.new.buffer in
     record {
       within = search rules;
       length_is = search rules;
@@ -18,7 +18,7 @@ loop-at-preserved g c =
 pub returns-in-Ok-eq0-2-clause-fills : goal.returns-in-Ok-eq0-2-clause-fills
 returns-in-Ok-eq0-2-clause-fills g c =
     let at = c.loop-at in
-    (refl, fewer-end _ _ _ at.at _ c.in-Ok-eq0.field-0 at.buffer c.read.new.buf at.invariant.read at.invariant.within (search rules) c.in-Ok-eq0.field-0-test c.in-Ok-eq0.ensures.bytes.0)
+    (refl, fewer-end _ _ _ at.at _ c.in-Ok-eq0.field-0 at.buffer c.read_again.new.buffer at.invariant.read at.invariant.within (search rules) c.in-Ok-eq0.field-0-test c.in-Ok-eq0.ensures.bytes.0)
 
 pub returns-in-Err-clause-fills : goal.returns-in-Err-clause-fills
 returns-in-Err-clause-fills g c =

@@ -1,0 +1,75 @@
+-- A session forgets no sync, and its store stays read only, and cleans, as before.
+use Rattle.std.proofs.Common.{◌≡◌, ℕ, ◌≤◌, List, Ok, Err, true, false, refl, inl, inr, ◌∙◌, arith}
+use Rattle.std.specs.Prelude.{Bool, ◌&&◌, not, Result}
+use Rattle.nbd_wire.specs.declared.error_code.ErrorCode.{ErrorCode}
+use Rattle.nbd_wire.specs.declared.request.Request.{Request}
+use Rattle.zone_translator.specs.Flat.{Answer, Call}
+use Rattle.zone_translator.specs.declared.fault.DiskFault.{DiskFault}
+use Rattle.nbd_session.specs.declared.asked.Asked.{Asked}
+use Rattle.nbd_session.specs.declared.asked.Asked.TheVariants.{Read, Write, Trim, WriteZeroes, Flush}
+use Rattle.nbd_session.specs.declared.fault.StoreFault.{StoreFault}
+use Rattle.nbd_session.specs.declared.fault.StoreFault.TheVariants.{Disk, Medium}
+use Rattle.nbd_session.specs.Laws.{SessionKeepsMode}
+use Rattle.nbd_session.specs.Requests.{AnswersAsked, Does, Forces, asked_of_store}
+use Rattle.nbd_session.specs.Store.{Calls, KeepsMode, RestsBy, StoreView, Syncs}
+use Rattle.nbd_session.proofs.KeptLaws.{IsKept, session_kept}
+
+-- no sync is forgotten, and the mode is the same
+abbrev Grows : StoreView → StoreView → Type 0
+Grows old new = (old.syncs ≤ new.syncs) × KeepsMode old new
+
+grows_by : (old new : StoreView) → old.syncs ≤ new.syncs → KeepsMode old new → Grows old new
+grows_by old new fewer mode = (fewer, mode)
+
+self_grows : (store : StoreView) → Grows store store
+self_grows store = (omega arith, record { read_only = refl; cleans = refl })
+
+same_grows : (old new : StoreView) → new ≡ old → Grows old new
+same_grows old new same = rw same (self_grows old)
+
+grows_again : (a b c : StoreView) → Grows a b → Grows b c → Grows a c
+grows_again a b c x y =
+    (omega (arith, x.0, y.0), record { read_only = y.1.read_only ∙ x.1.read_only; cleans = y.1.cleans ∙ x.1.cleans })
+
+call_grows : (old : StoreView) (call : Call) (answer : Answer) (new : StoreView) → Calls old call answer new → Grows old new
+call_grows old call answer new c = (omega (arith, c.syncs), c.mode)
+
+does_grows : (old : StoreView) (wanted : Asked) (bytes : List ℕ) (answer : Answer) (new : StoreView) → Does old wanted bytes answer new → Grows old new
+does_grows old (Write first) bytes answer new (inl w) = call_grows old _ answer new w.calls
+does_grows old (Write first) bytes answer new (inr c) = same_grows old new c.1
+does_grows old (Read first n) bytes answer new r = call_grows old _ answer new r.calls
+does_grows old (Trim first n) bytes answer new w = call_grows old _ answer new w.calls
+does_grows old (WriteZeroes first n true) bytes answer new w = call_grows old _ answer new w.calls
+does_grows old (WriteZeroes first n false) bytes answer new w = call_grows old _ answer new w.calls
+does_grows old Flush bytes answer new c = same_grows old new c.1
+
+sync_grows : (old : StoreView) (result : Result (Unit {0}) StoreFault) (new : StoreView) → Syncs old result new → Grows old new
+sync_grows old (Ok done) new s = (omega (arith, s.3), s.2)
+sync_grows old (Err (Disk fault)) new s = same_grows old new s.1
+sync_grows old (Err Medium) new s = (s.3, s.2)
+
+force_grows : (forced : Bool) (old : StoreView) (first : Result (Unit {0}) DiskFault) (result : Result (Unit {0}) StoreFault) (new : StoreView) → Forces forced old first result new → Grows old new
+force_grows forced old (Err fault) result new f = same_grows old new f.1
+force_grows true old (Ok done) result new f = sync_grows old result new f
+force_grows false old (Ok done) result new f = same_grows old new f.1
+
+asked_grows : (old : StoreView) (request : Request) (wanted : Result Asked ErrorCode) (bytes reply : List ℕ) (new : StoreView) → AnswersAsked old request wanted bytes reply new → Grows old new
+asked_grows old request (Err error) bytes reply new a = same_grows old new a.1
+asked_grows old request (Ok wanted) bytes reply new a =
+    grows_again old a.middle new (does_grows old wanted bytes a.answer a.middle a.does) (force_grows _ a.middle a.answer.result a.result new a.forces)
+
+rests_grows : (turn : Bool) (old new : StoreView) → RestsBy turn old new → Grows old new
+rests_grows true old new t = call_grows old _ _ new t.calls
+rests_grows false old new same = same_grows old new same
+
+mode_kept : IsKept Grows
+mode_kept = record {
+  same = self_grows;
+  again = grows_again;
+  asked = λ old request bytes reply new. asked_grows old request (asked_of_store old request) bytes reply new;
+  rests = λ old new. rests_grows (old.cleans && not old.read_only) old new;
+}
+
+-- a session forgets no sync, and keeps its mode
+pub session-grows : SessionKeepsMode
+session-grows = session_kept Grows mode_kept
