@@ -1,5 +1,5 @@
 -- A drive in a file that is served: what its session does, and what it leaves in the file.
-use Rattle.std.specs.Prelude.{◌≡◌, ◌||◌, if◌then◌else◌, Bool, true, false, ℕ, List, [], ◌∷◌, Option, Some, None, Result, Ok, Err, IfSome}
+use Rattle.std.specs.Prelude.{◌≡◌, ◌||◌, ◌&&◌, not, if◌then◌else◌, Bool, true, false, ℕ, List, [], ◌∷◌, Option, Some, None, is_some, Result, Ok, Err, IfSome, ⊤}
 use Rattle.std.specs.Io.KnownBytes.{Keeps}
 use Rattle.drive_port.specs.Drive.{DriveState}
 use Rattle.drive_port.specs.Stop.{Stopping, drive_of}
@@ -11,7 +11,9 @@ use Rattle.drive_store.specs.declared.file_fault.FileFault.{FileFault}
 use Rattle.drive_store.specs.declared.kept_drive.Begun.{Begun}
 use Rattle.zone_drive.specs.Habits.{MemoryDrive}
 use Rattle.zone_translator.specs.View.{DiskView, KeepsDisk, disk_array}
+use Rattle.disk_jobs.specs.Mounted.{size_of}
 use Rattle.disk_jobs.specs.Saved.{IsHandedBack, stopping}
+use Rattle.disk_jobs.specs.declared.mounting.DiskSize.{DiskSize}
 use Rattle.nbd_session.specs.Session.{session}
 use Rattle.nbd_session.specs.Store.{StoreView}
 use Rattle.nbd_session.specs.Streams.{Streams}
@@ -27,17 +29,26 @@ use Rattle.nbd_jobs.specs.Mounted.{IsNotServed, IsServed}
 
 -- ---- the session
 
--- a disk whose drive keeps each write at once, or that is read only
-abbrev pub at_once : Bool → DiskView → StoreView
-at_once read_only disk = record { disk = disk; since = disk_array disk ∷ []; read_only = read_only }
+-- how many syncs the medium of a drive has completed, before a session and after it
+pub record SyncsDone : Type 0 where
+  pub before : ℕ
+  pub after : ℕ
 
--- A session is served by the disk of a drive, or by that disk read only. What it leaves can be mounted again, with the array that was answered.
-pub record ServesSession (read_only : Bool) (blocks : Option ℕ) (bytes : Streams) (old : DriveState)
+-- A disk whose drive keeps each write at once, or that is read only. If it is not, and the job says so, it cleans. Its
+-- medium has completed that many syncs.
+abbrev pub at_once : Bool → Bool → ℕ → DiskView → StoreView
+at_once read_only idle syncs disk =
+    record { disk = disk; since = disk_array disk ∷ []; syncs = syncs; read_only = read_only; cleans = idle && not read_only }
+
+-- A session is served by the disk of a drive, or by that disk read only, and each sync is one of its medium. What it
+-- leaves can be mounted again, with the array that was answered.
+pub record ServesSession (read_only : Bool) (job : NbdJob) (bytes : Streams) (syncs : SyncsDone) (old : DriveState)
     (ended : Result (Unit {0}) SessionFault) (new : DriveState) : Type 0 where
   pub first : DiskView
-  pub disk : IsServed old blocks first
+  pub disk : IsServed old job.blocks first
   pub last : StoreView
-  pub serves : Serves bytes (session Greeting (at_once read_only first)) ended last
+  pub serves : Serves bytes (session Greeting (at_once read_only job.idle syncs.before first)) ended last
+  pub synced : syncs.after ≡ last.syncs
   pub keeps : KeepsDisk first last.disk
   pub drive : new ≡ last.disk.drive
 
@@ -46,60 +57,80 @@ abbrev pub session_end : Result (Unit {0}) SessionFault → Result (Unit {0}) Nb
 session_end (Ok done) = Ok tt
 session_end (Err fault) = Err (Session fault)
 
--- no message is read, and nothing is written
-pub record ServesNothing (bytes : Streams) : Type 0 where
+-- no message is read, nothing is written, and nothing is synced
+pub record ServesNothing (bytes : Streams) (syncs : SyncsDone) : Type 0 where
   pub unread : Keeps bytes.input bytes.rest
   pub unwritten : Keeps bytes.written bytes.contents
+  pub unsynced : syncs.after ≡ syncs.before
 
 -- what is served of a drive, and what is left of it
-abbrev pub ServesDrive : Bool → Option ℕ → Streams → DriveState → Result (Unit {0}) NbdFault → DriveState → Type 0
-ServesDrive read_only blocks bytes old (Ok done) new = ServesSession read_only blocks bytes old (Ok tt) new
-ServesDrive read_only blocks bytes old (Err (Session fault)) new = ServesSession read_only blocks bytes old (Err fault) new
-ServesDrive read_only blocks bytes old (Err fault) new = IsNotServed old blocks fault new × ServesNothing bytes
+abbrev pub ServesDrive : Bool → NbdJob → Streams → SyncsDone → DriveState → Result (Unit {0}) NbdFault → DriveState → Type 0
+ServesDrive read_only job bytes syncs old (Ok done) new = ServesSession read_only job bytes syncs old (Ok tt) new
+ServesDrive read_only job bytes syncs old (Err (Session fault)) new = ServesSession read_only job bytes syncs old (Err fault) new
+ServesDrive read_only job bytes syncs old (Err fault) new = IsNotServed old job.blocks fault new × ServesNothing bytes syncs
 
 -- the same over a device that stops, and leaves the zones of this drive
-pub record ServesStopping (read_only : Bool) (blocks : Option ℕ) (bytes : Streams) (device : Stopping)
+pub record ServesStopping (read_only : Bool) (job : NbdJob) (bytes : Streams) (syncs : SyncsDone) (device : Stopping)
     (ended : Result (Unit {0}) NbdFault) (new : DriveState) : Type 0 where
   pub seen : DriveState
-  pub serves : ServesDrive read_only blocks bytes (drive_of device) ended seen
+  pub serves : ServesDrive read_only job bytes syncs (drive_of device) ended seen
   pub geometry : new.geometry ≡ seen.geometry
   pub zones : new.zones ≡ seen.zones
 
 -- ---- the file
 
+-- no disk was served
+abbrev pub IsUnserved : Result (Unit {0}) NbdFault → Type 0
+IsUnserved (Ok done) = ⊥
+IsUnserved (Err (Session fault)) = ⊥
+IsUnserved (Err fault) = ⊤
+
+-- What is told of a session besides: the size of the disk that was served of this drive, if one was; and what was counted only if the job asks for it.
+pub record TellsSession (job : NbdJob) (old : DriveState) (ended : Result (Unit {0}) NbdFault) (counted : Bool) (told : Option DiskSize) : Type 0 where
+  pub size : IfSome told (λ size. (disk : DiskView) × IsServed old job.blocks disk × (size ≡ size_of disk))
+  pub none : told ≡ None → IsUnserved ended
+  pub unasked : job.statistics ≡ false → counted ≡ false
+
 -- What a session leaves of its drive, whatever ended it: the store holds that drive, and so has every write that was answered. Whether the store
--- failed is told.
-pub record LeavesStored (job : NbdJob) (bytes : Streams) (old : DriveState) (ended : Result (Unit {0}) NbdFault)
+-- failed is told, and which disk was served.
+pub record LeavesStored (job : NbdJob) (bytes : Streams) (syncs : SyncsDone) (old : DriveState) (ended : Result (Unit {0}) NbdFault)
     (left : Left) (held : Option (List ℕ)) (failed : Bool) : Type 0 where
   pub drive : DriveState
-  pub serves : ServesStopping false job.blocks bytes (stopping job.stop old) ended drive
+  pub serves : ServesStopping false job bytes syncs (stopping job.stop old) ended drive
   pub failed_is : left.failed ≡ failed
   pub back : IsHandedBack failed drive left.drive.state
   pub stored : IfSome held (λ bytes. IsStored bytes drive)
+  pub tells : TellsSession job (drive_of (stopping job.stop old)) ended (is_some left.statistics) left.disk
 
 -- The same of the drive that the bytes of a file hold, restarted. It is told whether the file was the image of that drive at rest.
-pub record LeavesFile (job : NbdJob) (file : Option (List ℕ)) (bytes : Streams) (ended : Result (Unit {0}) NbdFault)
+pub record LeavesFile (job : NbdJob) (file : Option (List ℕ)) (bytes : Streams) (syncs : SyncsDone) (ended : Result (Unit {0}) NbdFault)
     (left : Left) (held : Option (List ℕ)) (failed : Bool) : Type 0 where
   pub first : Begun
   pub begins : IsRestarted file job.habit first
   pub was_image : left.was_image ≡ first.is_image
-  pub leaves : LeavesStored job bytes first.drive.state ended left held failed
+  pub leaves : LeavesStored job bytes syncs first.drive.state ended left held failed
 
 -- why there is no drive: the bytes of the file have this first fault. Nothing is served.
-abbrev pub HoldsNoDrive : Option (List ℕ) → Streams → Result (Unit {0}) NbdFault → Type 0
-HoldsNoDrive file bytes (Err (Image fault)) = IfSome file (λ held. IsFileFault held fault) × ServesNothing bytes
-HoldsNoDrive file bytes ended = ⊥
+abbrev pub HoldsNoDrive : Option (List ℕ) → Streams → SyncsDone → Result (Unit {0}) NbdFault → Type 0
+HoldsNoDrive file bytes syncs (Err (Image fault)) = IfSome file (λ held. IsFileFault held fault) × ServesNothing bytes syncs
+HoldsNoDrive file bytes syncs ended = ⊥
 
--- The drive that the bytes of a file hold is restarted, and served read only. What it is afterwards goes nowhere.
+-- The drive that the bytes of a file hold is restarted, and served read only. What it is afterwards goes nowhere. As nothing is written, its medium
+-- has nothing to keep; it has completed these syncs.
 pub record ReadsDrive (job : NbdJob) (file : Option (List ℕ)) (bytes : Streams) (ended : Result (Unit {0}) NbdFault) : Type 0 where
   pub first : Begun
   pub begins : IsRestarted file job.habit first
+  pub syncs : SyncsDone
   pub drive : DriveState
-  pub serves : ServesStopping true job.blocks bytes (stopping job.stop first.drive.state) ended drive
+  pub serves : ServesStopping true job bytes syncs (stopping job.stop first.drive.state) ended drive
+
+-- before and after, no sync was completed
+abbrev pub no_syncs : SyncsDone
+no_syncs = record { before = 0; after = 0 }
 
 -- what is served read only of a file; a fault of its image comes before all else
 abbrev pub ReadsFile : NbdJob → Option (List ℕ) → Streams → Result (Unit {0}) NbdFault → Type 0
-ReadsFile job file bytes (Err (Image fault)) = HoldsNoDrive file bytes (Err (Image fault))
+ReadsFile job file bytes (Err (Image fault)) = HoldsNoDrive file bytes no_syncs (Err (Image fault))
 ReadsFile job file bytes ended = ReadsDrive job file bytes ended
 
 -- What is saved of a session: the drive that it left, also after a fault. Nothing is saved where the file stays as it is, nor where the store failed:

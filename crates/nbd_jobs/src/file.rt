@@ -9,7 +9,7 @@ use crate::serving::{ServedFile, serve_drive, serve_read_only};
 use drive_store::{
     ChangesFile, ChangesOutput, FileFault, Saving, SentAfter, image_to_read, image_to_save,
 };
-use nbd_session::{Medium, MediumFault};
+use nbd_session::{Medium, MediumFault, SyncCount};
 use std::alloc::Global;
 use std::fs::File;
 use std::io;
@@ -23,16 +23,16 @@ const BUFFER: usize = 65_536;
 #[derive(Drop)]
 struct FileMedium<'s, 'a, F: Files<File = File>> {
     file: &'s ChangesFile<'a, F>,
+    /// How often the file was synced. The files of std say nothing of what a sync does.
+    syncs: SyncCount,
 }
 
 impl<F: Files<File = File>> Medium for FileMedium<'_, '_, F> {
-    ghost use Rattle.std.specs.Prelude.{⊤};
-
-    // The files of std say nothing of what a sync does.
-    ghost is_synced = { λ _ _. ⊤ };
+    ghost syncs = { λ m. m.syncs };
 
     fn sync(&mut self) -> Result<(), MediumFault> {
-        self.file.sync().or(Err(MediumFault))
+        self.file.sync().or(Err(MediumFault))?;
+        self.syncs.add_one()
     }
 }
 
@@ -67,7 +67,10 @@ fn serve_file<F: Files<File = File>, R: Read + Drop, W: Write>(
     let served = ServedFile {
         bytes,
         store: file.store(),
-        medium: FileMedium { file },
+        medium: FileMedium {
+            file,
+            syncs: SyncCount::new(),
+        },
     };
     let sent = ChangesOutput::new(file, SentAfter::Write, output);
     let (Ok(mut reader), Ok(mut writer)) = (
@@ -76,9 +79,9 @@ fn serve_file<F: Files<File = File>, R: Read + Drop, W: Write>(
     ) else {
         return (None, Err(NbdFault::Memory));
     };
-    let (left, _store, result) = serve_drive(alloc, job, served, &mut reader, &mut writer);
+    let ended = serve_drive(alloc, job, served, &mut reader, &mut writer);
     let sent = are_sent(writer.flush());
-    (left, sent_end(result, sent))
+    (ended.left, sent_end(ended.result, sent))
 }
 
 /// Serves the drive in a file, and saves it once the session has ended, also after a fault. No other program can read

@@ -16,6 +16,8 @@
 //! * [`serve_drive`], over every reader, writer and store: the drive in the file is restarted and mounted, and each
 //!   message of the client is answered by its disk, as `nbd_session` says. Whatever ends the session, the store holds
 //!   the drive that is left, which can be mounted again and has each write that was answered (`specs/Serving.antt`).
+//!   A FLUSH, or a write with FUA, that is answered by success is followed by a sync of the medium that was handed in.
+//!   A turn of cleaning is taken after each request if the job says so.
 //! * [`serve_read_only`], over every reader and writer: the same of a disk that is read only. No store is handed in, so
 //!   nothing of the file is written.
 //! * If no number of blocks was given, the disk has the size that the drive says. A drive that says none is not served.
@@ -47,4 +49,4 @@ pub use file::do_nbd_job;
 pub use job::NbdJob;
 pub use left::Left;
 pub use mounted::mount_served;
-pub use serving::{ServedFile, serve_drive, serve_read_only};
+pub use serving::{AfterSession, ServedFile, serve_drive, serve_read_only};

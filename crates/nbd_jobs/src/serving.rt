@@ -1,11 +1,12 @@
 // A session over the drive of a store.
 
-ghost use Rattle.std.specs.Prelude.{◌≡◌, IfNone, IfSome, Ok, false};
+ghost use Rattle.std.specs.Prelude.{◌≡◌, ◌&&◌, IfNone, IfSome, Ok, false, is_some, not};
 ghost use Rattle.nbd_session.specs.Streams.{streams};
+ghost use Rattle.drive_port.specs.Stop.{drive_of};
 ghost use Rattle.drive_store.specs.Kept.{HoldsFile};
 ghost use Rattle.disk_jobs.specs.Saved.{stopping};
 ghost use Rattle.nbd_jobs.specs.Serving.{HoldsNoDrive, LeavesFile, LeavesStored, ReadsFile, ServesDrive};
-ghost use Rattle.nbd_jobs.specs.Serving.{ServesStopping, session_end};
+ghost use Rattle.nbd_jobs.specs.Serving.{ServesStopping, TellsSession, session_end};
 
 use crate::done::Done;
 use crate::fault::NbdFault;
@@ -31,16 +32,28 @@ pub struct ServedFile<I: Read + Drop, S: Store<Drive> + Drop, M: Medium + Drop> 
     pub medium: M,
 }
 
-/// What is left of a device once its session has ended, what was counted, and what was mounted.
+/// What is left of a device and its medium once its session has ended, what was counted, and what was mounted.
 #[derive(Drop)]
-struct Ended<D: Device + Drop> {
+struct Ended<D: Device + Drop, M: Medium + Drop> {
     device: D,
+    medium: M,
     statistics: Option<String>,
     disk: Option<DiskSize>,
     result: Result<(), NbdFault>,
 }
 
-/// A disk to be served.
+/// What is left of the file of a served drive, once its session has ended.
+#[derive(Drop)]
+pub struct AfterSession<S: Store<Drive> + Drop, M: Medium + Drop> {
+    /// What is left of the drive, if the file held one.
+    pub left: Option<Left>,
+    pub store: S,
+    pub medium: M,
+    /// How the session ended.
+    pub result: Result<(), NbdFault>,
+}
+
+/// A disk to be served. If it is read only, no turn of cleaning is taken.
 fn served<D: Device + Drop, M: Medium + Drop>(
     disk: Disk<D>,
     medium: M,
@@ -48,7 +61,9 @@ fn served<D: Device + Drop, M: Medium + Drop>(
     cleans: bool,
 ) -> ServedDisk<D, M>
     ensures disk { result.disk ≡ disk }
+    ensures medium { result.medium ≡ medium }
     ensures read_only { result.read_only ≡ read_only }
+    ensures cleans { result.cleans ≡ (cleans && not read_only) }
 {
     if read_only {
         return ServedDisk::reading(disk, medium);
@@ -64,7 +79,9 @@ fn shown_statistics<D: Device + Drop>(
     alloc: Global,
     job: &NbdJob,
     disk: &Disk<Counter<D>>,
-) -> Option<String> {
+) -> Option<String>
+    ensures { job.now.statistics ≡ false → is_some result ≡ false }
+{
     if !job.statistics {
         return None;
     }
@@ -96,16 +113,20 @@ fn serve_counted<D: Device + Drop, M: Medium + Drop, R: Client, W: Write>(
     kept: Kept<D, M>,
     reader: &mut R,
     writer: &mut W,
-) -> Ended<D>
-    ensures { ServesDrive kept.read_only job.now.blocks
+) -> Ended<D, M>
+    ensures serves { ServesDrive kept.read_only job.now
         (streams (R.remaining reader.old) (R.remaining reader.new) (W.contents writer.old) (W.contents writer.new))
+        (record { before = M.syncs kept.medium; after = M.syncs result.medium })
         (D.drive kept.device) result.result (D.drive result.device) }
+    ensures tells { TellsSession job.now (D.drive kept.device) result.result
+        (is_some result.statistics) result.disk }
 {
     let disk = match mount_served(alloc, Counter::new(kept.device), job.blocks) {
         Ok(disk) => disk,
         Err((fault, counter)) => {
             return Ended {
                 device: counter.into_inner(),
+                medium: kept.medium,
                 statistics: None,
                 disk: None,
                 result: Err(fault),
@@ -115,10 +136,11 @@ fn serve_counted<D: Device + Drop, M: Medium + Drop, R: Client, W: Write>(
     let size = DiskSize::of(&disk);
     let mut store = served(disk, kept.medium, kept.read_only, job.idle);
     let result = serve(alloc, reader, writer, &mut store);
-    let (disk, _medium) = store.into_parts();
+    let (disk, medium) = store.into_parts();
     let statistics = shown_statistics(alloc, job, &disk);
     Ended {
         device: disk.into_device().into_inner(),
+        medium,
         statistics,
         disk: Some(size),
         result: session_end(result),
@@ -132,10 +154,13 @@ fn serve_stopping<D: Device + Drop, M: Medium + Drop, R: Client, W: Write>(
     kept: Kept<D, M>,
     reader: &mut R,
     writer: &mut W,
-) -> Ended<D>
-    ensures { ServesStopping kept.read_only job.now.blocks
+) -> Ended<D, M>
+    ensures serves { ServesStopping kept.read_only job.now
         (streams (R.remaining reader.old) (R.remaining reader.new) (W.contents writer.old) (W.contents writer.new))
+        (record { before = M.syncs kept.medium; after = M.syncs result.medium })
         (stopping job.now.stop (D.drive kept.device)) result.result (D.drive result.device) }
+    ensures tells { TellsSession job.now (drive_of (stopping job.now.stop (D.drive kept.device))) result.result
+        (is_some result.statistics) result.disk }
 {
     let stopping = Kept {
         device: stopping(kept.device, job.stop),
@@ -145,6 +170,7 @@ fn serve_stopping<D: Device + Drop, M: Medium + Drop, R: Client, W: Write>(
     let ended = serve_counted(alloc, job, stopping, reader, writer);
     Ended {
         device: ended.device.into_inner(),
+        medium: ended.medium,
         statistics: ended.statistics,
         disk: ended.disk,
         result: ended.result,
@@ -166,11 +192,12 @@ fn serve_kept<S: Store<Drive> + Drop, M: Medium + Drop, R: Client, W: Write>(
     stored: Stored<S, M>,
     reader: &mut R,
     writer: &mut W,
-) -> (Left, S, Result<(), NbdFault>)
+) -> (Left, S, M, Result<(), NbdFault>)
     requires { stored.kept.read_only ≡ false }
     ensures leaves { LeavesStored job.now
         (streams (R.remaining reader.old) (R.remaining reader.new) (W.contents writer.old) (W.contents writer.new))
-        stored.kept.device.drive result.2 result.0 (S.held result.1) (S.failed result.1) }
+        (record { before = M.syncs stored.kept.medium; after = M.syncs result.2 })
+        stored.kept.device.drive result.3 result.0 (S.held result.1) (S.failed result.1) }
     ensures was_image { result.0.was_image ≡ stored.was_image }
 {
     let ended = serve_stopping(alloc, job, stored.kept, reader, writer);
@@ -182,30 +209,32 @@ fn serve_kept<S: Store<Drive> + Drop, M: Medium + Drop, R: Client, W: Write>(
         statistics: ended.statistics,
         disk: ended.disk,
     };
-    (left, store, ended.result)
+    (left, store, ended.medium, ended.result)
 }
 
 /// Serves the drive of a file to one client, which sends to `reader` and gets what `writer` takes. The changes of the
-/// drive go to the store. What is left of the drive is handed back, also after a fault, if the file holds one. The
-/// disk is written whatever `job.read_only` says.
+/// drive go to the store, and each sync is one of the medium. What is left of the drive is handed back, also after a
+/// fault, if the file holds one. The disk is written whatever `job.read_only` says.
 pub fn serve_drive<I: Read + Drop, S: Store<Drive> + Drop, M: Medium + Drop, R: Client, W: Write>(
     alloc: Global,
     job: &NbdJob,
     file: ServedFile<I, S, M>,
     reader: &mut R,
     writer: &mut W,
-) -> (Option<Left>, S, Result<(), NbdFault>)
+) -> AfterSession<S, M>
     requires { HoldsFile (S.held file.store) (I.remaining file.bytes) }
     // What the client sent is answered by the disk of the drive in the file, and the store holds the drive that is
-    // left.
-    ensures left { IfSome result.0 (λ left. LeavesFile job.now (I.remaining file.bytes)
+    // left. Each sync that the session completed is one of this medium.
+    ensures left { IfSome result.left (λ left. LeavesFile job.now (I.remaining file.bytes)
         (streams (R.remaining reader.old) (R.remaining reader.new) (W.contents writer.old) (W.contents writer.new))
-        result.2 left (S.held result.1) (S.failed result.1)) }
+        (record { before = M.syncs file.medium; after = M.syncs result.medium })
+        result.result left (S.held result.store) (S.failed result.store)) }
     // Without a drive nothing is read of the client, and nothing is written.
-    ensures none { IfNone result.0 (HoldsNoDrive (I.remaining file.bytes)
+    ensures none { IfNone result.left (HoldsNoDrive (I.remaining file.bytes)
         (streams (R.remaining reader.old) (R.remaining reader.new) (W.contents writer.old) (W.contents writer.new))
-        result.2) }
-    ensures unused { IfNone result.0 (S.held result.1 ≡ S.held file.store) }
+        (record { before = M.syncs file.medium; after = M.syncs result.medium })
+        result.result) }
+    ensures unused { IfNone result.left (S.held result.store ≡ S.held file.store) }
 {
     let ServedFile {
         mut bytes,
@@ -214,7 +243,14 @@ pub fn serve_drive<I: Read + Drop, S: Store<Drive> + Drop, M: Medium + Drop, R: 
     } = file;
     let begun = match restarted_drive(alloc, &mut bytes, job.habit) {
         Ok(begun) => begun,
-        Err(fault) => return (None, store, Err(NbdFault::Image(fault))),
+        Err(fault) => {
+            return AfterSession {
+                left: None,
+                store,
+                medium,
+                result: Err(NbdFault::Image(fault)),
+            };
+        }
     };
     let stored = Stored {
         was_image: begun.is_image,
@@ -224,8 +260,13 @@ pub fn serve_drive<I: Read + Drop, S: Store<Drive> + Drop, M: Medium + Drop, R: 
             read_only: false,
         },
     };
-    let (left, store, result) = serve_kept(alloc, job, stored, reader, writer);
-    (Some(left), store, result)
+    let (left, store, medium, result) = serve_kept(alloc, job, stored, reader, writer);
+    AfterSession {
+        left: Some(left),
+        store,
+        medium,
+        result,
+    }
 }
 
 /// Serves the drive of a file read only, to one client: the file is read from `bytes`, and nothing is written but what
@@ -251,7 +292,7 @@ pub fn serve_read_only<I: Read, R: Client, W: Write>(
     };
     let kept = Kept {
         device: begun.drive,
-        medium: WriteThrough,
+        medium: WriteThrough::new(),
         read_only: true,
     };
     let ended = serve_stopping(alloc, job, kept, reader, writer);

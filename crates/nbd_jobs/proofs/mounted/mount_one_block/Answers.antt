@@ -1,4 +1,4 @@
-use Rattle.std.proofs.Common.{◌∙◌, inl, sym}
+use Rattle.std.proofs.Common.{◌∙◌, inl, inr, sym}
 use Rattle.nbd_jobs.proofs.MountLaws.{look-halts, some-size}
 use Rattle.nbd_jobs.proofs.mounted.mount_one_block.Goals as goal
 
@@ -16,3 +16,14 @@ returns-in-Ok-mount-clause-disk g c =
       says = sym c.in-Ok.ensures.ok.size ∙ some.1;
       again = c.in-Ok-mount.ensures.disk;
     }
+
+pub returns-in-Err-mount-clause-err : goal.returns-in-Err-mount-clause-err
+returns-in-Err-mount-clause-err g c =
+    let some = some-size c.in-Ok.said.size c.is_none.result c.is_none.ensures c.if-is_none.false in
+    inr (record {
+      seen = g.D.Device.drive c.look.new.device;
+      looked = c.look.ensures.kept;
+      size = some.0;
+      says = sym c.in-Ok.ensures.ok.size ∙ some.1;
+      refused = c.in-Err-mount.ensures.err;
+    })

@@ -8,6 +8,7 @@ returns-clause-reads g c =
     file-read c.args.job.now (g.I.Read.remaining c.args.bytes.now) bytes c.serve_stopping-ended.result.result (record {
       first = c.in-Ok.begun;
       begins = c.in-Ok.ensures.ok;
+      syncs = _;
       drive = c.serve_stopping-ended.result.device.state;
-      serves = c.serve_stopping-ended.ensures;
+      serves = c.serve_stopping-ended.ensures.serves;
     })
