@@ -1,0 +1,4 @@
+pub mod Fields
+pub mod Shape
+pub mod Faults
+pub mod Identity
