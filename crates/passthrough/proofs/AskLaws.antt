@@ -1,0 +1,53 @@
+-- What a command gives, by what was sent for it.
+use Rattle.std.proofs.Common.{◌≡◌, ℕ, Bool, true, false, List, [], Result, Ok, Err, refl}
+use Rattle.std.specs.Prelude.{IfErr, IfOk}
+use Rattle.nvme_wire.specs.declared.command.Action.{Action}
+use Rattle.nvme_wire.specs.declared.command.Command.{Command}
+use Rattle.nvme_wire.specs.declared.command.Command.TheVariants.{Send}
+use Rattle.nvme_wire.specs.declared.status.Status.TheVariants.{Success}
+use Rattle.zone_states.specs.Zone.{Zone}
+use Rattle.zone_states.specs.declared.geometry.Geometry.{Geometry}
+use Rattle.drive_port.specs.declared.device.Halt.{Halt}
+use Rattle.drive_port.specs.declared.device.Halt.TheVariants.{Memory, Stopped}
+use Rattle.drive_port.specs.Halting.{Adds}
+use Rattle.nvme_wire.specs.declared.command.DecodeFault.{DecodeFault}
+use Rattle.drive_port.specs.Step.{Effect, decode_status, outcome}
+use Rattle.drive_port.proofs.ClosingLaws.{IsClosing-refl}
+use Rattle.drive_port.proofs.CallLaws.{adds-also, adds-nothing}
+use Rattle.passthrough.specs.Asking.{Asks, HaltsSo}
+use Rattle.passthrough.proofs.ReadyLaws.{effect-bare, is_bare, left-bare}
+
+-- a command without data does not look at what is handed in with it
+pub asked-bare : (geometry : Geometry) (old new : List Zone) (command : Command) (bytes held items : List ℕ) (result : Result ℕ Halt) → is_bare command ≡ true
+    → IfOk result (λ value. (value ≡ 0) × Adds held (λ returned. Effect geometry old (Ok command) [] Success 0 returned new) items)
+    → IfOk result (λ value. Adds held (λ returned. Effect geometry old (Ok command) bytes Success value returned new) items)
+asked-bare geometry old new command bytes held items (Ok value) bare given =
+    rw given.0 (adds-also held items _ _ (λ returned effect. effect-bare geometry old new command bytes returned Success 0 bare effect) given.1)
+asked-bare geometry old new command bytes held items (Err halt) bare given = tt
+
+-- an action that was completed
+pub sent-ok : (geometry : Geometry) (old new : List Zone) (slba : ℕ) (action : Action) (all : Bool) (bytes held : List ℕ) (result : Result ℕ Halt) → all ≡ false
+    → Asks geometry old (Send slba action false) [] result [] new
+    → IfOk result (λ value. Adds held (λ returned. Effect geometry old (Ok (Send slba action all)) bytes Success value returned new) held)
+sent-ok geometry old new slba action all bytes held (Ok value) one asks =
+    rw one (adds-nothing held _ (effect-bare geometry old new (Send slba action false) bytes [] Success value refl asks))
+sent-ok geometry old new slba action all bytes held (Err halt) one asks = tt
+
+-- and one that is not believed to be
+pub sent-err : (geometry : Geometry) (old new : List Zone) (slba : ℕ) (action : Action) (all : Bool) (bytes : List ℕ) (result : Result ℕ Halt) → all ≡ false
+    → Asks geometry old (Send slba action false) [] result [] new → IfErr result (λ halt. HaltsSo halt geometry old (Ok (Send slba action all)) bytes new)
+sent-err geometry old new slba action all bytes (Ok value) one asks = tt
+sent-err geometry old new slba action all bytes (Err Memory) one asks = asks
+sent-err geometry old new slba action all bytes (Err Stopped) one asks = rw one (left-bare geometry old new slba action bytes asks)
+
+-- an entry that holds no command is refused, and changes nothing
+pub faulty-effect : (geometry : Geometry) (zones : List Zone) (fault : DecodeFault) (bytes : List ℕ) → Effect geometry zones (Err fault) bytes (decode_status fault) 0 [] zones
+unfolding outcome
+faulty-effect geometry zones fault bytes = record {
+  middle = zones;
+  before = IsClosing-refl zones;
+  status_is = refl;
+  value_is = refl;
+  returned_is = refl;
+  after = IsClosing-refl zones;
+}

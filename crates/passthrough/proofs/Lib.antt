@@ -1,0 +1,13 @@
+mod AskLaws
+mod FirstLaws
+mod KeptLaws
+mod LookLaws
+mod PartLaws
+mod ReadLaws
+mod ReadyLaws
+mod ReportLaws
+pub mod SeenLaws
+pub mod ShowLaws
+mod ShowingLaws
+mod SparedLaws
+pub mod ThroughLaws

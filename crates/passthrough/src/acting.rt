@@ -1,0 +1,88 @@
+// Actions on one zone: Close, Finish and Reset.
+
+ghost use Rattle.std.specs.Prelude.{◌≡◌, [], false, IfErr, List, OnOk, length, true};
+ghost use Rattle.zone_states.specs.Geometry.{IsInRange};
+ghost use Rattle.zone_states.specs.Zone.{Zone};
+ghost use Rattle.passthrough.specs.Asking.{Asks, IsReady, Leads};
+ghost use Rattle.passthrough.specs.Premise.{IsSentAction};
+ghost use Rattle.passthrough.specs.Seen.{AreSeen};
+
+use crate::looking::look;
+use crate::passthrough::Passthrough;
+use crate::seen_zone::SeenZone;
+use crate::table::{set_zone, zone_at};
+use drive_port::{Geometry, Halt};
+use nvme_wire::{Action, Command};
+
+/// Whether an action is one that is sent, to the start of a zone that admits it.
+fn may_act(geometry: Geometry, seen: &[SeenZone], slba: u64, action: Action) -> bool
+    requires { IsInRange geometry }
+    ensures { result ≡ true → (zones : List Zone) → length zones ≡ geometry.zones → AreSeen zones seen.now
+        → IsSentAction geometry zones slba action [] 0 }
+{
+    if slba >= geometry.end() {
+        return false;
+    }
+    let number = geometry.zone_of(slba);
+    geometry.start_of(number) == slba && zone_at(seen, u64::from(number)).admits(action)
+}
+
+/// Closes, finishes or resets the zone that starts at an address.
+pub(crate) fn act<P: Passthrough>(
+    way: &mut P,
+    geometry: Geometry,
+    seen: &mut [SeenZone],
+    slba: u64,
+    action: Action,
+) -> Result<u64, Halt>
+    requires ready { IsReady geometry (P.shape way.old) (P.zones way.old) seen.old }
+    ensures asks { Asks geometry (P.zones way.old) (Command.Send slba action false) [] result [] (P.zones way.new) }
+    ensures ready { OnOk result (IsReady geometry (P.shape way.new) (P.zones way.new) seen.new) }
+    ensures leads { Leads geometry (P.shape way.new) (P.zones way.new) }
+    ensures err { IfErr result (λ halt. halt ≡ Halt.Stopped) }
+{
+    if !may_act(geometry, seen, slba, action) {
+        return Err(Halt::Stopped);
+    }
+    let command = Command::Send {
+        slba,
+        action,
+        all: false,
+    };
+    let mut value = 0;
+    if way.submit(&command, &[], 0, &mut [], &mut value) != 0 {
+        return Err(Halt::Stopped);
+    }
+    let number = slba / u64::from(geometry.size);
+    let zone = zone_at(seen, number).acted(action);
+    set_zone(seen, number, zone);
+    Ok(0)
+}
+
+/// The same. After a Finish and a Reset the drive is asked for a report of the zone, which has to show what was done.
+pub(crate) fn act_seen<P: Passthrough>(
+    way: &mut P,
+    geometry: Geometry,
+    seen: &mut [SeenZone],
+    slba: u64,
+    action: Action,
+) -> Result<u64, Halt>
+    requires ready { IsReady geometry (P.shape way.old) (P.zones way.old) seen.old }
+    ensures asks { Asks geometry (P.zones way.old) (Command.Send slba action false) [] result [] (P.zones way.new) }
+    ensures ready { OnOk result (IsReady geometry (P.shape way.new) (P.zones way.new) seen.new) }
+    ensures leads { Leads geometry (P.shape way.new) (P.zones way.new) }
+    ensures err { IfErr result (λ halt. halt ≡ Halt.Stopped) }
+{
+    let value = act(way, geometry, seen, slba, action)?;
+    if action == Action::Close {
+        return Ok(value);
+    }
+    if slba >= geometry.end() {
+        return Err(Halt::Stopped);
+    }
+    let number = geometry.zone_of(slba);
+    if look(way, geometry, seen, number, 1, &mut [0; 128]).is_err() {
+        return Err(Halt::Stopped);
+    }
+    Ok(value)
+}

@@ -1,0 +1,240 @@
+// The device.
+
+ghost use Rattle.std.specs.Prelude.{◌≡◌, Some, false, IfErr, IfOk, OnErr, OnOk};
+ghost use Rattle.nvme_wire.specs.Entry.{decode_of};
+ghost use Rattle.zone_states.specs.Checks.{first_failing};
+ghost use Rattle.zone_states.specs.Geometry.{geometry_checks};
+ghost use Rattle.drive_port.specs.Drive.{IsLawful};
+ghost use Rattle.drive_port.specs.Halting.{Adds, Halts, SubmitAdds};
+ghost use Rattle.drive_port.specs.Step.{Effect, decode_status};
+ghost use Rattle.passthrough.specs.Asking.{counted};
+ghost use Rattle.passthrough.specs.Seen.{AreSeen};
+
+use crate::asking::ask;
+use crate::passthrough::Passthrough;
+use crate::seen_zone::SeenZone;
+use drive_port::{Device, Geometry, Halt};
+use nvme_wire::{Command, Completion, DecodeFault, Status, entry_id};
+use std::alloc::Global;
+use std::marker::Model;
+use zone_states::GeometryFault;
+
+/// A drive behind a way that takes single commands. It takes the commands that a disk sends, and believes of their
+/// answers only what agrees with all that was seen before. After anything else it has stopped.
+#[derive(Drop)]
+pub struct PassthroughDrive<P: Passthrough + Drop> {
+    alloc: Global,
+    way: P,
+    geometry: Geometry,
+    /// What was seen of each zone.
+    seen: Vec<SeenZone>,
+    completed: u64,
+    /// How many of the completed commands were refused.
+    refused: u64,
+    /// How many of them are Appends that succeeded.
+    appended: u64,
+    stopped: bool,
+}
+
+impl<P: Passthrough + Drop> Model for PassthroughDrive<P> {
+    ghost use Rattle.std.specs.Prelude.{◌≡◌, ◌≤◌, ◌^◌, false, true};
+    ghost use Rattle.drive_port.specs.Drive.{DriveState};
+    ghost use Rattle.passthrough.specs.Asking.{Leads};
+    ghost use Rattle.passthrough.specs.Seen.{AreSeen};
+
+    ghost Value = { DriveState };
+
+    ghost view = { λ d. record {
+      geometry = d.geometry;
+      zones = P.zones d.way;
+      completed = d.completed;
+      refused = d.refused;
+      appended = d.appended;
+      stopped = d.stopped;
+    } };
+
+    // While the drive is served, what was seen of its zones is true.
+    ghost invariant = { λ d. Leads d.geometry (P.shape d.way) (P.zones d.way)
+        × (d.stopped ≡ false → AreSeen (P.zones d.way) d.seen.items)
+        × (d.completed ≤ 2 ^ 63) × (d.refused ≤ d.completed) × (d.appended ≤ d.completed)
+        × (d.completed ≡ 2 ^ 63 → d.stopped ≡ true) };
+}
+
+/// The status of an entry that holds no command.
+fn fault_status(fault: DecodeFault) -> Status
+    ensures { result ≡ decode_status fault }
+{
+    match fault {
+        DecodeFault::Opcode => Status::InvalidCommandOpcode,
+        DecodeFault::Namespace => Status::InvalidNamespace,
+        DecodeFault::Field => Status::InvalidField,
+    }
+}
+
+/// How a command ended.
+#[derive(Clone, Copy)]
+struct Reply {
+    status: Status,
+    /// The assigned address after an Append, else 0.
+    value: u64,
+}
+
+impl<P: Passthrough + Drop> PassthroughDrive<P> {
+    /// The drive that a way leads to, with what was seen of each of its zones. It has completed no command. The fault is
+    /// the first part of its geometry that is out of range.
+    pub fn new(
+        alloc: Global,
+        way: P,
+        seen: Vec<SeenZone>,
+    ) -> Result<PassthroughDrive<P>, GeometryFault>
+        requires seen { AreSeen (P.zones way) seen.items }
+        ensures err { IfErr result (λ fault. first_failing (geometry_checks (P.shape way)) ≡ Some fault) }
+        ensures drive { IfOk result (λ drive. drive ≡ record {
+          geometry = P.shape way;
+          zones = P.zones way;
+          completed = 0;
+          refused = 0;
+          appended = 0;
+          stopped = false;
+        }) }
+    {
+        let geometry = way.geometry();
+        geometry.check()?;
+        Ok(PassthroughDrive {
+            alloc,
+            way,
+            geometry,
+            seen,
+            completed: 0,
+            refused: 0,
+            appended: 0,
+            stopped: false,
+        })
+    }
+
+    /// The way to the drive.
+    pub fn way(&self) -> &P
+        ensures shape { P.shape result.now ≡ self.now.geometry }
+        ensures zones { P.zones result.now ≡ self.now.zones }
+    {
+        &self.way
+    }
+
+    // Does the command of an entry. What it returns goes after what `into` holds.
+    fn perform(&mut self, entry: &[u8; 64], bytes: &[u8], into: &mut Vec<u8>) -> Result<Reply, Halt>
+        requires going { self.old.stopped ≡ false }
+        ensures ok { IfOk result (λ reply. Adds into.old.items
+            (λ returned. Effect self.old.geometry self.old.zones (decode_of entry.now) bytes.now
+            reply.status reply.value returned self.new.zones) into.new.items) }
+        ensures others { OnOk result (self.new ≡ record self.old { zones = self.new.zones }) }
+        ensures lawful { IsLawful self.new }
+        ensures err { IfErr result (λ halt.
+            Halts self.old (decode_of entry.now) bytes.now halt self.new) }
+        ensures kept { OnErr result (into.new.items ≡ into.old.items) }
+    {
+        let geometry = self.geometry;
+        let command = match Command::decode(entry) {
+            Ok(command) => command,
+            Err(fault) => {
+                return Ok(Reply {
+                    status: fault_status(fault),
+                    value: 0,
+                });
+            }
+        };
+        let way = &mut self.way;
+        match ask(
+            self.alloc,
+            way,
+            geometry,
+            &mut self.seen,
+            &command,
+            bytes,
+            into,
+        ) {
+            Ok(value) => Ok(Reply {
+                status: Status::Success,
+                value,
+            }),
+            Err(Halt::Memory) => Err(Halt::Memory),
+            Err(Halt::Stopped) => {
+                self.stopped = true;
+                Err(Halt::Stopped)
+            }
+        }
+    }
+
+    // Counts a command that was completed.
+    fn count(&mut self, command: Result<Command, DecodeFault>, status: Status)
+        requires { self.old.stopped ≡ false }
+        ensures counted { self.new ≡ counted self.old command status }
+        ensures lawful { IsLawful self.new }
+    {
+        self.completed += 1;
+        if self.completed == 1 << 63 {
+            self.stopped = true;
+        }
+        if status != Status::Success {
+            self.refused += 1;
+            return;
+        }
+        if let Ok(Command::Append { .. }) = command {
+            self.appended += 1;
+        }
+    }
+
+    // Answers an entry as `submit_extending` does, with data.
+    fn answer(
+        &mut self,
+        entry: &[u8; 64],
+        bytes: &[u8],
+        into: &mut Vec<u8>,
+    ) -> Result<[u8; 16], Halt>
+        ensures gives { SubmitAdds self.old entry.now bytes.now into.old.items result
+            into.new.items self.new }
+        ensures was_lawful { IsLawful self.old }
+        ensures lawful { IsLawful self.new }
+    {
+        if self.stopped {
+            return Err(Halt::Stopped);
+        }
+        let reply = self.perform(entry, bytes, into)?;
+        self.count(Command::decode(entry), reply.status);
+        let completion = Completion {
+            result: reply.value,
+            id: entry_id(entry),
+            status: reply.status,
+        };
+        Ok(completion.encode())
+    }
+}
+
+impl<P: Passthrough + Drop> Device for PassthroughDrive<P> {
+    ghost drive = { λ d. d };
+
+    fn geometry(&self) -> Geometry {
+        self.geometry
+    }
+
+    fn completed(&self) -> u64 {
+        self.completed
+    }
+
+    fn stopped(&self) -> bool {
+        self.stopped
+    }
+
+    fn submit(
+        &mut self,
+        entry: &[u8; 64],
+        bytes: &[u8],
+        into: &mut Vec<u8>,
+    ) -> Result<[u8; 16], Halt> {
+        into.clear();
+        self.answer(entry, bytes, into)
+    }
+
+    fn submit_extending(&mut self, entry: &[u8; 64], into: &mut Vec<u8>) -> Result<[u8; 16], Halt> {
+        self.answer(entry, &[], into)
+    }
+}

@@ -1,0 +1,41 @@
+ghost use Rattle.std.specs.Prelude.{◌≡◌, List, length};
+ghost use Rattle.nvme_wire.specs.Entry.{IsAdmitted};
+ghost use Rattle.zone_states.specs.declared.geometry.Geometry.{Geometry};
+ghost use Rattle.zone_states.specs.Zone.{Zone};
+ghost use Rattle.passthrough.specs.Premise.{Answers, AreLawful, IsSent};
+
+use nvme_wire::Command;
+use zone_states::Geometry;
+
+/// A way to a zoned drive that takes one command at a time, as an operating system passes commands through to a drive.
+/// Nothing is known of the drive but what this contract says.
+pub trait Passthrough {
+    /// The shape of the drive.
+    ghost shape: { Self → Geometry };
+
+    /// Its zones.
+    ghost zones: { Self → List Zone };
+
+    /// The shape of the drive, which never changes.
+    fn geometry(&self) -> Geometry
+        ensures value { result ≡ shape self.now }
+        ensures lawful { AreLawful (shape self.now) (zones self.now) };
+
+    /// Sends a command to the drive. The answer is its status without the bits Do Not Retry and More, so 0 for Success.
+    /// If there is no answer, it is any number but 0. What a Read or a report returns fills the room. An Append that
+    /// succeeds gives the address of its first block as the value. A Read may go on up to `end`: a way may read ahead.
+    fn submit(
+        &mut self,
+        command: &Command,
+        bytes: &[u8],
+        end: u64,
+        room: &mut [u8],
+        value: &mut u64,
+    ) -> u16
+        requires admitted { IsAdmitted command.now }
+        requires sent { IsSent (shape self.old) (zones self.old) command.now bytes.now end (length room.old) }
+        ensures answers { Answers (shape self.old) (zones self.old) command.now bytes.now
+            result value.new room.new (zones self.new) }
+        ensures shape { shape self.new ≡ shape self.old }
+        ensures lawful { AreLawful (shape self.new) (zones self.new) };
+}
