@@ -7,16 +7,16 @@ _zonedisk_states="Empty ImplicitlyOpened ExplicitlyOpened Closed ReadOnly Full O
 # The options of a subcommand.
 _zonedisk_options() {
     case $1 in
-        format) echo "--image --force $_zonedisk_shape" ;;
-        run) echo "--image --blocks --zones --statistics --sync --read-only --progress --habit --stop-after --tear" ;;
-        nbd) echo "--image --blocks --statistics --idle --read-only --habit --stop-after --tear" ;;
-        report) echo "--image --state --brief --json --svg" ;;
-        check) echo "--image --blocks --json" ;;
+        format) echo "--image --device --force $_zonedisk_shape" ;;
+        run) echo "--image --device --blocks --zones --statistics --sync --read-only --progress --habit --stop-after --tear" ;;
+        nbd) echo "--image --device --blocks --statistics --idle --read-only --habit --stop-after --tear" ;;
+        report) echo "--image --device --state --brief --json --svg" ;;
+        check) echo "--image --device --blocks --json" ;;
         plan) echo "--image $_zonedisk_shape --blocks --share --amplification --bytes --json --svg" ;;
-        info) echo "--image --json" ;;
-        export) echo "--image --first --count --progress" ;;
-        import) echo "--image --blocks --first --sparse --progress" ;;
-        nvme) echo "--image --explain --sync --habit" ;;
+        info) echo "--image --device --json" ;;
+        export) echo "--image --device --first --count --progress" ;;
+        import) echo "--image --device --blocks --first --sparse --progress" ;;
+        nvme) echo "--image --device --explain --sync --habit" ;;
         entry) echo "--start --blocks --dwords --id --all --partial --state --data" ;;
         fresh) echo "$_zonedisk_shape --blocks --report --statistics --habit --stop-after --tear" ;;
         fresh-raw) echo "$_zonedisk_shape --habit" ;;
@@ -42,7 +42,7 @@ _zonedisk() {
     local word=${COMP_WORDS[COMP_CWORD]} before=${COMP_WORDS[COMP_CWORD - 1]} words
     if [ "$COMP_CWORD" -eq 1 ]; then
         words="$_zonedisk_subcommands --help --version"
-    elif [ "$before" = --image ]; then
+    elif [ "$before" = --image ] || [ "$before" = --device ]; then
         mapfile -t COMPREPLY < <(compgen -f -- "$word")
         return
     else

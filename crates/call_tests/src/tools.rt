@@ -133,7 +133,7 @@ const REFUSED_WORDS: [(&str, &str); 7] = [
         "error: invalid value 'half' for '--state'
   [possible values: Empty, ImplicitlyOpened, ExplicitlyOpened, Closed, ReadOnly, Full, Offline]
 
-Usage: zonedisk report [OPTIONS] --image <P>
+Usage: zonedisk report [OPTIONS]
 
 For more information, try '--help'.
 ",
@@ -142,7 +142,7 @@ For more information, try '--help'.
         "zonedisk run --image a --blocks +9",
         "error: invalid value '+9' for '--blocks': a number in decimal digits alone
 
-Usage: zonedisk run [OPTIONS] --image <P> --blocks <N>
+Usage: zonedisk run [OPTIONS] --blocks <N>
 
 For more information, try '--help'.
 ",
@@ -169,7 +169,7 @@ For more information, try '--help'.
         "zonedisk report --image a --svg --state Full",
         "error: the option '--svg' cannot be used with '--state'
 
-Usage: zonedisk report [OPTIONS] --image <P>
+Usage: zonedisk report [OPTIONS]
 
 For more information, try '--help'.
 ",

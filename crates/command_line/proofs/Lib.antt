@@ -1,3 +1,4 @@
 pub mod CommandLaws
 pub mod WordLaws
 pub mod ToolLaws
+pub mod DeviceLaws

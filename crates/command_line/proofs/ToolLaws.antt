@@ -12,9 +12,10 @@ use Rattle.tool_jobs.specs.declared.job.ToolJob.TheVariants as tools
 use Rattle.disk_jobs.specs.declared.job.Job.TheVariants as jobs
 use Rattle.command_line.specs.declared.task.Task.{Task}
 use Rattle.command_line.specs.declared.task.Task.TheVariants.{Lines, Nbd, Copy, Tool}
+use Rattle.command_line.specs.declared.task.Task.TheVariants as tasks
 use Rattle.copy_jobs.specs.declared.job.CopyJob.TheVariants as copies
 use Rattle.command_line.specs.ToolWords.{HasZonesForm, SaysBytes, SaysBytesIn, letter_unit, unit_of}
-use Rattle.command_line.specs.Words.{AsksFor}
+use Rattle.command_line.specs.Words.{AsksForFile}
 use Rattle.command_line.proofs.WordLaws.{both}
 
 -- texts that differ
@@ -22,13 +23,14 @@ unlike : (s t : Text) → bytes_eq s t ≡ false → bytes_eq t t ≡ true → s
 unlike s t other same is = absurd (cc (sym other ∙ ap (λ u. bytes_eq u t) is ∙ same))
 
 -- a report of each form has that form
-pub report-form : (rows : List Row) (task : Task) → AsksFor (codes "report") rows task → (form : Option ZonesForm) × HasZonesForm rows form
+pub report-form : (rows : List Row) (task : Task) → AsksForFile (codes "report") rows task → (form : Option ZonesForm) × HasZonesForm rows form
 report-form rows (Lines (jobs.Report path)) asks = (None, asks.2)
 report-form rows (Lines (jobs.Format path geometry force)) asks = absurd (unlike (codes "report") (codes "format") refl refl asks.0)
 report-form rows (Lines (jobs.Run path blocks zones statistics stop habit sync read_only progress)) asks = absurd (unlike (codes "report") (codes "run") refl refl asks.0)
 report-form rows (Lines (jobs.Nvme path explain habit sync)) asks = absurd (unlike (codes "report") (codes "nvme") refl refl asks.0)
 report-form rows (Lines (jobs.Fresh geometry blocks report statistics stop habit)) asks = absurd (unlike (codes "report") (codes "fresh") refl refl asks.0)
 report-form rows (Lines (jobs.FreshRaw geometry habit)) asks = absurd (unlike (codes "report") (codes "fresh-raw") refl refl asks.0)
+report-form rows (tasks.Device job) asks = absurd asks
 report-form rows (Nbd job) asks = absurd (unlike (codes "report") (codes "nbd") refl refl asks.0)
 report-form rows (Copy (copies.Export job)) asks = absurd (unlike (codes "report") (codes "export") refl refl asks.0)
 report-form rows (Copy (copies.Import job)) asks = absurd (unlike (codes "report") (codes "import") refl refl asks.0)

@@ -40,8 +40,12 @@ part needed name = record (number name (parsers.Signed (pos 0) (pos 4294967295))
 abbrev pub below_2_63 : ValueParser
 below_2_63 = parsers.Unsigned 0 9223372036854775807
 
+-- where the drive is: in a file, or behind a device
 abbrev pub image : Rule
-image = valued (codes "image")
+image = optional (valued (codes "image"))
+
+abbrev pub device : Rule
+device = optional (valued (codes "device"))
 
 abbrev pub blocks : Rule
 blocks = number (codes "blocks") below_2_63
@@ -63,9 +67,9 @@ stops = optional (number (codes "stop-after") below_2_63) ∷ optional (number (
 abbrev pub aims : List Rule
 aims = optional blocks ∷ optional (number (codes "share") below_2_63) ∷ optional (number (codes "amplification") below_2_63) ∷ []
 
--- the option of a habit, by the names that it takes, in any case of their letters; without it the habit is lazy
+-- the option of a habit, by the names that it takes, in any case of their letters
 abbrev pub habit : Bor (List (Bor Text)) → Rule
-habit names = record (optional (with_parser (parsers.Names names) (valued (codes "habit")))) { ignore_case = true; defaults = codes "lazy" ∷ [] }
+habit names = record (optional (with_parser (parsers.Names names) (valued (codes "habit")))) { ignore_case = true }
 
 abbrev pub habit_names : List Text
 habit_names = codes "lazy" ∷ codes "closing" ∷ codes "strict" ∷ []
@@ -77,26 +81,26 @@ abbrev pub with_options : Text → List Rule → Shape
 with_options name rules = record (new_shape name) { rules = rules }
 
 abbrev pub format : Shape
-format = with_options (codes "format") (image ∷ flag (codes "force") ∷ parts true)
+format = with_options (codes "format") (image ∷ device ∷ flag (codes "force") ∷ parts false)
 
 abbrev pub run : Bor (List (Bor Text)) → Shape
 run names = with_options (codes "run")
-    (image ∷ blocks ∷ flag (codes "zones") ∷ flag (codes "statistics") ∷ flag (codes "sync") ∷ flag (codes "read-only")
+    (image ∷ device ∷ blocks ∷ flag (codes "zones") ∷ flag (codes "statistics") ∷ flag (codes "sync") ∷ flag (codes "read-only")
     ∷ flag (codes "progress") ∷ habit names ∷ stops)
 
 abbrev pub report_words : Shape
 report_words = with_options (codes "report")
-    (image ∷ optional (valued (codes "state")) ∷ flag (codes "brief") ∷ flag (codes "json") ∷ flag (codes "svg") ∷ [])
+    (image ∷ device ∷ optional (valued (codes "state")) ∷ flag (codes "brief") ∷ flag (codes "json") ∷ flag (codes "svg") ∷ [])
 
 abbrev pub check_words : Shape
-check_words = with_options (codes "check") (image ∷ optional blocks ∷ flag (codes "json") ∷ [])
+check_words = with_options (codes "check") (image ∷ device ∷ optional blocks ∷ flag (codes "json") ∷ [])
 
 abbrev pub info_words : Shape
-info_words = with_options (codes "info") (image ∷ flag (codes "json") ∷ [])
+info_words = with_options (codes "info") (image ∷ device ∷ flag (codes "json") ∷ [])
 
 abbrev pub plan_words : Shape
 plan_words = with_options (codes "plan")
-    (optional image ∷ parts false ++ aims ++ optional (valued (codes "bytes")) ∷ flag (codes "json") ∷ flag (codes "svg") ∷ [])
+    (image ∷ parts false ++ aims ++ optional (valued (codes "bytes")) ∷ flag (codes "json") ∷ flag (codes "svg") ∷ [])
 
 -- the numbers of an entry, and all of its words
 abbrev pub entry_numbers : List Rule
@@ -110,19 +114,19 @@ entry = with_options (codes "entry")
     ∷ optional (valued (codes "data")) ∷ [])
 
 abbrev pub nvme : Bor (List (Bor Text)) → Shape
-nvme names = with_options (codes "nvme") (image ∷ flag (codes "explain") ∷ flag (codes "sync") ∷ habit names ∷ [])
+nvme names = with_options (codes "nvme") (image ∷ device ∷ flag (codes "explain") ∷ flag (codes "sync") ∷ habit names ∷ [])
 
 abbrev pub nbd : Bor (List (Bor Text)) → Shape
 nbd names = with_options (codes "nbd")
-    (image ∷ optional blocks ∷ flag (codes "statistics") ∷ flag (codes "idle") ∷ flag (codes "read-only") ∷ habit names ∷ stops)
+    (image ∷ device ∷ optional blocks ∷ flag (codes "statistics") ∷ flag (codes "idle") ∷ flag (codes "read-only") ∷ habit names ∷ stops)
 
 abbrev pub export_words : Shape
 export_words = with_options (codes "export")
-    (image ∷ optional (number (codes "first") below_2_63) ∷ optional (number (codes "count") below_2_63) ∷ flag (codes "progress") ∷ [])
+    (image ∷ device ∷ optional (number (codes "first") below_2_63) ∷ optional (number (codes "count") below_2_63) ∷ flag (codes "progress") ∷ [])
 
 abbrev pub import_words : Shape
 import_words = with_options (codes "import")
-    (image ∷ optional blocks ∷ optional (number (codes "first") below_2_63) ∷ flag (codes "sparse") ∷ flag (codes "progress") ∷ [])
+    (image ∷ device ∷ optional blocks ∷ optional (number (codes "first") below_2_63) ∷ flag (codes "sparse") ∷ flag (codes "progress") ∷ [])
 
 abbrev pub fresh_words : Bor (List (Bor Text)) → Shape
 fresh_words names = with_options (codes "fresh") (parts true ++ blocks ∷ flag (codes "report") ∷ flag (codes "statistics") ∷ habit names ∷ stops)

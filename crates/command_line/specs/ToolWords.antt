@@ -19,7 +19,8 @@ use Rattle.tool_jobs.specs.declared.planning.PlanForm.{PlanForm}
 use Rattle.tool_jobs.specs.declared.planning.PlanForm.TheVariants as plans
 use Rattle.tool_jobs.specs.declared.showing.ZonesForm.{ZonesForm}
 use Rattle.tool_jobs.specs.declared.showing.ZonesForm.TheVariants as zones
-use Rattle.command_line.specs.Values.{HasGeometry, HasImage, HasNumberIf, HasNumberOr, IsNumber, is_set, lacks_all}
+use Rattle.command_line.specs.declared.place.Place.{Place}
+use Rattle.command_line.specs.Values.{HasDrive, HasGeometry, HasImage, HasNumberIf, HasNumberOr, IsNumber, is_set, lacks_all}
 
 -- ---- check
 
@@ -27,8 +28,8 @@ abbrev pub check_form : Bool → CheckForm
 check_form true = checks.Json
 check_form false = checks.Lines
 
-pub record AsksForCheck (rows : List Row) (job : CheckJob) : Type 0 where
-  pub image : HasImage rows (string_bytes job.image)
+pub record AsksForCheck (place : Place) (rows : List Row) (job : CheckJob) : Type 0 where
+  pub path : HasDrive place rows (string_bytes job.image)
   pub blocks : HasNumberOr 1 rows (codes "blocks") job.blocks
   pub form : job.form ≡ check_form (is_set rows (codes "json"))
 
@@ -38,8 +39,8 @@ abbrev pub info_form : Bool → InfoForm
 info_form true = infos.Json
 info_form false = infos.Lines
 
-pub record AsksForInfo (rows : List Row) (job : InfoJob) : Type 0 where
-  pub image : HasImage rows (string_bytes job.image)
+pub record AsksForInfo (place : Place) (rows : List Row) (job : InfoJob) : Type 0 where
+  pub path : HasDrive place rows (string_bytes job.image)
   pub form : job.form ≡ info_form (is_set rows (codes "json"))
 
 -- ---- report, in other forms than all of its lines

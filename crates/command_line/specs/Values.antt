@@ -10,6 +10,8 @@ use Rattle.zone_states.specs.declared.geometry.Geometry.{Geometry}
 use Rattle.zone_drive.specs.declared.habit.Habit.{Habit}
 use Rattle.zone_drive.specs.declared.habit.Habit.TheVariants as habits
 use Rattle.disk_jobs.specs.declared.job.Stop.{Stop}
+use Rattle.command_line.specs.declared.place.Place.{Place}
+use Rattle.command_line.specs.declared.place.Place.TheVariants as places
 use Rattle.command_line.specs.declared.words.WordFault.{WordFault}
 use Rattle.command_line.specs.declared.words.WordFault.TheVariants.{Memory}
 
@@ -78,6 +80,19 @@ pub record HasStop (rows : List Row) (stop : Stop) : Type 0 where
 
 abbrev pub HasImage : List Row → Text → Type 0
 HasImage rows path = first_of (codes "image") rows ≡ Some path
+
+-- A device is named, and no file. Nothing is asked for that only a drive in a file can have: a habit, a sync, and that it stays as it is.
+pub record HasDevice (rows : List Row) (path : Text) : Type 0 where
+  pub path_is : first_of (codes "device") rows ≡ Some path
+  pub no_file : first_of (codes "image") rows ≡ None
+  pub no_habit : first_of (codes "habit") rows ≡ None
+  pub no_sync : is_set rows (codes "sync") ≡ false
+  pub no_reading : is_set rows (codes "read-only") ≡ false
+
+-- the path of the drive in this place
+abbrev pub HasDrive : Place → List Row → Text → Type 0
+HasDrive places.File rows path = HasImage rows path
+HasDrive places.Device rows path = HasDevice rows path
 
 -- ---- steps of the reading
 

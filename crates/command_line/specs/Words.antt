@@ -1,23 +1,24 @@
 -- The task that words ask for.
 use Rattle.std.specs.Prelude.{◌≡◌, ◌⊎◌, List, [], None, IfErr, IfOk, IsSomeAnd, Some, Result, codes, string_bytes}
 use Rattle.std.specs.Borrow.{Bor}
-use Rattle.clap.specs.Words.{Row, Text, fault_of, kind_of, subcommand_of}
+use Rattle.clap.specs.Words.{Row, Text, fault_of, first_of, kind_of, subcommand_of}
 use Rattle.clap.specs.Walk.{texts}
 use Rattle.clap.specs.declared.error.Error.{Error}
 use Rattle.clap.specs.declared.error.kind.ErrorKind.TheVariants.{OutOfMemory}
-use Rattle.copy_jobs.specs.declared.job.CopyJob.{CopyJob}
-use Rattle.copy_jobs.specs.declared.job.CopyJob.TheVariants as copies
 use Rattle.disk_jobs.specs.declared.job.Job.{Job}
 use Rattle.disk_jobs.specs.declared.job.Job.TheVariants.{Format, Run, Report, Nvme, Fresh, FreshRaw}
-use Rattle.nbd_jobs.specs.declared.job.NbdJob.{NbdJob}
 use Rattle.tool_jobs.specs.declared.job.ToolJob.{ToolJob}
 use Rattle.tool_jobs.specs.declared.job.ToolJob.TheVariants as tools
 use Rattle.command_line.specs.declared.task.Task.{Task}
+use Rattle.command_line.specs.declared.place.Place.TheVariants as places
 use Rattle.command_line.specs.declared.task.Task.TheVariants.{Lines, Nbd, Copy, Tool}
+use Rattle.command_line.specs.declared.task.Task.TheVariants as tasks
 use Rattle.command_line.specs.Program.{habit_names, program}
+use Rattle.command_line.specs.DeviceWords.{AsksForDevice}
+use Rattle.command_line.specs.DriveWords.{AsksForCopy, AsksForNbd}
 use Rattle.command_line.specs.EntryWords.{AsksForEntry}
 use Rattle.command_line.specs.ToolWords.{AsksForCheck, AsksForFormat, AsksForInfo, AsksForPlan, HasZonesForm}
-use Rattle.command_line.specs.Values.{HasFlag, HasGeometry, HasHabit, HasImage, HasNumber, HasNumberIf, HasNumberOr, HasStop}
+use Rattle.command_line.specs.Values.{HasFlag, HasGeometry, HasHabit, HasImage, HasNumber, HasStop}
 
 -- what the job of a subcommand holds is what its options were given
 abbrev pub AsksForJob : Text → List Row → Job → Type 0
@@ -37,39 +38,27 @@ AsksForJob name rows (Fresh geometry blocks report statistics stop habit) =
     × HasStop rows stop × HasHabit rows habit
 AsksForJob name rows (FreshRaw geometry habit) = (name ≡ codes "fresh-raw") × HasGeometry rows geometry × HasHabit rows habit
 
-pub record AsksForNbd (rows : List Row) (job : NbdJob) : Type 0 where
-  pub image : HasImage rows (string_bytes job.image)
-  pub blocks : HasNumberIf rows (codes "blocks") job.blocks
-  pub stop : HasStop rows job.stop
-  pub habit : HasHabit rows job.habit
-  pub statistics : HasFlag rows (codes "statistics") job.statistics
-  pub idle : HasFlag rows (codes "idle") job.idle
-  pub read_only : HasFlag rows (codes "read-only") job.read_only
-
--- what a copy of blocks holds is what its options were given
-abbrev pub AsksForCopy : Text → List Row → CopyJob → Type 0
-AsksForCopy name rows (copies.Export job) =
-    (name ≡ codes "export") × HasImage rows (string_bytes job.image) × HasNumberOr 0 rows (codes "first") job.first
-    × HasNumberIf rows (codes "count") job.count × HasFlag rows (codes "progress") job.progress
-AsksForCopy name rows (copies.Import job) =
-    (name ≡ codes "import") × HasImage rows (string_bytes job.image) × HasNumberIf rows (codes "blocks") job.blocks
-    × HasNumberOr 0 rows (codes "first") job.first × HasFlag rows (codes "sparse") job.sparse × HasFlag rows (codes "progress") job.progress
-
 -- a report asks for a tool if it is asked for in another form
 abbrev pub AsksForTool : Text → List Row → ToolJob → Type 0
-AsksForTool name rows (tools.Check job) = (name ≡ codes "check") × AsksForCheck rows job
-AsksForTool name rows (tools.Info job) = (name ≡ codes "info") × AsksForInfo rows job
+AsksForTool name rows (tools.Check job) = (name ≡ codes "check") × AsksForCheck places.File rows job
+AsksForTool name rows (tools.Info job) = (name ≡ codes "info") × AsksForInfo places.File rows job
 AsksForTool name rows (tools.Plan job) = (name ≡ codes "plan") × AsksForPlan rows job
 AsksForTool name rows (tools.Format bytes) = (name ≡ codes "plan") × AsksForFormat rows bytes
 AsksForTool name rows (tools.Zones job) = (name ≡ codes "report") × HasImage rows (string_bytes job.image) × HasZonesForm rows (Some job.form)
 AsksForTool name rows (tools.Entry words) = (name ≡ codes "entry") × AsksForEntry rows words
 
--- what the task of a subcommand holds is what its options were given
+-- what the task of a subcommand holds that names no device is what its options were given
+abbrev pub AsksForFile : Text → List Row → Task → Type 0
+AsksForFile name rows (Lines job) = AsksForJob name rows job
+AsksForFile name rows (Nbd job) = (name ≡ codes "nbd") × AsksForNbd places.File rows job
+AsksForFile name rows (Copy job) = AsksForCopy places.File name rows job
+AsksForFile name rows (Tool job) = AsksForTool name rows job
+AsksForFile name rows (tasks.Device job) = ⊥
+
+-- the same of each task; a job on a device is asked for exactly if one is named
 abbrev pub AsksFor : Text → List Row → Task → Type 0
-AsksFor name rows (Lines job) = AsksForJob name rows job
-AsksFor name rows (Nbd job) = (name ≡ codes "nbd") × AsksForNbd rows job
-AsksFor name rows (Copy job) = AsksForCopy name rows job
-AsksFor name rows (Tool job) = AsksForTool name rows job
+AsksFor name rows (tasks.Device job) = AsksForDevice name rows job
+AsksFor name rows task = (first_of (codes "device") rows ≡ None) × AsksForFile name rows task
 
 -- clap refuses none of these words, which name a subcommand of the program, and this is its task
 pub record WordsAskFor (names : Bor (List (Bor Text))) (words : List Text) (task : Task) : Type 0 where

@@ -1,7 +1,7 @@
 ghost use Rattle.std.specs.Prelude.{◌≡◌, [], ◌∷◌, ◌++◌, false, IfOk, codes};
 ghost use Rattle.clap.specs.Words.{Shape, app_of, rule_of};
 ghost use Rattle.command_line.specs.Program.{AddsOptions, AddsSubcommand, IsCommand, aims, below_2_63};
-ghost use Rattle.command_line.specs.Program.{blocks, check_words, entry, entry_numbers, export_words, flag};
+ghost use Rattle.command_line.specs.Program.{blocks, check_words, device, entry, entry_numbers, export_words, flag};
 ghost use Rattle.command_line.specs.Program.{format, fresh_raw, fresh_words, given_first, habit, image};
 ghost use Rattle.command_line.specs.Program.{import_words, info_words, limits, nbd, number, nvme, optional};
 ghost use Rattle.command_line.specs.Program.{part, parts, plan_words, program, report_words, run, shape, stops};
@@ -14,14 +14,19 @@ use std::alloc::{AllocError, Global};
 /// What `--version` shows after the name of the program.
 const VERSION: &str = "0.1.0";
 
-const FORMAT_EXAMPLE: &str = "Example:
-  zonedisk format --image my.drive --block 512 --zones 4 --size 8 --capacity 6 --transfer 4 --active 2 --open 2";
+const FORMAT_EXAMPLE: &str = "Examples:
+  zonedisk format --image my.drive --block 512 --zones 4 --size 8 --capacity 6 --transfer 4 --active 2 --open 2
+  zonedisk format --device /dev/ng0n1
 
-const RUN_EXAMPLE: &str = "Example:
-  printf 'fill 0 5 aa\\nread 4 1\\n' | zonedisk run --image my.drive --blocks 9";
+A real drive has its own shape. If it is not empty, it is refused; with --force all that it holds is destroyed.";
 
-const NBD_EXAMPLE: &str = "Example:
-  nbdfuse disk --command zonedisk nbd --image my.drive --blocks 9";
+const RUN_EXAMPLE: &str = "Examples:
+  printf 'fill 0 5 aa\\nread 4 1\\n' | zonedisk run --image my.drive --blocks 9
+  printf 'fill 0 5 aa\\nread 4 1\\n' | zonedisk run --device /dev/ng0n1 --blocks 196608";
+
+const NBD_EXAMPLE: &str = "Examples:
+  nbdfuse disk --command zonedisk nbd --image my.drive --blocks 9
+  nbdfuse disk --command zonedisk nbd --device /dev/ng0n1 --blocks 196608";
 
 const EXPORT_EXAMPLE: &str = "Example:
   zonedisk export --image my.drive > my.blocks";
@@ -155,27 +160,6 @@ fn flag<'a>(alloc: Global, name: &'a str, help: &'a str) -> Arg<'a>
         .action(ArgAction::SetTrue)
 }
 
-/// The path of an image file.
-fn image_option<'a>(alloc: Global) -> Arg<'a>
-    ensures rule { rule_of result ≡ image }
-    ensures local { result.global ≡ false }
-{
-    Arg::new(alloc, "image")
-        .long("image")
-        .value_name("P")
-        .help("The file with the image of the drive")
-        .required(true)
-        .action(ArgAction::Set)
-}
-
-/// The same, which may be left out.
-fn image_if_given_option<'a>(alloc: Global) -> Arg<'a>
-    ensures rule { rule_of result ≡ optional image }
-    ensures local { result.global ≡ false }
-{
-    image_option(alloc).required(false)
-}
-
 /// An option that takes a text, and may be left out.
 fn text_option<'a>(alloc: Global, name: &'a str, letter: &'a str, help: &'a str) -> Arg<'a>
     ensures rule { rule_of result ≡ optional (valued name.entry.now) }
@@ -186,6 +170,24 @@ fn text_option<'a>(alloc: Global, name: &'a str, letter: &'a str, help: &'a str)
         .value_name(letter)
         .help(help)
         .action(ArgAction::Set)
+}
+
+/// The path of an image file.
+fn image_option<'a>(alloc: Global) -> Arg<'a>
+    ensures rule { rule_of result ≡ image }
+    ensures local { result.global ≡ false }
+{
+    text_option(alloc, "image", "P", "The file with the image of the drive")
+}
+
+/// The path of a device, which takes the place of a file.
+fn device_option<'a>(alloc: Global) -> Arg<'a>
+    ensures rule { rule_of result ≡ device }
+    ensures local { result.global ≡ false }
+{
+    let help =
+        "In the place of --image: a real drive, by the character device of its namespace, such as /dev/ng0n1";
+    text_option(alloc, "device", "D", help)
 }
 
 /// What takes a number below 2^63.
@@ -241,23 +243,25 @@ fn habit_option<'a>(alloc: Global, habits: &'a [&'a str]) -> Arg<'a>
     Arg::new(alloc, "habit")
         .long("habit")
         .value_name("H")
-        .help("Which zones the drive closes by itself")
+        .help("Which zones the drive closes by itself; lazy without it")
         .action(ArgAction::Set)
         .value_parser(habits)
         .ignore_case(true)
-        .default_value("lazy")
 }
 
 fn format_command<'a>(alloc: Global) -> Result<Command<'a>, AllocError>
     ensures { IfOk result (λ new. IsCommand format new) }
 {
-    let force = "Replaces a file that is no image";
+    let force = "Replaces a file that is no image, or destroys what a device holds";
     let command = Command::new(alloc, "format")
-        .about("Makes a fresh drive in a file")
+        .about(
+            "Makes a drive in which nothing is written: a fresh one in a file, or that of a device",
+        )
         .after_help(FORMAT_EXAMPLE)
         .arg(image_option(alloc))?
+        .arg(device_option(alloc))?
         .arg(flag(alloc, "force", force))?;
-    geometry_options(alloc, command, true)
+    geometry_options(alloc, command, false)
 }
 
 fn run_command<'a>(alloc: Global, habits: &'a [&'a str]) -> Result<Command<'a>, AllocError>
@@ -265,9 +269,10 @@ fn run_command<'a>(alloc: Global, habits: &'a [&'a str]) -> Result<Command<'a>, 
 {
     let zones = "Shows the zones of the drive after the replies, as --report of fresh does";
     let command = Command::new(alloc, "run")
-        .about("Answers the trace on standard input, over the drive in a file")
+        .about("Answers the trace on standard input, over the drive in a file or of a device")
         .after_help(RUN_EXAMPLE)
         .arg(image_option(alloc))?
+        .arg(device_option(alloc))?
         .arg(blocks_option(alloc))?
         .arg(flag(alloc, "zones", zones))?
         .arg(flag(alloc, "statistics", STATISTICS_HELP))?
@@ -285,10 +290,11 @@ fn nbd_command<'a>(alloc: Global, habits: &'a [&'a str]) -> Result<Command<'a>, 
     let idle = "Takes a turn of cleaning after each request, if one is due";
     let command = Command::new(alloc, "nbd")
         .about(
-            "Serves the drive in a file by the Network Block Device protocol, on standard input and output",
+            "Serves the drive in a file or of a device by the Network Block Device protocol, on the standard streams",
         )
         .after_help(NBD_EXAMPLE)
         .arg(image_option(alloc))?
+        .arg(device_option(alloc))?
         .arg(blocks_if_fresh_option(alloc))?
         .arg(flag(alloc, "statistics", statistics))?
         .arg(flag(alloc, "idle", idle))?
@@ -305,9 +311,10 @@ fn export_command<'a>(alloc: Global) -> Result<Command<'a>, AllocError>
     let first = "The first block; 0 without it";
     let count = "How many blocks; without it all from the first one on";
     Command::new(alloc, "export")
-        .about("Writes blocks of the drive in a file to standard output")
+        .about("Writes blocks of the drive in a file or of a device to standard output")
         .after_help(EXPORT_EXAMPLE)
         .arg(image_option(alloc))?
+        .arg(device_option(alloc))?
         .arg(count_option(alloc, "first", "L", first))?
         .arg(count_option(alloc, "count", "N", count))?
         .arg(flag(alloc, "progress", PROGRESS_HELP))
@@ -319,9 +326,10 @@ fn import_command<'a>(alloc: Global) -> Result<Command<'a>, AllocError>
     let first = "The block that the first one is written to; 0 without it";
     let sparse = "Trims blocks of zeros, so that their data take no room";
     Command::new(alloc, "import")
-        .about("Writes whole blocks from standard input to the drive in a file")
+        .about("Writes whole blocks from standard input to the drive in a file or of a device")
         .after_help(IMPORT_EXAMPLE)
         .arg(image_option(alloc))?
+        .arg(device_option(alloc))?
         .arg(blocks_if_fresh_option(alloc))?
         .arg(count_option(alloc, "first", "L", first))?
         .arg(flag(alloc, "sparse", sparse))?
@@ -337,9 +345,10 @@ fn report_command<'a>(alloc: Global) -> Result<Command<'a>, AllocError>
     let json = "Shows them as JSON, with the names of nvme-cli";
     let svg = "Draws them as SVG, a cell for each";
     Command::new(alloc, "report")
-        .about("Shows the zones of the drive in a file")
+        .about("Shows the zones of the drive in a file or of a device")
         .after_help(REPORT_EXAMPLE)
         .arg(image_option(alloc))?
+        .arg(device_option(alloc))?
         .arg(text_option(alloc, "state", "S", state))?
         .arg(flag(alloc, "brief", brief))?
         .arg(flag(alloc, "json", json))?
@@ -361,10 +370,11 @@ fn check_command<'a>(alloc: Global) -> Result<Command<'a>, AllocError>
     let json = "Shows the faults as JSON";
     Command::new(alloc, "check")
         .about(
-            "Shows each fault of the drive in a file, and ends with status 0 if it can be mounted",
+            "Shows each fault of the drive in a file or of a device, and ends with status 0 if it can be mounted",
         )
         .after_help(CHECK_EXAMPLE)
         .arg(image_option(alloc))?
+        .arg(device_option(alloc))?
         .arg(blocks_to_check_option(alloc))?
         .arg(flag(alloc, "json", json))
 }
@@ -374,9 +384,10 @@ fn info_command<'a>(alloc: Global) -> Result<Command<'a>, AllocError>
 {
     let json = "Shows the numbers as JSON";
     Command::new(alloc, "info")
-        .about("Shows what the drive in a file holds, and what a mount takes")
+        .about("Shows what the drive in a file or of a device holds, and what a mount takes")
         .after_help(INFO_EXAMPLE)
         .arg(image_option(alloc))?
+        .arg(device_option(alloc))?
         .arg(flag(alloc, "json", json))
 }
 
@@ -403,7 +414,7 @@ fn plan_command<'a>(alloc: Global) -> Result<Command<'a>, AllocError>
     let command = Command::new(alloc, "plan")
         .about("Shows what numbers of logical blocks cost on a drive: of this shape, or in a file")
         .after_help(PLAN_EXAMPLE)
-        .arg(image_if_given_option(alloc))?;
+        .arg(image_option(alloc))?;
     let command = geometry_options(alloc, command, false)?;
     let command = aim_options(alloc, command)?;
     command
@@ -462,9 +473,10 @@ fn nvme_command<'a>(alloc: Global, habits: &'a [&'a str]) -> Result<Command<'a>,
 {
     let explain = "Says on standard error what the status of each completion is";
     Command::new(alloc, "nvme")
-        .about("Submits the raw entries on standard input to the drive in a file")
+        .about("Submits the raw entries on standard input to the drive in a file or of a device")
         .after_help(NVME_EXAMPLE)
         .arg(image_option(alloc))?
+        .arg(device_option(alloc))?
         .arg(flag(alloc, "explain", explain))?
         .arg(flag(alloc, "sync", SYNC_HELP))?
         .arg(habit_option(alloc, habits))

@@ -6,6 +6,7 @@
 //!     Task::Nbd(job) => serve(job),
 //!     Task::Copy(job) => copy(job),
 //!     Task::Tool(job) => use_tool(job),
+//!     Task::Device(job) => do_device(job),
 //! }
 //! ```
 //!
@@ -13,8 +14,9 @@
 //!
 //! * A task holds what clap's matches of the words have: the subcommand and, for each of its options, the value under
 //!   its name; a number is spelled only in digits. Clap refuses none of these words (`specs/Program.antt` has the words
-//!   that the program takes, `specs/Words.antt`, `specs/ToolWords.antt` and `specs/EntryWords.antt` the task
-//!   that they ask for).
+//!   that the program takes, and `specs/Words.antt` the task that they ask for).
+//! * A job is one on a device exactly if `--device` is given. Then no file is named, and nothing is asked for that only
+//!   a drive in a file can have (`specs/DeviceWords.antt`).
 //! * Words are refused only where clap refuses them, where they ask for no task in this sense, or where memory runs
 //!   out.
 //!
@@ -22,7 +24,9 @@
 #![tactic(auto)]
 
 mod command;
+mod devices;
 mod entries;
+mod place;
 mod refusal;
 mod task;
 mod tools;

@@ -22,6 +22,12 @@ const SIZE: &str = "a number, then K, M, G or T, or none of them";
 
 const PAIRS: &str = "pairs of hexadecimal digits";
 
+const NO_DRIVE: &str =
+    "the drive is not named: '--image' names one in a file, and '--device' a real one";
+
+const SHAPE_NEEDS: &str = "a drive in a file has a shape, by all of \
+    '--block', '--zones', '--size', '--capacity', '--transfer', '--active' and '--open'";
+
 const PLAN_NEEDS: &str =
     "a plan is for a drive in a file, by '--image', or for one of a shape, by all of \
     '--block', '--zones', '--size', '--capacity', '--transfer', '--active' and '--open'; \
@@ -66,8 +72,12 @@ impl Asked<'_, '_> {
         self.refused(ErrorKind::ValueValidation, &text)
     }
 
-    /// That an option was not given of which this is to be known.
-    fn lacks(self, option: &str, needs: &str) -> Result<Error, AllocError> {
+    /// That an option was not given, and what has to be given.
+    fn lacks(self, option: &str) -> Result<Error, AllocError> {
+        let needs = match self.name {
+            "plan" => PLAN_NEEDS,
+            _ => SHAPE_NEEDS,
+        };
         let text = format!(in self.alloc; "the option '--{option}' is not given: {needs}")?;
         self.refused(ErrorKind::MissingRequiredArgument, &text)
     }
@@ -99,7 +109,8 @@ pub fn refusal(
             ErrorKind::MissingSubcommand,
             "a subcommand or an option is wanted",
         ),
-        WordFault::Lacks(option) => asked.lacks(option, PLAN_NEEDS),
+        WordFault::NoDrive => asked.refused(ErrorKind::MissingRequiredArgument, NO_DRIVE),
+        WordFault::Lacks(option) => asked.lacks(option),
         WordFault::Digits(option) => asked.wrong_value(option, DIGITS),
         WordFault::Size => asked.wrong_value("bytes", SIZE),
         WordFault::State => asked.other_value("state", "--state", STATES),

@@ -1,4 +1,5 @@
 use copy_jobs::CopyJob;
+use device_jobs::DeviceJob;
 use disk_jobs::Job;
 use nbd_jobs::NbdJob;
 use tool_jobs::ToolJob;
@@ -14,4 +15,6 @@ pub enum Task {
     Copy(CopyJob),
     /// A tool that looks at a drive, or plans one.
     Tool(ToolJob),
+    /// A job on the drive of a device, and not on one in a file.
+    Device(DeviceJob),
 }

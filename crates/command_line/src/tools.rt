@@ -9,6 +9,7 @@ ghost use Rattle.command_line.specs.ToolWords.{HasPlanForm, HasPlannedDrive, Has
 ghost use Rattle.command_line.specs.ToolWords.{HasZonesForm, SaysBytes, SaysBytesIn, part_names, plan_names};
 ghost use Rattle.command_line.specs.Words.{AsksForTool};
 
+use crate::place::{Place, drive_path};
 use crate::words::{WordFault, geometry, given, image, number_if_given, number_in, number_or};
 use clap::ArgMatches;
 use nvme_wire::ZoneState;
@@ -37,7 +38,7 @@ fn is_missing(matches: &ArgMatches<'_>, name: &str) -> bool
 }
 
 /// Whether no part of a geometry was given.
-fn lacks_parts(matches: &ArgMatches<'_>) -> bool
+pub fn lacks_parts(matches: &ArgMatches<'_>) -> bool
     ensures { result ≡ lacks_all (rows_of (found_of matches.now)) part_names }
 {
     is_missing(matches, "block")
@@ -61,8 +62,12 @@ fn lacks_plan(matches: &ArgMatches<'_>) -> bool
 }
 
 /// The job of `check`.
-pub fn check_job(alloc: Global, matches: &ArgMatches<'_>) -> Result<CheckJob, WordFault>
-    ensures { Finds (AsksForCheck (rows_of (found_of matches.now))) result }
+pub fn check_job(
+    alloc: Global,
+    place: Place,
+    matches: &ArgMatches<'_>,
+) -> Result<CheckJob, WordFault>
+    ensures { Finds (AsksForCheck place (rows_of (found_of matches.now))) result }
 {
     let blocks = number_or(matches, "blocks", 1)?;
     let form = if is_set(matches, "json") {
@@ -71,15 +76,15 @@ pub fn check_job(alloc: Global, matches: &ArgMatches<'_>) -> Result<CheckJob, Wo
         CheckForm::Lines
     };
     Ok(CheckJob {
-        image: image(alloc, matches)?,
+        image: drive_path(alloc, place, matches)?,
         blocks,
         form,
     })
 }
 
 /// The job of `info`.
-pub fn info_job(alloc: Global, matches: &ArgMatches<'_>) -> Result<InfoJob, WordFault>
-    ensures { Finds (AsksForInfo (rows_of (found_of matches.now))) result }
+pub fn info_job(alloc: Global, place: Place, matches: &ArgMatches<'_>) -> Result<InfoJob, WordFault>
+    ensures { Finds (AsksForInfo place (rows_of (found_of matches.now))) result }
 {
     let form = if is_set(matches, "json") {
         InfoForm::Json
@@ -87,7 +92,7 @@ pub fn info_job(alloc: Global, matches: &ArgMatches<'_>) -> Result<InfoJob, Word
         InfoForm::Lines
     };
     Ok(InfoJob {
-        image: image(alloc, matches)?,
+        image: drive_path(alloc, place, matches)?,
         form,
     })
 }
@@ -152,7 +157,7 @@ const PLAN_OPTIONS: [&str; 11] = [
 ];
 
 /// The first of these options that was given, or the last one.
-fn first_given(matches: &ArgMatches<'_>) -> &'static str {
+pub fn first_given(matches: &ArgMatches<'_>) -> &'static str {
     for name in PLAN_OPTIONS {
         if !is_missing(matches, name) {
             return name;

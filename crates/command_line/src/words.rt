@@ -4,11 +4,14 @@ ghost use Rattle.std.specs.Char.{is_ascii_digit};
 ghost use Rattle.clap.specs.Words.{first_of, found_of, rows_of, subcommand_rows_of};
 ghost use Rattle.command_line.specs.Values.{Finds, HasFlag, HasGeometry, HasHabit, HasImage, HasNumber};
 ghost use Rattle.command_line.specs.Values.{HasNumberIf, HasNumberOr, HasStop, IsNumber, named_habit};
-ghost use Rattle.command_line.specs.Words.{AsksFor, AsksForCopy, AsksForJob, AsksForNbd, IsAnswerTo};
+ghost use Rattle.command_line.specs.DriveWords.{AsksForCopy, AsksForNbd};
+ghost use Rattle.command_line.specs.Words.{AsksFor, AsksForFile, AsksForJob, IsAnswerTo};
 ghost use Rattle.command_line.specs.declared.words.WordFault.TheVariants.{Memory};
 
 use crate::command::{HABITS, program};
+use crate::devices::device_job;
 use crate::entries::entry_words;
+use crate::place::{Place, drive_path};
 use crate::refusal::refusal;
 use crate::task::Task;
 use crate::tools::{check_job, info_job, plan_tool, zones_form};
@@ -25,8 +28,10 @@ use zone_states::Geometry;
 pub enum WordFault {
     /// They lack a subcommand or a word of it. The parser refuses such words before.
     Missing,
-    /// They lack the option with this name. The parser refuses such words before, but for a plan, which may take
-    /// others.
+    /// They name no drive, neither in a file nor behind a device.
+    NoDrive,
+    /// They lack the option with this name. The parser refuses such words before, but for a format and a plan, which
+    /// may take others.
     Lacks(&'static str),
     /// The value of the option with this name is not in decimal digits, or needs too many bits.
     Digits(&'static str),
@@ -60,7 +65,7 @@ pub fn given<'a>(matches: &ArgMatches<'a>, name: &str) -> Option<&'a str>
 }
 
 /// Whether a flag was given.
-fn has_flag(matches: &ArgMatches<'_>, name: &str) -> bool
+pub fn has_flag(matches: &ArgMatches<'_>, name: &str) -> bool
     ensures { HasFlag (rows_of (found_of matches.now)) name.now result }
 {
     matches.get_flag(name)
@@ -89,7 +94,7 @@ pub fn number_in(text: &str) -> Option<u64>
 
 /// The number that an option was given. It is refused where it is not spelled only in decimal digits, or needs more
 /// than 64 bits.
-fn number(matches: &ArgMatches<'_>, name: &'static str) -> Result<u64, WordFault>
+pub fn number(matches: &ArgMatches<'_>, name: &'static str) -> Result<u64, WordFault>
     ensures { Finds (HasNumber 64 (rows_of (found_of matches.now)) name.entry.now) result }
 {
     let Some(digits) = given(matches, name) else {
@@ -136,7 +141,7 @@ pub fn number_if_given(
 }
 
 /// When the drive stops. No Append has more blocks than 32 bits can count.
-fn stop_of(matches: &ArgMatches<'_>) -> Result<Stop, WordFault>
+pub fn stop_of(matches: &ArgMatches<'_>) -> Result<Stop, WordFault>
     ensures { Finds (HasStop (rows_of (found_of matches.now))) result }
 {
     let commands = number_or(matches, "stop-after", Stop::NEVER.commands)?;
@@ -197,7 +202,7 @@ pub fn image(alloc: Global, matches: &ArgMatches<'_>) -> Result<String, WordFaul
     ensures { Finds (λ path. HasImage (rows_of (found_of matches.now)) (string_bytes path)) result }
 {
     let Some(path) = given(matches, "image") else {
-        return Err(WordFault::Missing);
+        return Err(WordFault::NoDrive);
     };
     Ok(String::from_str(alloc, path)?)
 }
@@ -234,7 +239,7 @@ fn run_job(alloc: Global, matches: &ArgMatches<'_>) -> Result<Job, WordFault>
 
 /// What `report` asks for: all lines of it, or another form.
 fn report_task(alloc: Global, matches: &ArgMatches<'_>) -> Result<Task, WordFault>
-    ensures { Finds (AsksFor (codes "report") (rows_of (found_of matches.now))) result }
+    ensures { Finds (AsksForFile (codes "report") (rows_of (found_of matches.now))) result }
 {
     let form = zones_form(matches)?;
     let image = image(alloc, matches)?;
@@ -296,13 +301,13 @@ fn subcommand_job(alloc: Global, name: &str, matches: &ArgMatches<'_>) -> Result
 }
 
 /// The job of `nbd`.
-fn nbd_job(alloc: Global, matches: &ArgMatches<'_>) -> Result<NbdJob, WordFault>
-    ensures { Finds (AsksForNbd (rows_of (found_of matches.now))) result }
+pub fn nbd_job(alloc: Global, place: Place, matches: &ArgMatches<'_>) -> Result<NbdJob, WordFault>
+    ensures { Finds (AsksForNbd place (rows_of (found_of matches.now))) result }
 {
     let blocks = number_if_given(matches, "blocks")?;
     let stop = stop_of(matches)?;
     Ok(NbdJob {
-        image: image(alloc, matches)?,
+        image: drive_path(alloc, place, matches)?,
         blocks,
         stop,
         habit: habit_of(matches),
@@ -313,13 +318,17 @@ fn nbd_job(alloc: Global, matches: &ArgMatches<'_>) -> Result<NbdJob, WordFault>
 }
 
 /// The job of `export`.
-fn export_job(alloc: Global, matches: &ArgMatches<'_>) -> Result<CopyJob, WordFault>
-    ensures { Finds (AsksForCopy (codes "export") (rows_of (found_of matches.now))) result }
+pub fn export_job(
+    alloc: Global,
+    place: Place,
+    matches: &ArgMatches<'_>,
+) -> Result<CopyJob, WordFault>
+    ensures { Finds (AsksForCopy place (codes "export") (rows_of (found_of matches.now))) result }
 {
     let first = number_or(matches, "first", 0)?;
     let count = number_if_given(matches, "count")?;
     Ok(CopyJob::Export(ExportJob {
-        image: image(alloc, matches)?,
+        image: drive_path(alloc, place, matches)?,
         first,
         count,
         progress: has_flag(matches, "progress"),
@@ -327,13 +336,17 @@ fn export_job(alloc: Global, matches: &ArgMatches<'_>) -> Result<CopyJob, WordFa
 }
 
 /// The job of `import`.
-fn import_job(alloc: Global, matches: &ArgMatches<'_>) -> Result<CopyJob, WordFault>
-    ensures { Finds (AsksForCopy (codes "import") (rows_of (found_of matches.now))) result }
+pub fn import_job(
+    alloc: Global,
+    place: Place,
+    matches: &ArgMatches<'_>,
+) -> Result<CopyJob, WordFault>
+    ensures { Finds (AsksForCopy place (codes "import") (rows_of (found_of matches.now))) result }
 {
     let blocks = number_if_given(matches, "blocks")?;
     let first = number_or(matches, "first", 0)?;
     Ok(CopyJob::Import(ImportJob {
-        image: image(alloc, matches)?,
+        image: drive_path(alloc, place, matches)?,
         blocks,
         first,
         sparse: has_flag(matches, "sparse"),
@@ -341,21 +354,32 @@ fn import_job(alloc: Global, matches: &ArgMatches<'_>) -> Result<CopyJob, WordFa
     }))
 }
 
-/// What a subcommand asks for.
-fn subcommand_task(alloc: Global, name: &str, matches: &ArgMatches<'_>) -> Result<Task, WordFault>
-    ensures { Finds (AsksFor name.now (rows_of (found_of matches.now))) result }
+/// What a subcommand asks for without a device.
+fn file_task(alloc: Global, name: &str, matches: &ArgMatches<'_>) -> Result<Task, WordFault>
+    ensures { Finds (AsksForFile name.now (rows_of (found_of matches.now))) result }
 {
+    let place = Place::File;
     match name {
-        "nbd" => Ok(Task::Nbd(nbd_job(alloc, matches)?)),
-        "export" => Ok(Task::Copy(export_job(alloc, matches)?)),
-        "import" => Ok(Task::Copy(import_job(alloc, matches)?)),
-        "check" => Ok(Task::Tool(ToolJob::Check(check_job(alloc, matches)?))),
-        "info" => Ok(Task::Tool(ToolJob::Info(info_job(alloc, matches)?))),
+        "nbd" => Ok(Task::Nbd(nbd_job(alloc, place, matches)?)),
+        "export" => Ok(Task::Copy(export_job(alloc, place, matches)?)),
+        "import" => Ok(Task::Copy(import_job(alloc, place, matches)?)),
+        "check" => Ok(Task::Tool(ToolJob::Check(check_job(alloc, place, matches)?))),
+        "info" => Ok(Task::Tool(ToolJob::Info(info_job(alloc, place, matches)?))),
         "plan" => Ok(Task::Tool(plan_tool(alloc, matches)?)),
         "report" => report_task(alloc, matches),
         "entry" => Ok(Task::Tool(ToolJob::Entry(entry_words(alloc, matches)?))),
         _ => Ok(Task::Lines(subcommand_job(alloc, name, matches)?)),
     }
+}
+
+/// What a subcommand asks for.
+fn subcommand_task(alloc: Global, name: &str, matches: &ArgMatches<'_>) -> Result<Task, WordFault>
+    ensures { Finds (AsksFor name.now (rows_of (found_of matches.now))) result }
+{
+    if given(matches, "device").is_some() {
+        return Ok(Task::Device(device_job(alloc, name, matches)?));
+    }
+    file_task(alloc, name, matches)
 }
 
 /// What the subcommand asks for, if any.

@@ -14,7 +14,7 @@ use zone_drive::Habit;
 
 /// How many blocks are asked for, of a disk of this size: all from the first one on if no number was given, but one at
 /// least, so that a first one past the end is refused.
-fn blocks_asked(count: Option<u64>, first: u64, size: u64) -> u64
+pub fn blocks_asked(count: Option<u64>, first: u64, size: u64) -> u64
     ensures { result ≡ blocks_asked count first size }
 {
     match count {

@@ -45,7 +45,7 @@ fn import_end(taken: Result<u64, ImportFault>) -> Result<u64, CopyFault>
 }
 
 /// Mounts a drive, and imports blocks into it.
-fn import_mounted<D: Device + Drop, R: Read>(
+pub fn import_mounted<D: Device + Drop, R: Read>(
     alloc: Global,
     job: &ImportJob,
     device: D,

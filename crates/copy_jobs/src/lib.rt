@@ -31,8 +31,8 @@ mod file;
 mod job;
 mod saving;
 
-pub use drive_export::export_drive;
-pub use drive_import::{Left, import_drive};
+pub use drive_export::{blocks_asked, export_drive};
+pub use drive_import::{Left, import_drive, import_mounted};
 pub use explanation::explain;
 pub use fault::CopyFault;
 pub use file::{Imported, do_export, do_import};

@@ -9,12 +9,31 @@ use std::alloc::{AllocError, Global};
 use std::io::Read;
 use zone_translator::{DiskFault, MountFault};
 
+/// What the lines of a job are, as far as that explains a fault of them.
+#[derive(Clone, Copy, Debug, PartialEq, Eq)]
+pub struct AskedLines {
+    /// Whether they are raw lines, and no lines of a trace.
+    pub are_raw: bool,
+    /// After how many commands the drive stops, if the job asks for that.
+    pub stop: Option<u64>,
+}
+
+impl AskedLines {
+    /// Those of a job.
+    fn of(job: &Job) -> AskedLines {
+        AskedLines {
+            are_raw: matches!(job, Job::Nvme { .. } | Job::FreshRaw { .. }),
+            stop: job.stop(),
+        }
+    }
+}
+
 /// What is wrong with a line, if it is no raw line or none of a trace.
-fn problem_of(job: &Job, line: &[u8], mounting: Mounting) -> Option<LineProblem> {
-    match (job, mounting.disk) {
-        (Job::Nvme { .. } | Job::FreshRaw { .. }, _) => Some(raw_problem(line)),
-        (_, Some(disk)) => trace_problem(line, disk.geometry.block),
-        (_, None) => trace_problem(line, 0),
+fn problem_of(asked: AskedLines, line: &[u8], mounting: Mounting) -> Option<LineProblem> {
+    match mounting.disk {
+        _ if asked.are_raw => Some(raw_problem(line)),
+        Some(disk) => trace_problem(line, disk.geometry.block),
+        None => trace_problem(line, 0),
     }
 }
 
@@ -32,7 +51,10 @@ fn shown_line(alloc: Global, line: &[u8]) -> Result<String, AllocError> {
 }
 
 /// Where a run ended: at a line, by its number as `fault line` counts, or before the first one.
-fn place<R: Read + Drop>(alloc: Global, input: &mut JobInput<'_, R>) -> Result<String, AllocError> {
+pub fn place<R: Read + Drop>(
+    alloc: Global,
+    input: &mut JobInput<'_, R>,
+) -> Result<String, AllocError> {
     if input.line().is_empty() {
         return String::from_str(alloc, "before the first line");
     }
@@ -56,12 +78,12 @@ fn explain_memory<R: Read + Drop>(
 /// What a stop comes to that the job asks for: how many of the commands before it the mount took.
 fn explain_stop(
     alloc: Global,
-    job: &Job,
+    asked: AskedLines,
     fault: RunFault,
     mounting: Mounting,
 ) -> Result<String, AllocError> {
     let taken = mounting.commands;
-    match (job.stop(), fault) {
+    match (asked.stop, fault) {
         (
             Some(commands),
             RunFault::Disk(DiskFault::Stopped) | RunFault::Mount(MountFault::Halted),
@@ -87,14 +109,14 @@ fn explain_line(
 
 fn explain_run<R: Read + Drop>(
     alloc: Global,
-    job: &Job,
+    asked: AskedLines,
     fault: RunFault,
     input: &mut JobInput<'_, R>,
     mounting: Mounting,
 ) -> Result<String, AllocError> {
     match fault {
         RunFault::Line(number) => {
-            explain_line(alloc, number, problem_of(job, input.line(), mounting))
+            explain_line(alloc, number, problem_of(asked, input.line(), mounting))
         }
         RunFault::Long(number) => {
             format!(in alloc; "line {number} has more than {LONGEST_LINE} bytes")
@@ -108,21 +130,21 @@ fn explain_run<R: Read + Drop>(
     }
 }
 
-/// One line for people that says what a fault is, without a line feed. `input` has the line that the job read last, and
-/// no more lines afterwards. `mounting` is what is known of its mount.
-pub fn explain<R: Read + Drop>(
+/// One line for people that says what a fault of lines is, without a line feed. `path` names their drive. `input` has
+/// the line that was read last, and no more lines afterwards. `mounting` is what is known of the mount.
+pub fn explain_lines<R: Read + Drop>(
     alloc: Global,
-    job: &Job,
+    path: &str,
+    asked: AskedLines,
     fault: ProgramFault,
     input: &mut JobInput<'_, R>,
     mounting: Mounting,
 ) -> Result<String, AllocError> {
-    let path = job.image().unwrap_or("the file");
     match fault {
         ProgramFault::Run(fault) => {
             let (told, stop) = (
-                explain_run(alloc, job, fault, input, mounting)?,
-                explain_stop(alloc, job, fault, mounting)?,
+                explain_run(alloc, asked, fault, input, mounting)?,
+                explain_stop(alloc, asked, fault, mounting)?,
             );
             format!(in alloc; "{told}{stop}")
         }
@@ -132,4 +154,16 @@ pub fn explain<R: Read + Drop>(
         ProgramFault::Image(fault) => format!(in alloc; "{path}: {fault}"),
         ProgramFault::File(fault) => format!(in alloc; "{path} {fault}"),
     }
+}
+
+/// The same for the lines of a job.
+pub fn explain<R: Read + Drop>(
+    alloc: Global,
+    job: &Job,
+    fault: ProgramFault,
+    input: &mut JobInput<'_, R>,
+    mounting: Mounting,
+) -> Result<String, AllocError> {
+    let path = job.image().unwrap_or("the file");
+    explain_lines(alloc, path, AskedLines::of(job), fault, input, mounting)
 }

@@ -23,6 +23,11 @@ impl<'g, R: Read + Drop> JobInput<'g, R> {
         }
     }
 
+    /// The reader of the lines.
+    pub fn reader(&mut self) -> &mut LineReader<GatedInput<'g, CountedLines<'g, R>>> {
+        &mut self.lines
+    }
+
     /// The line that was read last.
     pub fn line(&self) -> &[u8] {
         self.lines.line()

@@ -47,7 +47,7 @@ impl LineCount {
 
 /// A reader whose lines are counted.
 #[derive(Drop)]
-pub(crate) struct CountedLines<'c, R: Read + Drop> {
+pub struct CountedLines<'c, R: Read + Drop> {
     pub(crate) count: &'c LineCount,
     pub(crate) reader: R,
 }

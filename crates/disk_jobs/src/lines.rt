@@ -52,10 +52,10 @@ pub(crate) struct Stored<S: Store<Drive> + Drop> {
 /// How a trace is run: the number of logical blocks that the mount is given, when the device stops, and whether only
 /// lines that read are taken.
 #[derive(Clone, Copy)]
-pub(crate) struct TraceRun {
-    pub(crate) blocks: u64,
-    pub(crate) stop: Stop,
-    pub(crate) only_reads: bool,
+pub struct TraceRun {
+    pub blocks: u64,
+    pub stop: Stop,
+    pub only_reads: bool,
 }
 
 /// A device that stops after the commands of a stop, or inside the Append after them. Then the first blocks of the
@@ -85,7 +85,7 @@ pub(crate) fn answer_lines<D: Device + Drop, R: Read + Drop, W: Write>(
 }
 
 /// Answers a trace over a device that stops. It tells what is known of the mount.
-fn run_stopping<D: Device + Drop, R: Read + Drop, W: Write>(
+pub fn run_stopping<D: Device + Drop, R: Read + Drop, W: Write>(
     alloc: Global,
     device: D,
     how: TraceRun,

@@ -23,7 +23,7 @@ use zone_states::Geometry;
 use zone_translator::MountFault;
 
 /// What the fault of a run over a drive of this shape is to the program.
-fn told(fault: RunFault, geometry: &Geometry) -> ProgramFault
+pub fn told(fault: RunFault, geometry: &Geometry) -> ProgramFault
     ensures tells { TellsRun geometry.now result }
     ensures ended { ended_by (Err result) ≡ Err fault }
 {

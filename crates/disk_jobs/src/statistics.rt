@@ -64,7 +64,7 @@ fn tell_after<W: Write, D: Device + Drop>(
 
 /// Answers a trace over a device that stops and whose commands are counted, and then shows what was counted. It tells
 /// what is known of the mount.
-pub(crate) fn run_counted<D: Device + Drop, R: Read + Drop, W: Write>(
+pub fn run_counted<D: Device + Drop, R: Read + Drop, W: Write>(
     alloc: Global,
     device: D,
     how: TraceRun,

@@ -1,5 +1,5 @@
 use crate::sums::{block_shares, count_batches, count_moves, count_resets, memory};
-use drive_info::{DriveInfo, Info, InspectedDrive, ZoneInfo};
+use drive_info::{DriveInfo, Info, InspectedDrive, MountWork, ZoneInfo};
 use drive_survey::{MountFault, ReportedZone};
 use serde_json::{Value, json};
 use std::alloc::{AllocError, Global};
@@ -58,30 +58,51 @@ fn all_zones_json(alloc: Global, drive: &DriveInfo, info: &Info) -> Result<Value
     Ok(Value::Array(list))
 }
 
-/// What a mount does.
-fn mount_json(alloc: Global, found: &InspectedDrive, info: &Info) -> Result<Value, AllocError> {
-    let half_clean = numbers_json(alloc, &info.work.half_clean)?;
-    let mounted = found.mounted.as_ref().ok();
+/// What a mount does, if it was not rehearsed.
+fn work_json(alloc: Global, work: &MountWork) -> Result<Value, AllocError> {
+    let half_clean = numbers_json(alloc, &work.half_clean)?;
     json!(in alloc; {
         "half_clean": half_clean,
-        "resets": count_resets(&info.work) as u64,
-        "moves": count_moves(&info.work),
-        "finishes": found.counts.finishes,
-        "reads": found.counts.reads,
+        "resets": count_resets(work) as u64,
+        "moves": count_moves(work),
+    })
+}
+
+/// What a mount does that was rehearsed.
+fn mount_json(
+    alloc: Global,
+    work: &MountWork,
+    rehearsed: &InspectedDrive,
+) -> Result<Value, AllocError> {
+    let half_clean = numbers_json(alloc, &work.half_clean)?;
+    let mounted = rehearsed.mounted.as_ref().ok();
+    json!(in alloc; {
+        "half_clean": half_clean,
+        "resets": count_resets(work) as u64,
+        "moves": count_moves(work),
+        "finishes": rehearsed.counts.finishes,
+        "reads": rehearsed.counts.reads,
         "commands": number_json(mounted.map(|mounted| mounted.commands)),
         "next_sequence": number_json(mounted.map(|mounted| mounted.next)),
         "batches_left": number_json(mounted.map(|mounted| mounted.left)),
     })
 }
 
-/// A drive that can be mounted.
-fn mountable_json(alloc: Global, found: &InspectedDrive, info: &Info) -> Result<Value, AllocError> {
-    let drive = &found.info;
+/// A drive that can be mounted, and its mount if that was rehearsed.
+fn mountable_json(
+    alloc: Global,
+    drive: &DriveInfo,
+    info: &Info,
+    rehearsed: Option<&InspectedDrive>,
+) -> Result<Value, AllocError> {
     let holdings = &info.holdings;
     let shares = block_shares(drive, holdings);
     let bytes = memory(alloc, &drive.geometry, holdings.size)?;
     let geometry = geometry_json(alloc, &drive.geometry)?;
-    let mount = mount_json(alloc, found, info)?;
+    let mount = match rehearsed {
+        Some(rehearsed) => mount_json(alloc, &info.work, rehearsed)?,
+        None => work_json(alloc, &info.work)?,
+    };
     let zones = all_zones_json(alloc, drive, info)?;
     json!(in alloc; {
         "geometry": geometry,
@@ -109,12 +130,26 @@ fn refused_json(alloc: Global, drive: &DriveInfo, fault: MountFault) -> Result<V
     json!(in alloc; {"geometry": geometry, "refusal": refusal.as_str(), "zones": zones})
 }
 
+/// The object of a drive, with its mount if that was rehearsed.
+fn drive_json(
+    alloc: Global,
+    drive: &DriveInfo,
+    rehearsed: Option<&InspectedDrive>,
+) -> Result<String, AllocError> {
+    let all = match &drive.found {
+        Ok(info) => mountable_json(alloc, drive, info, rehearsed)?,
+        Err(fault) => refused_json(alloc, drive, *fault)?,
+    };
+    all.to_string_pretty(alloc)
+}
+
 /// What is found of a drive, as JSON: one object. Of a drive that cannot be mounted it says the `refusal`, and leaves
 /// out what the drive holds.
 pub fn info_json(alloc: Global, found: &InspectedDrive) -> Result<String, AllocError> {
-    let all = match &found.info.found {
-        Ok(info) => mountable_json(alloc, found, info)?,
-        Err(fault) => refused_json(alloc, &found.info, *fault)?,
-    };
-    all.to_string_pretty(alloc)
+    drive_json(alloc, &found.info, Some(found))
+}
+
+/// The same of a drive whose mount was not rehearsed.
+pub fn unmounted_json(alloc: Global, found: &DriveInfo) -> Result<String, AllocError> {
+    drive_json(alloc, found, None)
 }

@@ -6,6 +6,8 @@
 //! let text = info_json(alloc, &found)?;   // the same as JSON
 //! ```
 //!
+//! [`unmounted_text`] and [`unmounted_json`] show a drive whose mount was not rehearsed: nothing may change it.
+//!
 //! Nothing is promised beyond safety; what they show is tested.
 //!
 //! Tests: the rows of `tool_rows`.
@@ -16,5 +18,5 @@ mod json;
 mod sums;
 mod text;
 
-pub use json::info_json;
-pub use text::info_text;
+pub use json::{info_json, unmounted_json};
+pub use text::{info_text, unmounted_text};

@@ -2,7 +2,9 @@ use crate::bars::write_bars;
 use crate::sums::{
     block_shares, count_batches, count_moves, count_resets, count_state, memory, torn_zones,
 };
+use drive_counter::Counts;
 use drive_info::{DriveInfo, Info, InspectedDrive, MountWork, Rehearsal};
+use drive_survey::MountFault;
 use report_forms::STATES;
 use std::alloc::{AllocError, Global};
 use zone_report::state_text;
@@ -59,57 +61,80 @@ fn write_blocks(text: &mut String, drive: &DriveInfo, info: &Info) -> Result<(),
 }
 
 /// Adds the lines of what a mount does.
-fn write_mount(
-    text: &mut String,
-    work: &MountWork,
-    found: &InspectedDrive,
-) -> Result<(), AllocError> {
+fn write_work(text: &mut String, work: &MountWork) -> Result<(), AllocError> {
     writeln!(text, "mount resets {}", count_resets(work))?;
-    writeln!(text, "mount moves {}", count_moves(work))?;
-    writeln!(text, "mount finishes {}", found.counts.finishes)?;
-    writeln!(text, "mount reads {}", found.counts.reads)
+    writeln!(text, "mount moves {}", count_moves(work))
 }
 
-/// Adds the lines of how a mount ends.
-fn write_mounted(text: &mut String, mounted: &Rehearsal) -> Result<(), AllocError> {
-    writeln!(text, "mount commands {}", mounted.commands)?;
-    writeln!(text, "next sequence {}", mounted.next)?;
-    writeln!(text, "batches left {}", mounted.left)
+/// Adds the lines of the commands that a mount took.
+fn write_counts(text: &mut String, counts: &Counts) -> Result<(), AllocError> {
+    writeln!(text, "mount finishes {}", counts.finishes)?;
+    writeln!(text, "mount reads {}", counts.reads)
 }
 
-/// Adds the lines of a drive that can be mounted.
+/// Adds the lines of how a mount ended.
+fn write_mounted(
+    text: &mut String,
+    mounted: &Result<Rehearsal, MountFault>,
+) -> Result<(), AllocError> {
+    match mounted {
+        Ok(mounted) => {
+            writeln!(text, "mount commands {}", mounted.commands)?;
+            writeln!(text, "next sequence {}", mounted.next)?;
+            writeln!(text, "batches left {}", mounted.left)
+        }
+        Err(fault) => writeln!(text, "refused: {fault}"),
+    }
+}
+
+/// Adds the lines of a drive that can be mounted, and of its mount if that was rehearsed.
 fn write_info(
     alloc: Global,
     text: &mut String,
-    found: &InspectedDrive,
+    drive: &DriveInfo,
     info: &Info,
+    rehearsed: Option<&InspectedDrive>,
 ) -> Result<(), AllocError> {
     write_logical(text, info)?;
-    write_blocks(text, &found.info, info)?;
+    write_blocks(text, drive, info)?;
     write_zones(text, "torn zones", &torn_zones(alloc, &info.holdings)?)?;
     write_zones(text, "half clean zones", &info.work.half_clean)?;
-    write_mount(text, &info.work, found)?;
-    match &found.mounted {
-        Ok(mounted) => write_mounted(text, mounted)?,
+    write_work(text, &info.work)?;
+    if let Some(rehearsed) = rehearsed {
+        write_counts(text, &rehearsed.counts)?;
+        write_mounted(text, &rehearsed.mounted)?;
+    }
+    let bytes = memory(alloc, &drive.geometry, info.holdings.size)?;
+    write_number(text, "memory", bytes)?;
+    write_bars(text, &drive.geometry, &info.holdings)
+}
+
+/// The lines of a drive, with those of its mount if that was rehearsed.
+fn drive_text(
+    alloc: Global,
+    drive: &DriveInfo,
+    rehearsed: Option<&InspectedDrive>,
+) -> Result<String, AllocError> {
+    let geometry = &drive.geometry;
+    let mut text = String::new(alloc);
+    writeln!(text, "block {}", geometry.block)?;
+    writeln!(text, "zones {}", geometry.zones)?;
+    writeln!(text, "capacity {}", geometry.capacity)?;
+    write_states(&mut text, drive)?;
+    match &drive.found {
+        Ok(info) => write_info(alloc, &mut text, drive, info, rehearsed)?,
         Err(fault) => writeln!(text, "refused: {fault}")?,
     }
-    let bytes = memory(alloc, &found.info.geometry, info.holdings.size)?;
-    write_number(text, "memory", bytes)?;
-    write_bars(text, &found.info.geometry, &info.holdings)
+    Ok(text)
 }
 
 /// What is found of a drive, as lines: the shape of the drive, its zones by state, and then what it holds and what a
 /// mount does. Of a drive that cannot be mounted the last line says why.
 pub fn info_text(alloc: Global, found: &InspectedDrive) -> Result<String, AllocError> {
-    let geometry = &found.info.geometry;
-    let mut text = String::new(alloc);
-    writeln!(text, "block {}", geometry.block)?;
-    writeln!(text, "zones {}", geometry.zones)?;
-    writeln!(text, "capacity {}", geometry.capacity)?;
-    write_states(&mut text, &found.info)?;
-    match &found.info.found {
-        Ok(info) => write_info(alloc, &mut text, found, info)?,
-        Err(fault) => writeln!(text, "refused: {fault}")?,
-    }
-    Ok(text)
+    drive_text(alloc, &found.info, Some(found))
+}
+
+/// The same of a drive whose mount was not rehearsed.
+pub fn unmounted_text(alloc: Global, found: &DriveInfo) -> Result<String, AllocError> {
+    drive_text(alloc, found, None)
 }

@@ -17,7 +17,7 @@ use std::io::{BufReader, BufWriter, ErrorKind, Read, Write};
 use std::rt::Files;
 
 /// What is read and written at a time. A request or a reply that is longer is not copied.
-const BUFFER: usize = 65_536;
+pub const BUFFER: usize = 65_536;
 
 /// What makes the changes of a drive durable: its file.
 #[derive(Drop)]
@@ -45,7 +45,7 @@ fn told(fault: FileFault) -> NbdFault {
 }
 
 /// Whether the last replies were sent, as far as somebody waits for them: a client may end its session and go at once.
-fn are_sent(flushed: io::Result<()>) -> bool {
+pub fn are_sent(flushed: io::Result<()>) -> bool {
     match flushed {
         Ok(()) => true,
         Err(error) => matches!(

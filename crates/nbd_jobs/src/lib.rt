@@ -45,8 +45,11 @@ mod serving;
 pub use done::Done;
 pub use explanation::explain;
 pub use fault::NbdFault;
-pub use file::do_nbd_job;
+pub use file::{BUFFER, are_sent, do_nbd_job};
 pub use job::NbdJob;
 pub use left::Left;
 pub use mounted::mount_served;
-pub use serving::{AfterSession, ServedFile, serve_drive, serve_read_only};
+pub use saving::sent_end;
+pub use serving::{
+    AfterSession, Ended, Kept, ServedFile, serve_drive, serve_read_only, serve_stopping,
+};

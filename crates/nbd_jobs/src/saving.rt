@@ -21,7 +21,7 @@ pub(crate) fn served_drive_to_save(end: FileEnd, left: Option<Left>) -> Option<D
 }
 
 /// How a session ended, once what was written for the client was sent, if it could be.
-pub(crate) fn sent_end(ended: Result<(), NbdFault>, sent: bool) -> Result<(), NbdFault>
+pub fn sent_end(ended: Result<(), NbdFault>, sent: bool) -> Result<(), NbdFault>
     ensures { result ≡ sent_end ended sent }
 {
     match ended {

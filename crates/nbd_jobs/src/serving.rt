@@ -34,12 +34,12 @@ pub struct ServedFile<I: Read + Drop, S: Store<Drive> + Drop, M: Medium + Drop> 
 
 /// What is left of a device and its medium once its session has ended, what was counted, and what was mounted.
 #[derive(Drop)]
-struct Ended<D: Device + Drop, M: Medium + Drop> {
-    device: D,
-    medium: M,
-    statistics: Option<String>,
-    disk: Option<DiskSize>,
-    result: Result<(), NbdFault>,
+pub struct Ended<D: Device + Drop, M: Medium + Drop> {
+    pub device: D,
+    pub medium: M,
+    pub statistics: Option<String>,
+    pub disk: Option<DiskSize>,
+    pub result: Result<(), NbdFault>,
 }
 
 /// What is left of the file of a served drive, once its session has ended.
@@ -100,10 +100,10 @@ fn session_end(ended: Result<(), SessionFault>) -> Result<(), NbdFault>
 
 /// A device, what keeps its drive, and whether the drive is only read.
 #[derive(Drop)]
-struct Kept<D: Device + Drop, M: Medium + Drop> {
-    device: D,
-    medium: M,
-    read_only: bool,
+pub struct Kept<D: Device + Drop, M: Medium + Drop> {
+    pub device: D,
+    pub medium: M,
+    pub read_only: bool,
 }
 
 /// Mounts a drive, and serves it to a client. Its commands are counted.
@@ -147,8 +147,8 @@ fn serve_counted<D: Device + Drop, M: Medium + Drop, R: Client, W: Write>(
     }
 }
 
-/// The same over a drive that stops when the job says so.
-fn serve_stopping<D: Device + Drop, M: Medium + Drop, R: Client, W: Write>(
+/// Mounts a drive, and serves it to a client. The drive stops when the job says so. Its commands are counted.
+pub fn serve_stopping<D: Device + Drop, M: Medium + Drop, R: Client, W: Write>(
     alloc: Global,
     job: &NbdJob,
     kept: Kept<D, M>,

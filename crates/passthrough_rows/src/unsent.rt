@@ -1,8 +1,8 @@
-// Commands that are not sent, and Reads of what is not written.
+// Commands that are not sent, Reads of what is not written, and what follows a Finish and a Reset.
 
 ghost use Rattle.nvme_wire.specs.Entry.{IsAdmitted};
 
-use crate::small::{COMMANDS, FINISH, does, drive, reads};
+use crate::small::{APPEND, COMMANDS, FINISH, RESET, does, drive, reads};
 use crate::start::first_seen;
 use crate::watch::Watch;
 use drive_port::{Device, Halt};
@@ -182,4 +182,16 @@ fn no_read_goes_past_what_is_written(rt: HostRuntime) {
     }
     assert_eq!(rt; device.way().way().past(), 0);
     assert!(rt; device.way().way().sent() <= 3);
+}
+
+// After a Finish and a Reset the zone is looked at by a report, so that one which was not done is found.
+#[test]
+fn a_finish_and_a_reset_are_looked_at(rt: HostRuntime) {
+    let alloc = rt.alloc();
+    for (number, reports) in [(APPEND, 0), (FINISH, 1), (RESET, 1)] {
+        let mut device = watched(alloc).expect(&rt, "a device");
+        assert!(rt; does(alloc, &mut device, number));
+        assert_eq!(rt; device.way().way().reports(), reports);
+        assert_eq!(rt; device.way().way().sent(), 1 + reports);
+    }
 }

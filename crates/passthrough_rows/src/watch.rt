@@ -14,6 +14,8 @@ pub struct Watch {
     way: Through<Drive>,
     /// How many commands were sent.
     sent: u32,
+    /// How many of them ask for a report.
+    reports: u32,
     /// How many Reads could go on past what is written.
     past: u32,
 }
@@ -25,6 +27,7 @@ impl Watch {
         Watch {
             way,
             sent: 0,
+            reports: 0,
             past: 0,
         }
     }
@@ -32,6 +35,11 @@ impl Watch {
     /// How many commands were sent.
     pub fn sent(&self) -> u32 {
         self.sent
+    }
+
+    /// How many of them ask for a report.
+    pub fn reports(&self) -> u32 {
+        self.reports
     }
 
     /// How many Reads could go on past what is written.
@@ -63,6 +71,9 @@ impl Watch {
         ensures { self.new.way ≡ self.old.way }
     {
         self.sent = self.sent.saturating_add(1);
+        if let Command::Receive { .. } = *command {
+            self.reports = self.reports.saturating_add(1);
+        }
         if let Command::Read { slba, blocks } = *command {
             let written = self.written_to(slba);
             if end > written || slba.saturating_add(u64::from(blocks)) > end {

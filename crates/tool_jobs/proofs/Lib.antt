@@ -1,4 +1,4 @@
-mod TellingLaws
-mod CheckLaws
+pub mod TellingLaws
+pub mod CheckLaws
 mod InfoLaws
 mod PictureLaws

@@ -39,7 +39,7 @@ impl Form<Findings> for CheckForm {
 }
 
 /// What an interruption of a check is to a tool.
-pub(crate) fn interrupted(fault: MountFault) -> ToolFault
+pub fn interrupted(fault: MountFault) -> ToolFault
     ensures { IsInterrupted fault result }
 {
     match fault {

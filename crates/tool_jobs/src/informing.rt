@@ -12,10 +12,10 @@ use crate::fault::ToolFault;
 use crate::form::{Form, as_line};
 use crate::telling::tell;
 use drive_array::most_blocks;
-use drive_info::{InspectedDrive, inspect_and_rehearse};
+use drive_info::{DriveInfo, InspectedDrive, inspect_and_rehearse};
 use drive_port::Device;
 use drive_store::restarted_drive;
-use info_forms::{info_json, info_text};
+use info_forms::{info_json, info_text, unmounted_json, unmounted_text};
 use std::alloc::{AllocError, Global};
 use std::io::{Read, Write};
 use zone_drive::Habit;
@@ -43,8 +43,21 @@ impl Form<InspectedDrive> for InfoForm {
     }
 }
 
+impl Form<DriveInfo> for InfoForm {
+    ghost use Rattle.std.specs.Prelude.{⊤};
+
+    ghost shows = { λ _ _ _. ⊤ };
+
+    fn text(&self, alloc: Global, found: &DriveInfo) -> Result<String, AllocError> {
+        match self {
+            InfoForm::Lines => unmounted_text(alloc, found),
+            InfoForm::Json => as_line(unmounted_json(alloc, found)?),
+        }
+    }
+}
+
 /// How many logical blocks a drive is taken to have that does not say it: as many as it can serve.
-pub(crate) fn blocks_taken(geometry: &Geometry) -> u64
+pub fn blocks_taken(geometry: &Geometry) -> u64
     ensures { IsInRange geometry.now → result ≡ most_size geometry.now }
 {
     if geometry.check().is_err() {

@@ -49,15 +49,16 @@ mod showing;
 mod telling;
 
 pub use answering::answer_tool;
-pub use checking::{CheckForm, answer_check};
+pub use checking::{CheckForm, answer_check, interrupted};
 pub use entries::answer_entry;
 pub use explanation::explain;
 pub use fault::ToolFault;
 pub use file::do_tool_job;
 pub use form::Form;
-pub use informing::{InfoForm, answer_info};
+pub use informing::{InfoForm, answer_info, blocks_taken};
 pub use job::{CheckJob, InfoJob, PlanJob, PlannedDrive, ToolJob, ZonesJob};
 pub use notes::tool_note;
 pub use picturing::{Picture, PicturedDrive, answer_picture};
 pub use planning::{FormatLine, PlanForm, PlanRows, answer_format, answer_plan};
 pub use showing::{ZonesForm, answer_zones};
+pub use telling::tell;

@@ -8,7 +8,7 @@ use std::alloc::Global;
 use std::io::Write;
 
 /// Writes the text that a form gives of a value.
-pub(crate) fn tell<T, F: Form<T>, W: Write>(
+pub fn tell<T, F: Form<T>, W: Write>(
     alloc: Global,
     form: &F,
     shown: &T,

@@ -1,7 +1,7 @@
 use Rattle.std.proofs.Common.{codes}
 use Rattle.clap.specs.Words.{found_of, rows_of}
 use Rattle.command_line.specs.ToolWords.{HasZonesForm}
-use Rattle.command_line.specs.Words.{AsksFor}
+use Rattle.command_line.specs.Words.{AsksForFile}
 use Rattle.command_line.proofs.WordLaws.{exits}
 use Rattle.command_line.proofs.ToolLaws.{report-form}
 use Rattle.command_line.proofs.words.report_task.Goals as goal
@@ -9,4 +9,4 @@ use Rattle.command_line.proofs.words.report_task.Goals as goal
 pub returns-in_err-form : goal.returns-in_err-form
 returns-in_err-form c =
     let rows = rows_of (found_of c.args.matches.now) in
-    exits (HasZonesForm rows) (AsksFor (codes "report") rows) c.from_residual.result c.in_err-form.field-0.0 c.from_residual.ensures.1 (report-form rows) c.in_err-form.ensures.fault
+    exits (HasZonesForm rows) (AsksForFile (codes "report") rows) c.from_residual.result c.in_err-form.field-0.0 c.from_residual.ensures.1 (report-form rows) c.in_err-form.ensures.fault

@@ -1,0 +1,26 @@
+-- The jobs whose drive is in a file, or behind a device.
+use Rattle.std.specs.Prelude.{◌≡◌, List, codes, string_bytes}
+use Rattle.clap.specs.Words.{Row, Text}
+use Rattle.copy_jobs.specs.declared.job.CopyJob.{CopyJob}
+use Rattle.copy_jobs.specs.declared.job.CopyJob.TheVariants as copies
+use Rattle.nbd_jobs.specs.declared.job.NbdJob.{NbdJob}
+use Rattle.command_line.specs.declared.place.Place.{Place}
+use Rattle.command_line.specs.Values.{HasDrive, HasFlag, HasHabit, HasNumberIf, HasNumberOr, HasStop}
+
+pub record AsksForNbd (place : Place) (rows : List Row) (job : NbdJob) : Type 0 where
+  pub path : HasDrive place rows (string_bytes job.image)
+  pub blocks : HasNumberIf rows (codes "blocks") job.blocks
+  pub stop : HasStop rows job.stop
+  pub habit : HasHabit rows job.habit
+  pub statistics : HasFlag rows (codes "statistics") job.statistics
+  pub idle : HasFlag rows (codes "idle") job.idle
+  pub read_only : HasFlag rows (codes "read-only") job.read_only
+
+-- what a copy of blocks holds is what its options were given
+abbrev pub AsksForCopy : Place → Text → List Row → CopyJob → Type 0
+AsksForCopy place name rows (copies.Export job) =
+    (name ≡ codes "export") × HasDrive place rows (string_bytes job.image) × HasNumberOr 0 rows (codes "first") job.first
+    × HasNumberIf rows (codes "count") job.count × HasFlag rows (codes "progress") job.progress
+AsksForCopy place name rows (copies.Import job) =
+    (name ≡ codes "import") × HasDrive place rows (string_bytes job.image) × HasNumberIf rows (codes "blocks") job.blocks
+    × HasNumberOr 0 rows (codes "first") job.first × HasFlag rows (codes "sparse") job.sparse × HasFlag rows (codes "progress") job.progress

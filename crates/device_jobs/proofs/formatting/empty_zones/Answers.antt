@@ -1,0 +1,41 @@
+use Rattle.std.proofs.Common.{◌∙◌, sym}
+use Rattle.drive_survey.proofs.ReadLaws.{keeps-none}
+use Rattle.device_jobs.proofs.FormatLaws.{all-empty, empties-both, empties-kept, empties-none, usages-kept}
+use Rattle.device_jobs.proofs.formatting.empty_zones.Goals as goal
+
+pub returns-then-count-eq0-clause-kept : goal.returns-then-count-eq0-clause-kept
+returns-then-count-eq0-clause-kept g c = λ unforced. keeps-none (g.D.Device.drive c.args.device.now) c.requires.reported.lawful
+
+pub returns-then-count-eq0-clause-empties : goal.returns-then-count-eq0-clause-empties
+returns-then-count-eq0-clause-empties g c = empties-none (g.D.Device.drive c.args.device.now)
+
+pub returns-then-count-eq0-clause-ok : goal.returns-then-count-eq0-clause-ok
+returns-then-count-eq0-clause-ok g c =
+    all-empty (g.D.Device.drive c.args.device.now) c.args.zones.now c.requires.reported (sym c.count_written-count.ensures ∙ c.if-count-eq0.true)
+
+pub reset_zones-requires : goal.reset_zones-requires
+reset_zones-requires g c =
+    record { reported = usages-kept (g.D.Device.drive c.args.device.now) (g.D.Device.drive c.find_holding.new.device) c.args.zones.now c.requires.reported c.find_holding.ensures.kept }
+
+pub returns-in_err-find_holding-clause-empties : goal.returns-in_err-find_holding-clause-empties
+returns-in_err-find_holding-clause-empties g c = empties-kept _ _ c.find_holding.ensures.kept
+
+pub returns-then-not-force-clause-empties : goal.returns-then-not-force-clause-empties
+returns-then-not-force-clause-empties g c = empties-kept _ _ c.find_holding.ensures.kept
+
+pub returns-then-not-force-clause-err : goal.returns-then-not-force-clause-err
+returns-then-not-force-clause-err g c = (
+  c.if-not-force.true,
+  record {
+    count = c.count_written-count.ensures ∙ c.requires.reported.written;
+    seen = g.D.Device.drive c.args.device.now;
+    keeps = keeps-none (g.D.Device.drive c.args.device.now) c.requires.reported.lawful;
+    holding = c.in_ok-find_holding.ensures.ok;
+  },
+)
+
+pub returns-then-is_err-clause-empties : goal.returns-then-is_err-clause-empties
+returns-then-is_err-clause-empties g c = empties-kept _ _ c.find_holding.ensures.kept
+
+pub returns-clause-empties : goal.returns-clause-empties
+returns-clause-empties g c = empties-both _ _ _ (empties-kept _ _ c.find_holding.ensures.kept) c.reset_zones.ensures.empties

@@ -1,0 +1,136 @@
+-- A format of the drive behind a device.
+use Rattle.std.specs.Prelude.{◌≡◌, ◌⊎◌, ℕ, ◌<◌, Bool, true, false, not, List, length, count_by, slice_get, Some, None, Result, Ok, Err, ⊤}
+use Rattle.zone_states.specs.Geometry.{IsInRange}
+use Rattle.drive_port.specs.Contents.{Usage, content_at, contents, empty, emptied, is_usable, unusable, usage_of}
+use Rattle.drive_port.specs.Drive.{DriveState, IsLawful}
+use Rattle.drive_survey.specs.Reported.{KeepsZones}
+use Rattle.drive_survey.specs.declared.fault.MountFault.{MountFault}
+use Rattle.drive_survey.specs.declared.fault.MountFault.TheVariants.{OutOfMemory}
+use Rattle.drive_survey.specs.declared.reported.ReportedZone.{ReportedZone}
+use Rattle.drive_info.specs.declared.info.DriveInfo.{DriveInfo}
+use Rattle.drive_info.specs.declared.info.Info.{Info}
+use Rattle.tool_jobs.specs.declared.fault.ToolFault.{ToolFault}
+use Rattle.tool_jobs.specs.declared.fault.ToolFault.TheVariants as tools
+use Rattle.device_jobs.specs.Looks.{HoldsInfo}
+use Rattle.device_jobs.specs.declared.format_fault.FormatFault.{FormatFault}
+use Rattle.device_jobs.specs.declared.format_fault.FormatFault.TheVariants as faults
+use Rattle.device_jobs.specs.declared.format_fault.Holding.{Holding}
+use Rattle.device_jobs.specs.declared.format_fault.Holding.TheVariants as holdings
+use Rattle.device_jobs.specs.declared.format_fault.Written.{Written}
+
+-- ---- zones
+
+-- whether a zone that is used so is other than Empty
+abbrev pub is_used : Usage → Bool
+is_used empty = false
+is_used usage = true
+
+abbrev pub is_written : ReportedZone → Bool
+is_written one = is_used (usage_of one.state)
+
+-- whether a zone was reported Read Only or Offline
+abbrev pub is_unusable : ReportedZone → Bool
+is_unusable one = not (is_usable (usage_of one.state))
+
+-- the zone of this number was
+abbrev pub IsUnusable : List ReportedZone → ℕ → Type 0
+IsUnusable reported zone = (one : ReportedZone) × (slice_get reported zone ≡ Some one) × (is_unusable one ≡ true)
+
+abbrev pub NoneIsUnusable : List ReportedZone → Type 0
+NoneIsUnusable reported = (zone : ℕ) (one : ReportedZone) → slice_get reported zone ≡ Some one → is_unusable one ≡ false
+
+-- how many zones are not Empty
+abbrev pub written_count : DriveState → ℕ
+written_count drive = count_by (λ content. is_used content.usage) (contents drive.zones)
+
+-- each zone below this number is Empty
+abbrev pub AreEmptyBelow : ℕ → DriveState → Type 0
+AreEmptyBelow end drive = (zone : ℕ) → zone < end → (content_at (contents drive.zones) zone).usage ≡ empty
+
+abbrev pub AreAllEmpty : DriveState → Type 0
+AreAllEmpty drive = AreEmptyBelow (length drive.zones) drive
+
+-- this zone is Read Only or Offline
+abbrev pub IsUnusableAt : DriveState → ℕ → Type 0
+IsUnusableAt drive zone = (zone < length drive.zones) × ((content_at (contents drive.zones) zone).usage ≡ unusable)
+
+-- Each zone holds what it held, or is Empty.
+pub record OnlyEmpties (old new : DriveState) : Type 0 where
+  pub geometry : new.geometry ≡ old.geometry
+  pub zones : (zone : ℕ) → (content_at (contents new.zones) zone ≡ content_at (contents old.zones) zone) ⊎ (content_at (contents new.zones) zone ≡ emptied)
+
+-- a drive with a geometry in range has these zones, each used as it was reported
+pub record AreUsages (drive : DriveState) (reported : List ReportedZone) : Type 0 where
+  pub range : IsInRange drive.geometry
+  pub lawful : IsLawful drive
+  pub count : length reported ≡ drive.geometry.zones
+  pub written : count_by is_written reported ≡ written_count drive
+  pub used : (zone : ℕ) (one : ReportedZone) → slice_get reported zone ≡ Some one → (content_at (contents drive.zones) zone).usage ≡ usage_of one.state
+
+-- ---- what a drive holds
+
+-- what is told of a drive: the size that its headers say, or that none says one; or why it is not mounted
+abbrev pub ShowsHolding : Result Info MountFault → Holding → Type 0
+ShowsHolding (Ok info) (holdings.Disk blocks) = info.holdings.said ≡ Some blocks
+ShowsHolding (Ok info) holdings.Unsized = info.holdings.said ≡ None
+ShowsHolding (Err fault) (holdings.Unmounted cause) = cause ≡ fault
+ShowsHolding found holding = ⊥
+
+pub record IsHolding (drive : DriveState) (holding : Holding) : Type 0 where
+  pub info : DriveInfo
+  pub holds : HoldsInfo drive info
+  pub shows : ShowsHolding info.found holding
+
+-- How many zones are not Empty, and what they hold. The drive was looked at, which keeps its zones.
+pub record IsWritten (drive : DriveState) (written : Written) : Type 0 where
+  pub count : written.zones ≡ written_count drive
+  pub seen : DriveState
+  pub keeps : KeepsZones drive seen
+  pub holding : IsHolding seen written.holding
+
+-- ---- why a drive is not formatted
+
+-- what the fault of a look is to a format, and that of a report
+abbrev pub unlooked : ToolFault → FormatFault
+unlooked tools.Memory = faults.Memory
+unlooked fault = faults.Stopped
+
+abbrev pub unreported : MountFault → FormatFault
+unreported OutOfMemory = faults.Memory
+unreported fault = faults.Stopped
+
+-- it was not looked at to its end: memory ran out, or the drive has stopped
+abbrev pub IsUnlooked : DriveState → FormatFault → Type 0
+IsUnlooked last faults.Memory = ⊤
+IsUnlooked last faults.Stopped = last.stopped ≡ true
+IsUnlooked last fault = ⊥
+
+-- its zones are not known
+abbrev pub IsUnlisted : DriveState → DriveState → FormatFault → Type 0
+IsUnlisted old new faults.Limits = IsInRange old.geometry → ⊥
+IsUnlisted old new fault = IsUnlooked new fault
+
+-- it is this zone that was not reset
+abbrev pub IsResetOf : ℕ → FormatFault → Type 0
+IsResetOf number (faults.Reset zone cause) = zone ≡ number
+IsResetOf number fault = ⊥
+
+-- this zone was not reset, and those before it are Empty
+abbrev pub IsUnreset : DriveState → FormatFault → Type 0
+IsUnreset new (faults.Reset zone cause) = AreEmptyBelow zone new
+IsUnreset new fault = ⊥
+
+-- it was not told that all is done
+abbrev pub IsUnsaid : FormatFault → Type 0
+IsUnsaid faults.Memory = ⊤
+IsUnsaid faults.Output = ⊤
+IsUnsaid fault = ⊥
+
+-- Without force it holds something. A zone is reset with force alone, and only after it was told what is lost.
+abbrev pub IsUnformatted : Bool → DriveState → DriveState → FormatFault → Type 0
+IsUnformatted force old new (faults.Written written) = (force ≡ false) × IsWritten old written
+IsUnformatted force old new (faults.Unusable zone) = IsUnusableAt old zone × KeepsZones old new
+IsUnformatted force old new faults.Untold = (force ≡ true) × KeepsZones old new
+IsUnformatted force old new (faults.Reset zone cause) = (force ≡ true) × AreEmptyBelow zone new
+IsUnformatted force old new faults.Output = AreAllEmpty new
+IsUnformatted force old new fault = IsUnlisted old new fault

@@ -1,0 +1,48 @@
+-- A trace over the drive behind a device.
+use Rattle.std.specs.Prelude.{◌≡◌, ℕ, Bool, true, false, Result, Ok, Err}
+use Rattle.nvme_wire.specs.declared.command.ReportingOptions.TheVariants.{AnyState}
+use Rattle.drive_port.specs.Calls.{OnlyCloses}
+use Rattle.drive_port.specs.Drive.{DriveState}
+use Rattle.drive_port.specs.Stop.{Stopping}
+use Rattle.disk_runs.specs.Run.{Exchange, Known}
+use Rattle.disk_runs.specs.declared.fault.RunFault.{RunFault}
+use Rattle.disk_runs.specs.declared.fault.RunFault.TheVariants as runs
+use Rattle.zone_translator.specs.declared.fault.DiskFault.TheVariants.{Stopped}
+use Rattle.disk_jobs.specs.Mounted.{TellsMount}
+use Rattle.disk_jobs.specs.Saved.{RunsCounted, RunsTrace, stopping}
+use Rattle.disk_jobs.specs.declared.mounting.Mounting.{Mounting}
+use Rattle.tool_jobs.specs.declared.fault.ToolFault.{ToolFault}
+use Rattle.tool_jobs.specs.declared.fault.ToolFault.TheVariants as tools
+use Rattle.device_jobs.specs.declared.job.DeviceRun.{DeviceRun}
+use Rattle.device_jobs.specs.Reports.{IsUnreported, TellsReport}
+
+-- all lines of a trace are taken, and then it is told what was counted if that is asked for
+abbrev pub RunsAsked : Bool → ℕ → Stopping → Exchange → Result (Unit {0}) RunFault → DriveState → Type 0
+RunsAsked true blocks device bytes ended new = RunsCounted false blocks device bytes ended new
+RunsAsked false blocks device bytes ended new = RunsTrace false blocks device bytes ended new
+
+-- what a fault of a report is to a run
+abbrev pub run_fault : ToolFault → RunFault
+run_fault tools.Output = runs.Output
+run_fault tools.Memory = runs.Memory
+run_fault fault = runs.Disk Stopped
+
+-- A report of all zones was asked for. Why it was not shown is told as the fault of a run.
+abbrev pub ShowsAll : DriveState → Known → Result (Unit {0}) RunFault → DriveState → Known → Type 0
+ShowsAll old written (Ok done) new contents = TellsReport old AnyState new written contents
+ShowsAll old written (Err told) new contents = (fault : ToolFault) × (told ≡ run_fault fault) × IsUnreported old AnyState fault new written contents
+
+-- A run that was done is followed by the zones, if they are asked for. No zone is changed by that.
+abbrev pub ThenReports : Bool → DriveState → Result (Unit {0}) RunFault → Known → Result (Unit {0}) RunFault → DriveState → Known → Type 0
+ThenReports true old (Ok done) written ended new contents = OnlyCloses old new × ShowsAll old written ended new contents
+ThenReports zones old ran written ended new contents = (ended ≡ ran) × (new ≡ old) × (contents ≡ written)
+
+-- The lines are answered by the disk of this drive, and the zones of the drive are shown then, if they are asked for. It is told which disk was mounted.
+pub record AnswersTrace (job : DeviceRun) (bytes : Exchange) (old : DriveState) (told : Mounting) (ended : Result (Unit {0}) RunFault)
+    (new : DriveState) : Type 0 where
+  pub ran : Result (Unit {0}) RunFault
+  pub middle : Known
+  pub left : DriveState
+  pub runs : RunsAsked job.statistics job.blocks (stopping job.stop old) (record bytes { contents = middle }) ran left
+  pub tells : TellsMount job.blocks old ran told
+  pub shows : ThenReports job.zones left ran middle ended new bytes.contents

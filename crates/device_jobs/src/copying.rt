@@ -1,0 +1,34 @@
+// Blocks that are copied out of the drive behind a device.
+
+ghost use Rattle.std.specs.Prelude.{◌≡◌};
+ghost use Rattle.device_jobs.specs.Copies.{ExportsDevice};
+
+use block_copies::export_blocks;
+use copy_jobs::{CopyFault, ExportJob, blocks_asked};
+use drive_port::Device;
+use nbd_jobs::mount_served;
+use std::alloc::Global;
+use std::io::Write;
+
+/// Mounts a drive, and writes blocks of it. The mount repairs the drive. It is given back, also after a fault.
+pub fn export_device<D: Device + Drop, W: Write>(
+    alloc: Global,
+    job: &ExportJob,
+    device: D,
+    writer: &mut W,
+) -> (D, Result<(), CopyFault>)
+    ensures { ExportsDevice job.now (D.drive device) (W.contents writer.old) (W.contents writer.new)
+        result.1 (D.drive result.0) }
+{
+    let mut disk = match mount_served(alloc, device, None) {
+        Ok(disk) => disk,
+        Err((fault, device)) => return (device, Err(CopyFault::Mount(fault))),
+    };
+    let blocks = blocks_asked(job.count, job.first, disk.blocks());
+    let exported = export_blocks(alloc, &mut disk, writer, job.first, blocks);
+    let device = disk.into_device();
+    match exported {
+        Ok(()) => (device, Ok(())),
+        Err(fault) => (device, Err(CopyFault::Export(fault))),
+    }
+}

@@ -1,0 +1,84 @@
+// The way of a program to the drives behind devices.
+
+ghost use Rattle.std.specs.Prelude.{◌≡◌, Bool, false};
+ghost use Rattle.device_jobs.specs.Ways.{HasNoWay};
+
+use crate::fault::DeviceFault;
+use drive_port::Device;
+use nbd_session::Medium;
+use std::alloc::Global;
+use thiserror::Error;
+
+/// What a drive says that it is.
+#[derive(Debug, PartialEq, Eq, Drop)]
+pub struct DriveName {
+    /// The model number, without the spaces around it.
+    pub model: String,
+    /// The serial number, without the spaces around it.
+    pub serial: String,
+    /// How many bytes the namespace has, by its addresses.
+    pub bytes: u64,
+}
+
+/// A device that was opened. No other program that asks for it has it.
+#[derive(Drop)]
+pub struct OpenDevice<D: Device + Drop, M: Medium + Drop> {
+    /// Its drive.
+    pub drive: D,
+    /// What makes durable what the drive has completed: a sync sends a Flush.
+    pub medium: M,
+    /// What the drive says that it is.
+    pub name: DriveName,
+}
+
+/// Why an entry that was sent as it is has no completion.
+#[derive(Clone, Copy, Debug, PartialEq, Eq, Error)]
+pub enum RawFault {
+    /// An allocation failed. Nothing was sent.
+    #[error("out of memory")]
+    Memory,
+    /// The drive did not answer the command. What it did of it is not known.
+    #[error("the drive did not answer: what it did of the command is not known")]
+    Unanswered,
+}
+
+/// A drive to which entries are sent as they are. Nothing is promised of what it answers, and nothing is believed of
+/// it.
+pub trait RawDrive {
+    /// Sends one entry of 64 bytes with the data of a command that takes some, and gives its completion of 16 bytes. A
+    /// refusal of the drive is a completion, too. Afterwards `into` holds the data that came back, if any did.
+    fn send(
+        &mut self,
+        entry: &[u8; 64],
+        bytes: &[u8],
+        into: &mut Vec<u8>,
+    ) -> Result<[u8; 16], RawFault>;
+}
+
+/// How a program comes to the drives behind devices. No contract says which drive is opened, nor that one is: a way to
+/// real drives has its premise elsewhere.
+pub trait Devices {
+    /// The drive of an open device.
+    type Drive: Device + Drop;
+
+    /// What makes durable what that drive has completed.
+    type Medium: Medium + Drop;
+
+    /// The drive of a device to which entries are sent as they are.
+    type Raw: RawDrive + Drop;
+
+    /// Whether the program has a way to any device.
+    ghost has_way: { Self → Bool };
+
+    /// Opens the device of this path, and makes its drive ready.
+    fn open(
+        &self,
+        alloc: Global,
+        path: &str,
+    ) -> Result<OpenDevice<Self::Drive, Self::Medium>, DeviceFault>
+        ensures { has_way self.now ≡ false → HasNoWay result };
+
+    /// Opens the device of this path to send entries to it as they are.
+    fn open_raw(&self, alloc: Global, path: &str) -> Result<Self::Raw, DeviceFault>
+        ensures { has_way self.now ≡ false → HasNoWay result };
+}

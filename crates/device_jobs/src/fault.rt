@@ -1,0 +1,84 @@
+ghost use Rattle.std.specs.Prelude.{codes, OnErr, OnOk};
+ghost use Rattle.std.specs.Io.KnownBytes.{Appends};
+ghost use Rattle.disk_files.specs.Output.{AppendsFront};
+
+use disk_files::{WriteFault, write_out};
+use drive_store::SystemError;
+use nvme_identify::IdentifyFault;
+use std::io::Write;
+use thiserror::Error;
+
+/// Why the device of a path is not used. Its text follows the path.
+#[derive(Clone, Copy, Debug, PartialEq, Eq, Error)]
+pub enum DeviceFault {
+    /// This program has no way to a device.
+    #[error("cannot be reached by this program: ports/linux/out/zonedisk can, and ports/linux/build builds it")]
+    NoWay,
+    /// The system does not open it.
+    #[error("cannot be opened: {0}")]
+    Unopened(SystemError),
+    /// Another program has it.
+    #[error("is in use by another program")]
+    Busy,
+    /// The block device of the namespace is mounted, or the system uses it in another way.
+    #[error("is in use: its block device is mounted, or the system has it")]
+    Mounted,
+    /// It is no character device of a namespace.
+    #[error("is not the character device of an NVMe namespace: take /dev/ngXnY")]
+    NoNamespace,
+    /// A disk does not work on the namespace, by what the drive says of itself.
+    #[error("is refused: {0}")]
+    Unfit(IdentifyFault),
+    /// The first report does not show the zone with this number.
+    #[error("is refused: its report does not show zone {0}")]
+    Unshown(u32),
+    /// The system takes no command with two blocks of data.
+    #[error("is refused: the system takes no transfer of two blocks")]
+    Untransferred,
+    /// The volatile write cache of the drive stays on.
+    #[error("is refused: the volatile write cache of the drive stays on")]
+    CacheOn,
+    /// The drive did not do a command of the start.
+    #[error("is refused: the drive did not do {0}")]
+    NotDone(StartCommand),
+    /// An allocation failed.
+    #[error("is not used: out of memory")]
+    Memory,
+}
+
+/// A command by which a drive is made ready.
+#[derive(Clone, Copy, Debug, PartialEq, Eq, Error)]
+pub enum StartCommand {
+    /// What the controller is.
+    #[error("Identify Controller")]
+    IdentifyController,
+    /// What the namespace is.
+    #[error("Identify Namespace")]
+    IdentifyNamespace,
+    /// What the namespace is in the Zoned Namespace Command Set.
+    #[error("Identify Namespace of the Zoned Namespace Command Set")]
+    IdentifyZonedNamespace,
+    /// What the controller is in the Zoned Namespace Command Set.
+    #[error("Identify Controller of the Zoned Namespace Command Set")]
+    IdentifyZonedController,
+    /// That the volatile write cache is switched off.
+    #[error("Set Features of the volatile write cache")]
+    SetWriteCache,
+    /// Whether the volatile write cache is off.
+    #[error("Get Features of the volatile write cache")]
+    GetWriteCache,
+    /// Which zones there are.
+    #[error("Zone Management Receive")]
+    Report,
+    /// That all zones are closed.
+    #[error("Zone Management Send that closes all zones")]
+    CloseAll,
+}
+
+/// Writes the line that the program shows where a device is not used. After a fault a beginning of it is written.
+pub fn write_device_fault<W: Write>(output: &mut W) -> Result<(), WriteFault>
+    ensures ok { OnOk result (Appends (W.contents output.old) (W.contents output.new) (codes "fault device\n")) }
+    ensures err { OnErr result (AppendsFront (W.contents output.old) (W.contents output.new) (codes "fault device\n")) }
+{
+    write_out(output, b"fault device\n")
+}

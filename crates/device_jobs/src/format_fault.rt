@@ -1,0 +1,104 @@
+use crate::devices::DriveName;
+use drive_port::PortFault;
+use std::fmt;
+use thiserror::Error;
+use zone_translator::MountFault;
+
+/// The drive behind a device, as people are told of it.
+#[derive(Clone, Copy, Debug)]
+pub struct NamedDrive<'n> {
+    /// The path of the device.
+    pub path: &'n str,
+    /// What the drive says that it is.
+    pub name: &'n DriveName,
+}
+
+impl fmt::Display for NamedDrive<'_> {
+    fn fmt<W: fmt::Write>(&self, f: &mut fmt::Formatter<W>) -> fmt::Result {
+        let DriveName {
+            model,
+            serial,
+            bytes,
+        } = self.name;
+        let path = self.path;
+        write!(
+            f,
+            "{path}: {model}, serial number {serial}, of {bytes} bytes"
+        )
+    }
+}
+
+/// What is in the zones of a drive that are not Empty.
+#[derive(Clone, Copy, Debug, PartialEq, Eq)]
+pub enum Holding {
+    /// A disk of that many logical blocks, which can be mounted.
+    Disk(u32),
+    /// What can be mounted. No header says a size.
+    Unsized,
+    /// What is not mounted as a disk, for this reason. It may be a disk that is damaged.
+    Unmounted(MountFault),
+}
+
+impl fmt::Display for Holding {
+    fn fmt<W: fmt::Write>(&self, f: &mut fmt::Formatter<W>) -> fmt::Result {
+        match self {
+            Holding::Disk(blocks) => write!(
+                f,
+                "a disk of {blocks} logical blocks, which can be mounted"
+            ),
+            Holding::Unsized => write!(
+                f,
+                "what can be mounted as a disk, in which no size is written"
+            ),
+            Holding::Unmounted(fault) => write!(
+                f,
+                "what cannot be mounted as a disk ({fault}; zonedisk check shows all faults)"
+            ),
+        }
+    }
+}
+
+/// What a format of a drive destroys.
+#[derive(Clone, Copy, Debug, PartialEq, Eq)]
+pub struct Written {
+    /// How many zones are not Empty.
+    pub zones: usize,
+    /// What they hold.
+    pub holding: Holding,
+}
+
+impl fmt::Display for Written {
+    fn fmt<W: fmt::Write>(&self, f: &mut fmt::Formatter<W>) -> fmt::Result {
+        let Written { zones, holding } = self;
+        write!(f, "it holds {holding}; zones that are not Empty: {zones}")
+    }
+}
+
+/// Why a drive is not formatted.
+#[derive(Clone, Copy, Debug, PartialEq, Eq, Error)]
+pub enum FormatFault {
+    /// It holds something, and may not be changed.
+    #[error("{0}. format --force destroys that")]
+    Written(Written),
+    /// The zone of this number is Read Only or Offline. No zone was reset.
+    #[error("zone {0} is Read Only or Offline: no disk can use the drive, and nothing was reset")]
+    Unusable(u32),
+    /// People cannot be told what would be lost. No zone was reset.
+    #[error("standard error failed: what would be destroyed cannot be told, and nothing was reset")]
+    Untold,
+    /// Its geometry is out of range.
+    #[error("the geometry of the drive is out of range")]
+    Limits,
+    /// It completes no more commands.
+    #[error("the drive has stopped")]
+    Stopped,
+    /// A Reset of the zone of this number was not answered by success. The zones before it are Empty.
+    #[error("the reset of zone {0} failed: {1}. The zones before it are Empty: repeat format --force")]
+    Reset(u32, PortFault),
+    /// What was done cannot be told.
+    #[error("all zones are Empty, but standard output failed")]
+    Output,
+    /// An allocation failed.
+    #[error("out of memory")]
+    Memory,
+}

@@ -1,0 +1,70 @@
+use copy_jobs::CopyJob;
+use disk_jobs::Stop;
+use nbd_jobs::NbdJob;
+use nvme_wire::ZoneState;
+use tool_jobs::{CheckJob, InfoJob};
+
+/// A trace that is answered over the drive behind a device. `device` is the path of the device, here and below.
+#[derive(Debug, PartialEq, Eq, Drop)]
+pub struct DeviceRun {
+    pub device: String,
+    /// How many logical blocks the disk has if its drive does not say how many.
+    pub blocks: u64,
+    /// Whether the zones of the drive are shown after the replies.
+    pub zones: bool,
+    /// Whether it is shown after the replies what was written and moved.
+    pub statistics: bool,
+    /// When no more commands are sent to the drive.
+    pub stop: Stop,
+    /// Whether people are told how many lines were read.
+    pub progress: bool,
+}
+
+/// What is asked of the drive behind a device. A job that is also one of a file has the path of the device as its
+/// `image`.
+#[derive(Debug, PartialEq, Eq, Drop)]
+pub enum DeviceJob {
+    /// Makes a drive in which nothing is written. Only with `force` what the drive holds is destroyed.
+    Format {
+        device: String,
+        force: bool,
+    },
+    /// Mounts the drive, and answers the lines of a trace.
+    Run(DeviceRun),
+    /// Shows the zones of the drive: all, or those in a state.
+    Report {
+        device: String,
+        state: Option<ZoneState>,
+    },
+    /// Sends the entry of each raw line to the drive as it is. With `explain` people are told the status of each
+    /// completion.
+    Nvme {
+        device: String,
+        explain: bool,
+    },
+    /// Serves the drive by the Network Block Device protocol. `habit` is always `Lazy`, and `read_only` false: neither
+    /// can be chosen for a device.
+    Nbd(NbdJob),
+    /// Shows all faults of the drive.
+    Check(CheckJob),
+    /// Shows what the drive holds.
+    Info(InfoJob),
+    /// Copies blocks out of the drive, or into it.
+    Copy(CopyJob),
+}
+
+impl DeviceJob {
+    /// The path of the device.
+    pub fn path(&self) -> &str {
+        match self {
+            DeviceJob::Format { device, .. }
+            | DeviceJob::Report { device, .. }
+            | DeviceJob::Nvme { device, .. } => device.as_str(),
+            DeviceJob::Run(job) => job.device.as_str(),
+            DeviceJob::Nbd(job) => job.image.as_str(),
+            DeviceJob::Check(job) => job.image.as_str(),
+            DeviceJob::Info(job) => job.image.as_str(),
+            DeviceJob::Copy(job) => job.image(),
+        }
+    }
+}

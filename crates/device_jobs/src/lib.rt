@@ -1,0 +1,64 @@
+//! Jobs on the drive behind a device, in the place of one in a file.
+//!
+//! ```text
+//! let open = devices.open(alloc, path)?;
+//! let mut drive = open.drive;
+//! let well = check_device(alloc, job.blocks, &mut drive, &job.form, &mut output)?;
+//! ```
+//!
+//! A [`DeviceJob`] is what the words of the command line ask for (`command_line` reads them). [`Devices`] is the way to
+//! the drives; a program that has none has [`NoDevices`]. What is done with an open drive is generic: each job works
+//! over every `Device` of `drive_port`, and so over a drive in memory.
+//!
+//! No drive is restarted before a job, and none is saved after it: the drive itself keeps what is done.
+//!
+//! # What is promised
+//!
+//! Over every device, medium, reader and writer:
+//!
+//! * [`run_device`] mounts the drive, and answers the lines of a trace as `disk_runs` promises (`specs/Runs.antt`).
+//!   Then the zones of the drive are shown by a report of it, if they are asked for.
+//! * [`serve_device`] serves the drive as `nbd_session` promises. Each sync of the session is one of the medium.
+//! * [`export_device`] exports the blocks of the disk (`specs/Copies.antt`). The array stays. `import_mounted` of
+//!   `copy_jobs` imports them.
+//! * [`check_device`] finds all faults of the drive, and [`inform_device`] what it holds (`specs/Looks.antt`).
+//!   [`answer_report`] shows its zones (`specs/Reports.antt`). No zone is changed, but that a controller may close
+//!   some.
+//! * [`format_device`] leaves a drive whose zones are all Empty, if it answers `Ok`. Without `force` it changes no
+//!   zone, nor where a zone is Read Only or Offline. Whatever it answers, each zone holds what it held, or is Empty
+//!   (`specs/Formats.antt`). No contract says what it tells on standard error.
+//! * Each device is refused by [`DeviceFault::NoWay`] in a program that has [`NoDevices`].
+//!
+//! Nothing is promised of [`send_lines`], which sends entries as they are and believes no answer, nor of
+//! [`serve_client`], which is [`serve_device`] between buffers.
+//!
+//! Tests: `device_tests`.
+#![tactic(auto)]
+
+mod copying;
+mod devices;
+mod explanation;
+mod fault;
+mod format_fault;
+mod formatting;
+mod job;
+mod looking;
+mod no_devices;
+mod raw;
+mod reporting;
+mod running;
+mod serving;
+
+pub use copying::export_device;
+pub use devices::{Devices, DriveName, OpenDevice, RawDrive, RawFault};
+pub use explanation::{explain_run, explain_sent};
+pub use fault::{DeviceFault, StartCommand, write_device_fault};
+pub use format_fault::{FormatFault, Holding, NamedDrive, Written};
+pub use formatting::format_device;
+pub use job::{DeviceJob, DeviceRun};
+pub use looking::{check_device, inform_device};
+pub use no_devices::{NoDevices, NoRawDrive};
+pub use raw::{SendFault, send_lines};
+pub use reporting::answer_report;
+pub use running::{run_device, run_fault};
+pub use serving::{Served, serve_client, serve_device};

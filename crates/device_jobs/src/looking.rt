@@ -1,0 +1,79 @@
+// What the drive behind a device holds. No zone is changed, but that the controller may close some.
+
+ghost use Rattle.std.specs.Prelude.{◌≡◌, IfErr, IfOk, OnOk};
+ghost use Rattle.drive_check.specs.Findings.{AreFindings};
+ghost use Rattle.drive_survey.specs.Reported.{KeepsZones};
+ghost use Rattle.tool_jobs.specs.Telling.{TellsFound, TellsNothing};
+ghost use Rattle.device_jobs.specs.Looks.{AreFindingsOf, HoldsInfo, IsUnasked};
+
+use drive_check::{Findings, check_drive};
+use drive_info::{DriveInfo, inspect_drive};
+use drive_port::Device;
+use std::alloc::Global;
+use std::io::Write;
+use tool_jobs::{Form, ToolFault, blocks_taken, interrupted, tell};
+
+/// All faults of a drive.
+fn find_faults<D: Device>(alloc: Global, blocks: u64, device: &mut D) -> Result<Findings, ToolFault>
+    ensures ok { IfOk result (AreFindings (D.drive device.old) blocks) }
+    ensures err { IfErr result (IsUnasked (D.drive device.new)) }
+    ensures kept { KeepsZones (D.drive device.old) (D.drive device.new) }
+{
+    match check_drive(alloc, device, blocks) {
+        Ok(findings) => Ok(findings),
+        Err(fault) => Err(interrupted(fault)),
+    }
+}
+
+/// Tells all faults of a drive, and whether a mount as `blocks` logical blocks would be done. The drive is not
+/// restarted before. No zone is changed, but that the controller may close some.
+pub fn check_device<D: Device, F: Form<Findings>, W: Write>(
+    alloc: Global,
+    blocks: u64,
+    device: &mut D,
+    form: &F,
+    output: &mut W,
+) -> Result<bool, ToolFault>
+    ensures ok { IfOk result (λ mountable. TellsFound (AreFindingsOf (D.drive device.old) blocks mountable)
+        (F.shows form.now) (W.contents output.old) (W.contents output.new)) }
+    ensures err { IfErr result (λ fault. TellsNothing (IsUnasked (D.drive device.new))
+        (AreFindings (D.drive device.old) blocks) (F.shows form.now) fault
+        (W.contents output.old) (W.contents output.new)) }
+    ensures kept { KeepsZones (D.drive device.old) (D.drive device.new) }
+{
+    let findings = find_faults(alloc, blocks, device)?;
+    tell(alloc, form, &findings, output)?;
+    Ok(findings.refusal.is_none())
+}
+
+/// What a drive holds. If it does not say how many logical blocks it has, it is taken to have as many as it can serve.
+pub(crate) fn look<D: Device>(alloc: Global, device: &mut D) -> Result<DriveInfo, ToolFault>
+    ensures ok { IfOk result (HoldsInfo (D.drive device.old)) }
+    ensures err { IfErr result (IsUnasked (D.drive device.new)) }
+    ensures kept { KeepsZones (D.drive device.old) (D.drive device.new) }
+{
+    let given = blocks_taken(&device.geometry());
+    match inspect_drive(alloc, device, given) {
+        Ok(info) => Ok(info),
+        Err(fault) => Err(interrupted(fault)),
+    }
+}
+
+/// Tells what a drive holds, and what a mount would do. The drive is not restarted before, and it is not mounted: no
+/// zone is changed, but that the controller may close some.
+pub fn inform_device<D: Device, F: Form<DriveInfo>, W: Write>(
+    alloc: Global,
+    device: &mut D,
+    form: &F,
+    output: &mut W,
+) -> Result<(), ToolFault>
+    ensures ok { OnOk result (TellsFound (HoldsInfo (D.drive device.old)) (F.shows form.now)
+        (W.contents output.old) (W.contents output.new)) }
+    ensures err { IfErr result (λ fault. TellsNothing (IsUnasked (D.drive device.new))
+        (HoldsInfo (D.drive device.old)) (F.shows form.now) fault
+        (W.contents output.old) (W.contents output.new)) }
+    ensures kept { KeepsZones (D.drive device.old) (D.drive device.new) }
+{
+    let found = look(alloc, device)?;
+    tell(alloc, form, &found, output)
+}

@@ -1,0 +1,51 @@
+// The program without any way to a device.
+
+use crate::devices::{Devices, OpenDevice, RawDrive, RawFault};
+use crate::fault::DeviceFault;
+use nbd_session::WriteThrough;
+use std::alloc::Global;
+use zone_drive::Drive;
+
+/// The devices of a program that has no way to any. Each is refused by [`DeviceFault::NoWay`].
+#[derive(Clone, Copy, Debug)]
+pub struct NoDevices;
+
+/// A drive that answers no entry. None is ever opened.
+#[derive(Drop)]
+pub struct NoRawDrive;
+
+impl RawDrive for NoRawDrive {
+    fn send(
+        &mut self,
+        _entry: &[u8; 64],
+        _bytes: &[u8],
+        _into: &mut Vec<u8>,
+    ) -> Result<[u8; 16], RawFault> {
+        Err(RawFault::Unanswered)
+    }
+}
+
+// Types have to be named. No drive of them is ever opened.
+impl Devices for NoDevices {
+    ghost use Rattle.std.specs.Prelude.{false};
+
+    type Drive = Drive;
+
+    type Medium = WriteThrough;
+
+    type Raw = NoRawDrive;
+
+    ghost has_way = { λ _. false };
+
+    fn open(
+        &self,
+        _alloc: Global,
+        _path: &str,
+    ) -> Result<OpenDevice<Drive, WriteThrough>, DeviceFault> {
+        Err(DeviceFault::NoWay)
+    }
+
+    fn open_raw(&self, _alloc: Global, _path: &str) -> Result<NoRawDrive, DeviceFault> {
+        Err(DeviceFault::NoWay)
+    }
+}

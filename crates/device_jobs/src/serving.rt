@@ -1,0 +1,78 @@
+// The drive behind a device, served to one client.
+
+ghost use Rattle.std.specs.Prelude.{◌≡◌, false, is_some};
+ghost use Rattle.drive_port.specs.Stop.{drive_of};
+ghost use Rattle.nbd_session.specs.Streams.{streams};
+ghost use Rattle.disk_jobs.specs.Saved.{stopping};
+ghost use Rattle.nbd_jobs.specs.Serving.{ServesStopping, TellsSession};
+
+use disk_jobs::DiskSize;
+use drive_port::Device;
+use nbd_jobs::{BUFFER, Ended, Kept, NbdFault, NbdJob, are_sent, sent_end, serve_stopping};
+use nbd_session::{Client, Medium};
+use std::alloc::Global;
+use std::io::{BufReader, BufWriter, Read, Write};
+
+/// How a session over the drive behind a device ended.
+#[derive(Debug, PartialEq, Eq, Drop)]
+pub struct Served {
+    /// The session, with all replies that it sent.
+    pub session: Result<(), NbdFault>,
+    /// What was written and moved, as text, if it was asked for.
+    pub statistics: Option<String>,
+    /// The disk that was served, if it was mounted.
+    pub disk: Option<DiskSize>,
+}
+
+/// Mounts the drive behind a device, and serves it to a client. Each sync is one of the medium. The disk can be
+/// written, whatever `job.read_only` says.
+pub fn serve_device<D: Device + Drop, M: Medium + Drop, R: Client, W: Write>(
+    alloc: Global,
+    job: &NbdJob,
+    device: D,
+    medium: M,
+    reader: &mut R,
+    writer: &mut W,
+) -> Ended<D, M>
+    ensures serves { ServesStopping false job.now
+        (streams (R.remaining reader.old) (R.remaining reader.new) (W.contents writer.old) (W.contents writer.new))
+        (record { before = M.syncs medium; after = M.syncs result.medium })
+        (stopping job.now.stop (D.drive device)) result.result (D.drive result.device) }
+    ensures tells { TellsSession job.now (drive_of (stopping job.now.stop (D.drive device))) result.result
+        (is_some result.statistics) result.disk }
+{
+    let kept = Kept {
+        device,
+        medium,
+        read_only: false,
+    };
+    serve_stopping(alloc, job, kept, reader, writer)
+}
+
+/// The same for a client that sends to `input` and gets what `output` takes, both through buffers.
+pub fn serve_client<D: Device + Drop, M: Medium + Drop, R: Read + Drop, W: Write>(
+    alloc: Global,
+    job: &NbdJob,
+    device: D,
+    medium: M,
+    input: R,
+    output: &mut W,
+) -> Served {
+    let (Ok(mut reader), Ok(mut writer)) = (
+        BufReader::with_capacity(alloc, BUFFER, input),
+        BufWriter::with_capacity(alloc, BUFFER, output),
+    ) else {
+        return Served {
+            session: Err(NbdFault::Memory),
+            statistics: None,
+            disk: None,
+        };
+    };
+    let ended = serve_device(alloc, job, device, medium, &mut reader, &mut writer);
+    let sent = are_sent(writer.flush());
+    Served {
+        session: sent_end(ended.result, sent),
+        statistics: ended.statistics,
+        disk: ended.disk,
+    }
+}

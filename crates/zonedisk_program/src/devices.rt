@@ -1,0 +1,427 @@
+// Jobs on the drive behind a device.
+
+ghost use Rattle.std.specs.Prelude.{◌≡◌, ◌⊎◌, codes, false};
+ghost use Rattle.std.specs.Io.KnownBytes.{Appends};
+ghost use Rattle.std.specs.Process.{exit_status};
+ghost use Rattle.disk_files.specs.Output.{AppendsFront};
+
+use crate::files::{fail, tell_size};
+use block_copies::ExportFault;
+use copy_jobs::{CopyFault, CopyJob, ExportJob, ImportJob, import_mounted};
+use device_jobs::{
+    DeviceFault, DeviceJob, DeviceRun, Devices, FormatFault, NamedDrive, OpenDevice, SendFault,
+    answer_report, check_device, explain_run, explain_sent, export_device, format_device,
+    inform_device, run_device, run_fault, send_lines, serve_client, write_device_fault,
+};
+use disk_jobs::{
+    Counted, Explained, Gate, JobInput, LineCount, ProgramFault, Stop, Watched, run_told,
+};
+use disk_runs::RunFault;
+use drive_port::{Device, Geometry};
+use nbd_jobs::NbdJob;
+use nbd_session::Medium;
+use nvme_wire::ZoneState;
+use std::alloc::Global;
+use std::io;
+use std::io::Write;
+use std::process::ExitCode;
+use tool_jobs::{CheckJob, InfoJob, ToolFault};
+
+/// Says on standard error why a device is not used.
+fn refuse<R: Eprint>(rt: &R, path: &str, fault: DeviceFault) -> ExitCode
+    ensures { exit_status result ≡ 1 }
+{
+    let _ = eprintln!(rt; "zonedisk: {path} {fault}");
+    ExitCode::FAILURE
+}
+
+/// The same for a job that shows its faults by lines.
+fn refuse_lines<R: Eprint, W: Write>(
+    rt: &R,
+    path: &str,
+    fault: DeviceFault,
+    output: &mut W,
+) -> ExitCode
+    ensures shows { Appends (W.contents output.old) (W.contents output.new) (codes "fault device\n")
+        ⊎ AppendsFront (W.contents output.old) (W.contents output.new) (codes "fault device\n") }
+    ensures status { exit_status result ≡ 1 }
+{
+    let _ = write_device_fault(output);
+    let _ = output.flush();
+    refuse(rt, path, fault)
+}
+
+/// Sends what was written.
+fn send<W: Write>(output: &mut W) -> Result<(), ProgramFault> {
+    output.flush().or(Err(ProgramFault::Run(RunFault::Output)))
+}
+
+/// Makes durable what a drive has completed, after a job that ended so. People are told if that fails.
+fn sync_after<R: Eprint, M: Medium>(
+    rt: &R,
+    path: &str,
+    ended: ExitCode,
+    medium: &mut M,
+) -> ExitCode {
+    if medium.sync().is_ok() {
+        return ended;
+    }
+    let _ = eprintln!(rt;
+        "zonedisk: {path}: the sync at the end failed: a loss of power may lose what was done"
+    );
+    ExitCode::FAILURE
+}
+
+/// Says why a drive is not formatted, or where that is not known to be done.
+fn refuse_format<R: Eprint, W: Write>(
+    rt: &R,
+    named: NamedDrive<'_>,
+    fault: FormatFault,
+    output: &mut W,
+) -> ExitCode {
+    let _ = write_device_fault(output);
+    let _ = output.flush();
+    let _ = eprintln!(rt; "zonedisk: {named}: {fault}");
+    ExitCode::FAILURE
+}
+
+/// Makes a drive in which nothing is written.
+fn do_format<R: Eprint, D: Devices, W: Write>(
+    rt: &R,
+    alloc: Global,
+    devices: &D,
+    path: &str,
+    force: bool,
+    output: &mut W,
+) -> ExitCode
+    ensures { D.has_way devices.now ≡ false → exit_status result ≡ 1 }
+{
+    let open = match devices.open(alloc, path) {
+        Ok(open) => open,
+        Err(fault) => return refuse_lines(rt, path, fault, output),
+    };
+    let OpenDevice {
+        mut drive,
+        mut medium,
+        name,
+    } = open;
+    let named = NamedDrive { path, name: &name };
+    if let Err(fault) = format_device(rt, alloc, named, force, &mut drive, output) {
+        return refuse_format(rt, named, fault, output);
+    }
+    if output.flush().is_err() {
+        return refuse_format(rt, named, FormatFault::Output, output);
+    }
+    sync_after(rt, path, ExitCode::SUCCESS, &mut medium)
+}
+
+/// How a run ended, as the program tells it.
+fn run_end(ran: Result<(), RunFault>, geometry: &Geometry) -> Result<(), ProgramFault> {
+    match ran {
+        Ok(()) => Ok(()),
+        Err(fault) => Err(run_told(fault, geometry)),
+    }
+}
+
+/// Answers a trace over a drive. Its lines are on standard input.
+fn answer_lines<R: Eprint + Input, D: Device + Drop, W: Write>(
+    rt: &R,
+    alloc: Global,
+    drive: D,
+    job: &DeviceRun,
+    output: &mut W,
+) -> ExitCode {
+    let gate = Gate::open();
+    let count = LineCount::new();
+    let counted = job.progress.then_some(Counted::Lines);
+    let reader = Watched::new(rt.reader(), rt, counted);
+    let mut input = JobInput::new(alloc, &gate, &count, reader);
+    let (drive, mounting, ran) = run_device(alloc, drive, job, input.reader(), output);
+    let ended = run_end(ran, &drive.geometry()).and(send(output));
+    tell_size(rt, alloc, &job.device, Some(job.blocks), mounting.disk);
+    let Err(fault) = ended else {
+        return ExitCode::SUCCESS;
+    };
+    let code = fail(alloc, fault, output);
+    if let Ok(text) = explain_run(alloc, job, fault, &mut input, mounting) {
+        let _ = eprintln!(rt; "zonedisk: {text}");
+    }
+    code
+}
+
+/// Mounts the drive, and answers a trace. It ends with a sync, unless the drive has to stop before.
+fn do_run<R: Eprint + Input, D: Devices, W: Write>(
+    rt: &R,
+    alloc: Global,
+    devices: &D,
+    job: &DeviceRun,
+    output: &mut W,
+) -> ExitCode
+    ensures { D.has_way devices.now ≡ false → exit_status result ≡ 1 }
+{
+    match devices.open(alloc, &job.device) {
+        Ok(open) => {
+            let OpenDevice {
+                drive,
+                mut medium,
+                ..
+            } = open;
+            let ended = answer_lines(rt, alloc, drive, job, output);
+            if job.stop == Stop::NEVER {
+                sync_after(rt, &job.device, ended, &mut medium)
+            } else {
+                ended
+            }
+        }
+        Err(fault) => refuse_lines(rt, &job.device, fault, output),
+    }
+}
+
+/// Shows the zones of the drive.
+fn do_report<R: Eprint, D: Devices, W: Write>(
+    rt: &R,
+    alloc: Global,
+    devices: &D,
+    path: &str,
+    state: Option<ZoneState>,
+    output: &mut W,
+) -> ExitCode
+    ensures { D.has_way devices.now ≡ false → exit_status result ≡ 1 }
+{
+    let mut drive = match devices.open(alloc, path) {
+        Ok(open) => open.drive,
+        Err(fault) => return refuse_lines(rt, path, fault, output),
+    };
+    let told = answer_report(alloc, &mut drive, state, output);
+    let told = told.and(output.flush().or(Err(ToolFault::Output)));
+    let Err(fault) = told else {
+        return ExitCode::SUCCESS;
+    };
+    let code = fail(alloc, ProgramFault::Run(run_fault(fault)), output);
+    let _ = eprintln!(rt; "zonedisk: {path}: the zones are not shown: {fault}");
+    code
+}
+
+/// Sends raw lines, and says why they are answered no further.
+fn do_nvme<R: Eprint + Input, D: Devices, W: Write>(
+    rt: &R,
+    alloc: Global,
+    devices: &D,
+    path: &str,
+    explain: bool,
+    output: &mut W,
+) -> ExitCode
+    ensures { D.has_way devices.now ≡ false → exit_status result ≡ 1 }
+{
+    let mut drive = match devices.open_raw(alloc, path) {
+        Ok(drive) => drive,
+        Err(fault) => return refuse_lines(rt, path, fault, output),
+    };
+    let gate = Gate::open();
+    let count = LineCount::new();
+    let mut input = JobInput::new(alloc, &gate, &count, rt.reader());
+    let sent = if explain {
+        let mut explained = Explained::new(rt, output);
+        send_lines(alloc, &mut drive, input.reader(), &mut explained)
+    } else {
+        send_lines(alloc, &mut drive, input.reader(), output)
+    };
+    let sent = sent.and(output.flush().or(Err(SendFault::Run(RunFault::Output))));
+    let Err(fault) = sent else {
+        return ExitCode::SUCCESS;
+    };
+    let code = fail(alloc, ProgramFault::Run(fault.shown()), output);
+    if let Ok(text) = explain_sent(alloc, path, fault, &mut input) {
+        let _ = eprintln!(rt; "zonedisk: {text}");
+    }
+    code
+}
+
+/// Serves the drive on the standard streams. What people are told goes to standard error.
+fn do_nbd<R: Eprint + Input + Print, D: Devices>(
+    rt: &R,
+    alloc: Global,
+    devices: &D,
+    job: &NbdJob,
+) -> ExitCode
+    ensures { D.has_way devices.now ≡ false → exit_status result ≡ 1 }
+{
+    let open = match devices.open(alloc, &job.image) {
+        Ok(open) => open,
+        Err(fault) => return refuse(rt, &job.image, fault),
+    };
+    let output = &mut io::writer(rt);
+    let served = serve_client(alloc, job, open.drive, open.medium, rt.reader(), output);
+    tell_size(rt, alloc, &job.image, job.blocks, served.disk);
+    if let Some(text) = &served.statistics {
+        let _ = eprint!(rt; "{text}");
+    }
+    let Err(fault) = served.session else {
+        return ExitCode::SUCCESS;
+    };
+    if let Ok(text) = nbd_jobs::explain(alloc, job, fault) {
+        let _ = eprintln!(rt; "zonedisk: {text}");
+    }
+    ExitCode::FAILURE
+}
+
+/// Sends what a tool wrote, and says why it told nothing. A check may say that not all is well.
+fn end_tool<R: Eprint, W: Write>(
+    rt: &R,
+    path: &str,
+    told: Result<bool, ToolFault>,
+    output: &mut W,
+) -> ExitCode {
+    let told = match output.flush() {
+        Ok(()) => told,
+        Err(_) => told.and(Err(ToolFault::Output)),
+    };
+    match told {
+        Ok(true) => ExitCode::SUCCESS,
+        Ok(false) => ExitCode::FAILURE,
+        Err(fault) => {
+            let _ = eprintln!(rt; "zonedisk: {path}: {fault}");
+            ExitCode::FAILURE
+        }
+    }
+}
+
+/// Shows all faults of the drive.
+fn do_check<R: Eprint, D: Devices, W: Write>(
+    rt: &R,
+    alloc: Global,
+    devices: &D,
+    job: &CheckJob,
+    output: &mut W,
+) -> ExitCode
+    ensures { D.has_way devices.now ≡ false → exit_status result ≡ 1 }
+{
+    let mut drive = match devices.open(alloc, &job.image) {
+        Ok(open) => open.drive,
+        Err(fault) => return refuse(rt, &job.image, fault),
+    };
+    let told = check_device(alloc, job.blocks, &mut drive, &job.form, output);
+    end_tool(rt, &job.image, told, output)
+}
+
+/// Shows what the drive holds.
+fn do_info<R: Eprint, D: Devices, W: Write>(
+    rt: &R,
+    alloc: Global,
+    devices: &D,
+    job: &InfoJob,
+    output: &mut W,
+) -> ExitCode
+    ensures { D.has_way devices.now ≡ false → exit_status result ≡ 1 }
+{
+    let mut drive = match devices.open(alloc, &job.image) {
+        Ok(open) => open.drive,
+        Err(fault) => return refuse(rt, &job.image, fault),
+    };
+    let told = inform_device(alloc, &mut drive, &job.form, output);
+    end_tool(rt, &job.image, told.map(|()| true), output)
+}
+
+/// What is counted of a copy, if it is shown how far it is.
+fn counted(progress: bool) -> Option<Counted> {
+    progress.then_some(Counted::Mebibytes)
+}
+
+/// Writes blocks of a drive to standard output.
+fn export<R: Eprint + Print, D: Device + Drop>(
+    rt: &R,
+    alloc: Global,
+    drive: D,
+    job: &ExportJob,
+) -> Result<(), CopyFault> {
+    let mut output = Watched::new(io::writer(rt), rt, counted(job.progress));
+    let (_drive, exported) = export_device(alloc, job, drive, &mut output);
+    let sent = output.flush();
+    exported.and(sent.or(Err(CopyFault::Export(ExportFault::Output))))
+}
+
+/// Writes blocks of standard input to a drive.
+fn import<R: Eprint + Input, D: Device + Drop>(
+    rt: &R,
+    alloc: Global,
+    drive: D,
+    job: &ImportJob,
+) -> Result<(), CopyFault> {
+    let mut input = Watched::new(rt.reader(), rt, counted(job.progress));
+    let (_drive, taken) = import_mounted(alloc, job, drive, &mut input);
+    taken.map(|_count| ())
+}
+
+/// Tells how a copy ended. Why it is not whole goes to standard error.
+fn end_copy<R: Eprint>(
+    rt: &R,
+    alloc: Global,
+    job: &CopyJob,
+    copied: Result<(), CopyFault>,
+) -> ExitCode {
+    let Err(fault) = copied else {
+        return ExitCode::SUCCESS;
+    };
+    if let Ok(text) = copy_jobs::explain(alloc, job, fault) {
+        let _ = eprintln!(rt; "zonedisk: {text}");
+    }
+    ExitCode::FAILURE
+}
+
+/// Copies blocks out of the drive, or into it. An import ends with a sync.
+fn do_copy<R: Eprint + Input + Print, D: Devices>(
+    rt: &R,
+    alloc: Global,
+    devices: &D,
+    job: &CopyJob,
+) -> ExitCode
+    ensures { D.has_way devices.now ≡ false → exit_status result ≡ 1 }
+{
+    let open = match devices.open(alloc, job.image()) {
+        Ok(open) => open,
+        Err(fault) => return refuse(rt, job.image(), fault),
+    };
+    let OpenDevice {
+        drive,
+        mut medium,
+        ..
+    } = open;
+    match job {
+        CopyJob::Export(export_job) => {
+            end_copy(rt, alloc, job, export(rt, alloc, drive, export_job))
+        }
+        CopyJob::Import(import_job) => {
+            let ended = end_copy(rt, alloc, job, import(rt, alloc, drive, import_job));
+            sync_after(rt, job.image(), ended, &mut medium)
+        }
+    }
+}
+
+/// Does a job on the drive behind a device, with this way to devices. A program that has none ends with the status of a
+/// fault.
+pub fn do_device<R: Eprint + Input + Print, D: Devices, W: Write>(
+    rt: &R,
+    alloc: Global,
+    devices: &D,
+    job: &DeviceJob,
+    output: &mut W,
+) -> ExitCode
+    ensures { D.has_way devices.now ≡ false → exit_status result ≡ 1 }
+{
+    match job {
+        DeviceJob::Format { device, force } => {
+            do_format(rt, alloc, devices, device, *force, output)
+        }
+        DeviceJob::Run(job) => do_run(rt, alloc, devices, job, output),
+        DeviceJob::Report { device, state } => {
+            do_report(rt, alloc, devices, device, *state, output)
+        }
+        DeviceJob::Nvme { device, explain } => {
+            do_nvme(rt, alloc, devices, device, *explain, output)
+        }
+        DeviceJob::Nbd(job) => do_nbd(rt, alloc, devices, job),
+        DeviceJob::Check(job) => do_check(rt, alloc, devices, job, output),
+        DeviceJob::Info(job) => do_info(rt, alloc, devices, job, output),
+        DeviceJob::Copy(job) => do_copy(rt, alloc, devices, job),
+    }
+}

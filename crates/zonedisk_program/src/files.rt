@@ -1,0 +1,172 @@
+// Jobs on drives in files, and those that have no drive.
+
+use copy_jobs::{CopyJob, do_export, do_import};
+use disk_jobs::{
+    Counted, DiskSize, Done, Explained, Gate, Job, JobInput, LineCount, ProgramFault, Saved,
+    Watched, do_job, explain, restored_note, size_notes, write_program_fault,
+};
+use nbd_jobs::{NbdJob, do_nbd_job};
+use std::alloc::Global;
+use std::io::{Read, Write};
+use std::process::ExitCode;
+use std::rt::Files;
+use std::{fs, io};
+use tool_jobs::{ToolJob, do_tool_job};
+
+/// Writes the line of a fault, and gives the exit status of one, also where the line can't be written.
+pub(crate) fn fail<W: Write>(alloc: Global, fault: ProgramFault, output: &mut W) -> ExitCode {
+    let _ = write_program_fault(alloc, fault, output);
+    let _ = output.flush();
+    ExitCode::FAILURE
+}
+
+/// Says on standard error what people should know of the size of a disk.
+pub(crate) fn tell_size<R: Eprint>(
+    rt: &R,
+    alloc: Global,
+    path: &str,
+    asked: Option<u64>,
+    disk: Option<DiskSize>,
+) {
+    if let Some(disk) = disk
+        && let Ok(notes) = size_notes(alloc, path, asked, disk)
+    {
+        let _ = eprint!(rt; "{notes}");
+    }
+}
+
+/// Says on standard error where a file was saved that had been removed.
+fn tell_saved<R: Eprint>(rt: &R, alloc: Global, path: &str, saved: Saved) {
+    if saved.is_restored
+        && let Ok(note) = restored_note(alloc, path)
+    {
+        let _ = eprintln!(rt; "zonedisk: {note}");
+    }
+}
+
+/// Says on standard error why a job or a save failed, a line for each.
+fn tell<R: Eprint, I: Read + Drop>(
+    rt: &R,
+    alloc: Global,
+    job: &Job,
+    done: Done,
+    input: &mut JobInput<'_, I>,
+) {
+    for ended in [done.job, done.saved.map(|_| ())] {
+        if let Err(fault) = ended
+            && let Ok(text) = explain(alloc, job, fault, input, done.mounting)
+        {
+            let _ = eprintln!(rt; "zonedisk: {text}");
+        }
+    }
+}
+
+/// Does a job whose lines are on standard input.
+pub(crate) fn do_lines<R: Eprint + Files<File = fs::File> + Input, W: Write>(
+    rt: &R,
+    alloc: Global,
+    job: &Job,
+    output: &mut W,
+) -> ExitCode {
+    let gate = Gate::open();
+    let counted = job.shows_progress().then_some(Counted::Lines);
+    let count = LineCount::new();
+    let reader = Watched::new(rt.reader(), rt, counted);
+    let mut input = JobInput::new(alloc, &gate, &count, reader);
+    let done = if job.explains() {
+        do_job(rt, alloc, job, &mut input, &mut Explained::new(rt, output))
+    } else {
+        do_job(rt, alloc, job, &mut input, output)
+    };
+    if let Some(path) = job.image() {
+        tell_size(rt, alloc, path, job.blocks(), done.mounting.disk);
+        tell_saved(rt, alloc, path, done.saved.unwrap_or(Saved::IN_PLACE));
+    }
+    let Some(fault) = done.fault() else {
+        return ExitCode::SUCCESS;
+    };
+    let code = fail(alloc, fault, output);
+    tell(rt, alloc, job, done, &mut input);
+    code
+}
+
+/// Serves a drive on the standard streams. What people are told goes to standard error.
+pub(crate) fn do_nbd<R: Eprint + Files<File = fs::File> + Input, W: Write>(
+    rt: &R,
+    alloc: Global,
+    job: &NbdJob,
+    output: &mut W,
+) -> ExitCode {
+    let done = do_nbd_job(rt, alloc, job, rt.reader(), output);
+    tell_size(rt, alloc, &job.image, job.blocks, done.disk);
+    tell_saved(rt, alloc, &job.image, done.saved.unwrap_or(Saved::IN_PLACE));
+    if let Some(text) = &done.statistics {
+        let _ = eprint!(rt; "{text}");
+    }
+    let mut code = ExitCode::SUCCESS;
+    for ended in [done.session, done.saved.map(|_| ())] {
+        if let Err(fault) = ended {
+            code = ExitCode::FAILURE;
+            if let Ok(text) = nbd_jobs::explain(alloc, job, fault) {
+                let _ = eprintln!(rt; "zonedisk: {text}");
+            }
+        }
+    }
+    code
+}
+
+/// Copies blocks out of a drive to standard output, or from standard input into a drive. Why a copy is not whole goes
+/// to standard error.
+pub(crate) fn copy<R: Eprint + Files<File = fs::File> + Input + Print>(
+    rt: &R,
+    alloc: Global,
+    job: &CopyJob,
+) -> ExitCode {
+    let ends = match job {
+        CopyJob::Export(job) => [do_export(rt, alloc, job, io::writer(rt)), Ok(())],
+        CopyJob::Import(job) => {
+            let imported = do_import(rt, alloc, job, rt.reader());
+            tell_saved(
+                rt,
+                alloc,
+                &job.image,
+                imported.saved.unwrap_or(Saved::IN_PLACE),
+            );
+            [imported.taken.map(|_| ()), imported.saved.map(|_| ())]
+        }
+    };
+    let mut code = ExitCode::SUCCESS;
+    for ended in ends {
+        if let Err(fault) = ended {
+            code = ExitCode::FAILURE;
+            if let Ok(text) = copy_jobs::explain(alloc, job, fault) {
+                let _ = eprintln!(rt; "zonedisk: {text}");
+            }
+        }
+    }
+    code
+}
+
+/// Does what a tool is asked for. Why it tells nothing goes to standard error, and what else is to be known.
+pub(crate) fn use_tool<R: Eprint + Files<File = fs::File>, W: Write>(
+    rt: &R,
+    alloc: Global,
+    job: &ToolJob,
+    output: &mut W,
+) -> ExitCode {
+    match do_tool_job(rt, alloc, job, output) {
+        Ok(true) => {
+            if let Ok(Some(note)) = tool_jobs::tool_note(alloc, job) {
+                let _ = eprintln!(rt; "zonedisk: {note}");
+            }
+            ExitCode::SUCCESS
+        }
+        Ok(false) => ExitCode::FAILURE,
+        Err(fault) => {
+            if let Ok(text) = tool_jobs::explain(alloc, job, fault) {
+                let _ = eprintln!(rt; "zonedisk: {text}");
+            }
+            ExitCode::FAILURE
+        }
+    }
+}
