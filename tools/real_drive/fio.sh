@@ -21,7 +21,7 @@ measured() {
 spoil() { [ -z "$SPOIL" ] || dd if=/dev/urandom of=$1 bs=4096 seek=1234 count=1 conv=notrunc,fsync 2> /dev/null; }
 
 on_disk() { measured $1 --filename=$node --direct=1 --size=$((BLOCKS * 4096)) $2; }
-on_file() { measured $1 --filename=/tmp/files/file --size=$((BLOCKS * 4096 / 10 * 7)) $2; }
+on_file() { measured $1 --filename=/tmp/files/file --size=$((BLOCKS * 2048)) $2; }
 
 while [ -e /share/round.$turn ]; do
     read seed sizes < /share/round.$turn

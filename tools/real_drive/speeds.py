@@ -40,7 +40,7 @@ def measure(machine, subject, turn):
     words = {"BLOCKS": OF_SPEED.blocks, "SUBJECT": subject, "MIB": FILE_MIB, "SECONDS_EACH": SECONDS,
              "SEED": (machine.seed + turn) % (1 << 31)}
     script = "".join(f"{name}={word}\n" for name, word in words.items()) + ". /in/speeds.sh\n"
-    told = machine.guest(OF_SPEED, share, script, options=options, seconds=3600)
+    told = machine.guest(OF_SPEED, share, script, options=options, seconds=7200)
     speeds = {}
     for name, (_, side) in MEASURES.items():
         measured = measures_of(read_file(share, name)).get(side, {})
