@@ -42,8 +42,8 @@ SMALL = [
 OF_JOBS = Shape(4096, 64, 4096, 4096, 7, 14, 14, 3000)
 # For file systems, and for fio, which writes all of the disk. A few dozen cuts, or one round of fio, clean it.
 OF_FILES = Shape(4096, 48, 256, 250, 7, 8, 6, 8000)
-# Large enough for btrfs and f2fs, which take whole zones for each kind of data: 2 GiB, and a disk of 1.5 GiB.
-OF_SPEED = Shape(4096, 128, 4096, 4096, 7, 14, 14, 393216)
+# Large enough for btrfs, which takes whole zones and gives them back late: 6 GiB, and a disk of 1.5 GiB.
+OF_SPEED = Shape(4096, 384, 4096, 4096, 7, 14, 14, 393216)
 # For a mount of many batches: room for 100,000 of them, and a transfer of 256 blocks.
 OF_BATCHES = Shape(512, 64, 4096, 4096, 5, 14, 14, 110000)
 # A transfer of 1 MiB.
