@@ -13,7 +13,8 @@ use Rattle.drive_survey.specs.Reported.{KeepsZones}
 use Rattle.drive_survey.specs.Scan.{IsInterruption}
 use Rattle.tool_jobs.specs.declared.fault.ToolFault.{ToolFault}
 use Rattle.tool_jobs.specs.declared.fault.ToolFault.TheVariants as tools
-use Rattle.device_jobs.specs.Formats.{AreAllEmpty, AreEmptyBelow, AreUsages, IsResetOf, IsUnformatted, IsUnlisted, IsUnlooked, IsUnreset, IsUnsaid, IsUnusable, IsUnusableAt, IsWritten, NoneIsUnusable, is_used, unlooked, unreported}
+use Rattle.device_jobs.specs.Formats.{AreAllEmpty, AreEmptyBelow, AreUsages, IsResetOf, IsUnformatted, IsUnlisted, IsUnlooked, IsUnreset, IsUnsaid, IsUnusable, IsUnusableAt, IsWritten, NoneIsUnusable, SaysNoOk, is_used, unlooked, unreported}
+use Rattle.disk_runs.specs.Run.{Known}
 use Rattle.device_jobs.specs.Looks.{IsUnasked}
 use Rattle.device_jobs.specs.declared.format_fault.FormatFault.{FormatFault}
 use Rattle.device_jobs.specs.declared.format_fault.FormatFault.TheVariants as faults
@@ -71,6 +72,7 @@ unusable-before old new zone kept is =
 written-before : (old middle : DriveState) (written : Written) → KeepsZones old middle → IsWritten middle written → IsWritten old written
 written-before old middle written kept so = record {
   count = so.count ∙ ap count (kept-contents old middle kept);
+  some = so.some;
   seen = so.seen;
   keeps = keeps-both old middle so.seen kept so.keeps;
   holding = so.holding;
@@ -86,9 +88,10 @@ unformatted-before force old middle new (faults.Unusable zone) kept so = (unusab
 unformatted-before force old middle new faults.Untold kept so = (so.0, keeps-both old middle new kept so.1)
 unformatted-before force old middle new (faults.Reset zone cause) kept so = so
 unformatted-before force old middle new faults.Output kept so = so
-unformatted-before force old middle new faults.Limits kept so = λ range. so (rw kept.geometry range)
-unformatted-before force old middle new faults.Stopped kept so = so
-unformatted-before force old middle new faults.Memory kept so = so
+unformatted-before force old middle new faults.Limits kept so = ((λ range. so.0 (rw kept.geometry range)), keeps-both old middle new kept so.1)
+unformatted-before force old middle new faults.Stopped kept so = (so.0, keeps-both old middle new kept so.1)
+unformatted-before force old middle new faults.Memory kept (inl keeps) = inl (keeps-both old middle new kept keeps)
+unformatted-before force old middle new faults.Memory kept (inr done) = inr done
 
 -- ---- what a part answers, of the whole
 
@@ -114,25 +117,25 @@ unlisted old last fault (inr (inl halted)) = rw halted.0 halted.1
 unlisted old last fault (inr (inr none)) = absurd none
 
 module _ (force : Bool) (old new : DriveState) where
-  pub unlooked-so : (fault : FormatFault) → IsUnlooked new fault → IsUnformatted force old new fault
-  unlooked-so (faults.Written written) so = absurd so
-  unlooked-so (faults.Unusable zone) so = absurd so
-  unlooked-so faults.Untold so = absurd so
-  unlooked-so (faults.Reset zone cause) so = absurd so
-  unlooked-so faults.Output so = absurd so
-  unlooked-so faults.Limits so = absurd so
-  unlooked-so faults.Stopped so = so
-  unlooked-so faults.Memory so = so
+  pub unlooked-so : KeepsZones old new → (fault : FormatFault) → IsUnlooked new fault → IsUnformatted force old new fault
+  unlooked-so kept (faults.Written written) so = absurd so
+  unlooked-so kept (faults.Unusable zone) so = absurd so
+  unlooked-so kept faults.Untold so = absurd so
+  unlooked-so kept (faults.Reset zone cause) so = absurd so
+  unlooked-so kept faults.Output so = absurd so
+  unlooked-so kept faults.Limits so = absurd so
+  unlooked-so kept faults.Stopped so = (so, kept)
+  unlooked-so kept faults.Memory so = inl kept
 
-  pub unlisted-so : (fault : FormatFault) → IsUnlisted old new fault → IsUnformatted force old new fault
-  unlisted-so (faults.Written written) so = absurd so
-  unlisted-so (faults.Unusable zone) so = absurd so
-  unlisted-so faults.Untold so = absurd so
-  unlisted-so (faults.Reset zone cause) so = absurd so
-  unlisted-so faults.Output so = absurd so
-  unlisted-so faults.Limits so = so
-  unlisted-so faults.Stopped so = so
-  unlisted-so faults.Memory so = so
+  pub unlisted-so : KeepsZones old new → (fault : FormatFault) → IsUnlisted old new fault → IsUnformatted force old new fault
+  unlisted-so kept (faults.Written written) so = absurd so
+  unlisted-so kept (faults.Unusable zone) so = absurd so
+  unlisted-so kept faults.Untold so = absurd so
+  unlisted-so kept (faults.Reset zone cause) so = absurd so
+  unlisted-so kept faults.Output so = absurd so
+  unlisted-so kept faults.Limits so = (so, kept)
+  unlisted-so kept faults.Stopped so = (so, kept)
+  unlisted-so kept faults.Memory so = inl kept
 
   pub unreset-so : force ≡ true → (fault : FormatFault) → IsUnreset new fault → IsUnformatted force old new fault
   unreset-so forced (faults.Written written) so = absurd so
@@ -153,4 +156,15 @@ module _ (force : Bool) (old new : DriveState) where
   unsaid-so done faults.Output so = done
   unsaid-so done faults.Limits so = absurd so
   unsaid-so done faults.Stopped so = absurd so
-  unsaid-so done faults.Memory so = tt
+  unsaid-so done faults.Memory so = inr done
+
+-- nothing is written before that
+pub says-none : (fault : FormatFault) (written : Known) → SaysNoOk fault written written
+says-none (faults.Written written) was = refl
+says-none (faults.Unusable zone) was = refl
+says-none faults.Untold was = refl
+says-none (faults.Reset zone cause) was = refl
+says-none faults.Output was = inl refl
+says-none faults.Limits was = refl
+says-none faults.Stopped was = refl
+says-none faults.Memory was = refl

@@ -7,6 +7,9 @@ use Rattle.drive_survey.specs.Reported.{KeepsZones}
 use Rattle.drive_survey.specs.declared.fault.MountFault.{MountFault}
 use Rattle.drive_survey.specs.declared.fault.MountFault.TheVariants.{OutOfMemory}
 use Rattle.drive_survey.specs.declared.reported.ReportedZone.{ReportedZone}
+use Rattle.disk_files.specs.Output.{AppendsFront}
+use Rattle.disk_files.specs.Reply.{ok_text}
+use Rattle.disk_runs.specs.Run.{Known}
 use Rattle.drive_info.specs.declared.info.DriveInfo.{DriveInfo}
 use Rattle.drive_info.specs.declared.info.Info.{Info}
 use Rattle.tool_jobs.specs.declared.fault.ToolFault.{ToolFault}
@@ -84,6 +87,7 @@ pub record IsHolding (drive : DriveState) (holding : Holding) : Type 0 where
 -- How many zones are not Empty, and what they hold. The drive was looked at, which keeps its zones.
 pub record IsWritten (drive : DriveState) (written : Written) : Type 0 where
   pub count : written.zones ≡ written_count drive
+  pub some : 0 < written.zones
   pub seen : DriveState
   pub keeps : KeepsZones drive seen
   pub holding : IsHolding seen written.holding
@@ -133,4 +137,11 @@ IsUnformatted force old new (faults.Unusable zone) = IsUnusableAt old zone × Ke
 IsUnformatted force old new faults.Untold = (force ≡ true) × KeepsZones old new
 IsUnformatted force old new (faults.Reset zone cause) = (force ≡ true) × AreEmptyBelow zone new
 IsUnformatted force old new faults.Output = AreAllEmpty new
-IsUnformatted force old new fault = IsUnlisted old new fault
+IsUnformatted force old new faults.Limits = (IsInRange old.geometry → ⊥) × KeepsZones old new
+IsUnformatted force old new faults.Stopped = (new.stopped ≡ true) × KeepsZones old new
+IsUnformatted force old new faults.Memory = KeepsZones old new ⊎ AreAllEmpty new
+
+-- what is written of a format that is not done: nothing, or a beginning of `ok` where the writer failed
+abbrev pub SaysNoOk : FormatFault → Known → Known → Type 0
+SaysNoOk faults.Output written contents = (contents ≡ written) ⊎ AppendsFront written contents ok_text
+SaysNoOk fault written contents = contents ≡ written

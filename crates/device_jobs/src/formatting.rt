@@ -9,7 +9,7 @@ ghost use Rattle.drive_survey.specs.Reported.{KeepsZones};
 ghost use Rattle.disk_files.specs.Reply.{ok_text};
 ghost use Rattle.device_jobs.specs.Formats.{AreAllEmpty, AreUsages, IsHolding, IsResetOf, IsUnformatted, IsUnlisted};
 ghost use Rattle.device_jobs.specs.Formats.{IsUnlooked, IsUnreset, IsUnsaid, IsUnusable, IsUnusableAt, NoneIsUnusable};
-ghost use Rattle.device_jobs.specs.Formats.{OnlyEmpties, ShowsHolding, is_unusable, is_written, unlooked, unreported};
+ghost use Rattle.device_jobs.specs.Formats.{OnlyEmpties, SaysNoOk, ShowsHolding, is_unusable, is_written, unlooked, unreported};
 
 use crate::format_fault::{FormatFault, Holding, NamedDrive, Written};
 use crate::looking::look;
@@ -217,6 +217,7 @@ fn empty_usable<D: Device, E: Eprint>(
 fn say_ok<W: Write>(alloc: Global, output: &mut W) -> Result<(), FormatFault>
     ensures ok { OnOk result (Appends (W.contents output.old) (W.contents output.new) ok_text) }
     ensures err { IfErr result IsUnsaid }
+    ensures silent { IfErr result (λ fault. SaysNoOk fault (W.contents output.old) (W.contents output.new)) }
 {
     let mut reply = Vec::new(alloc);
     if ok_reply(&mut reply).is_err() {
@@ -248,6 +249,7 @@ pub fn format_device<D: Device, E: Eprint, W: Write>(
     // Done, each zone is Empty.
     ensures ok { OnOk result (AreAllEmpty (D.drive device.new)) }
     ensures err { IfErr result (IsUnformatted force (D.drive device.old) (D.drive device.new)) }
+    ensures silent { IfErr result (λ fault. SaysNoOk fault (W.contents output.old) (W.contents output.new)) }
     ensures says { OnOk result (Appends (W.contents output.old) (W.contents output.new) ok_text) }
 {
     empty_usable(errors, alloc, named, force, device)?;

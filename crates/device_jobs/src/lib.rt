@@ -32,7 +32,7 @@
 //! Nothing is promised of [`send_lines`], which sends entries as they are and believes no answer, nor of
 //! [`serve_client`], which is [`serve_device`] between buffers.
 //!
-//! Tests: `device_tests`.
+//! Tests: the rows of `device_rows`.
 #![tactic(auto)]
 
 mod copying;

@@ -2,11 +2,18 @@ use Rattle.std.proofs.lemmas.Result.{IfErr-weaker}
 use Rattle.drive_survey.proofs.ReadLaws.{keeps-both}
 use Rattle.device_jobs.specs.Formats.{IsUnformatted}
 use Rattle.device_jobs.proofs.FormatLaws.{empties-both, empties-kept}
-use Rattle.device_jobs.proofs.FormatFaultLaws.{none-unusable, unformatted-before, unusable-before, unusable-found, unusable-kept}
+use Rattle.device_jobs.proofs.FormatFaultLaws.{exit, none-unusable, unformatted-before, unlisted-so, unusable-before, unusable-found, unusable-kept}
 use Rattle.device_jobs.proofs.formatting.empty_usable.Goals as goal
 
 pub returns-in_err-zones-clause-empties : goal.returns-in_err-zones-clause-empties
 returns-in_err-zones-clause-empties g c = empties-kept _ _ c.zones_of.ensures.kept
+
+pub returns-in_err-zones-clause-err : goal.returns-in_err-zones-clause-err
+returns-in_err-zones-clause-err g c =
+    let old = g.D.Device.drive c.args.device.now in
+    let new = g.D.Device.drive c.zones_of.new.device in
+    exit (IsUnformatted c.args.force old new) c.from_residual.result c.in_err-zones.field-0.0 c.from_residual.ensures.1
+    (unlisted-so c.args.force old new c.zones_of.ensures.kept c.in_err-zones.field-0.0 c.in_err-zones.ensures.err)
 
 pub returns-in-Some-clause-empties : goal.returns-in-Some-clause-empties
 returns-in-Some-clause-empties g c = empties-kept _ _ c.zones_of.ensures.kept

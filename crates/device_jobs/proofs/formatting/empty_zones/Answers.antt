@@ -1,7 +1,16 @@
-use Rattle.std.proofs.Common.{◌∙◌, sym}
+use Rattle.std.proofs.Common.{◌∙◌, arith, sym}
 use Rattle.drive_survey.proofs.ReadLaws.{keeps-none}
 use Rattle.device_jobs.proofs.FormatLaws.{all-empty, empties-both, empties-kept, empties-none, usages-kept}
+use Rattle.device_jobs.specs.Formats.{IsUnformatted}
+use Rattle.device_jobs.proofs.FormatFaultLaws.{exit, unlooked-so}
 use Rattle.device_jobs.proofs.formatting.empty_zones.Goals as goal
+
+pub returns-in_err-find_holding-clause-err : goal.returns-in_err-find_holding-clause-err
+returns-in_err-find_holding-clause-err g c =
+    let old = g.D.Device.drive c.args.device.now in
+    let new = g.D.Device.drive c.find_holding.new.device in
+    exit (IsUnformatted c.args.force old new) c.from_residual.result c.in_err-find_holding.field-0.0 c.from_residual.ensures.1
+    (unlooked-so c.args.force old new c.find_holding.ensures.kept c.in_err-find_holding.field-0.0 c.in_err-find_holding.ensures.err)
 
 pub returns-then-count-eq0-clause-kept : goal.returns-then-count-eq0-clause-kept
 returns-then-count-eq0-clause-kept g c = λ unforced. keeps-none (g.D.Device.drive c.args.device.now) c.requires.reported.lawful
@@ -28,6 +37,7 @@ returns-then-not-force-clause-err g c = (
   c.if-not-force.true,
   record {
     count = c.count_written-count.ensures ∙ c.requires.reported.written;
+    some = omega (arith, c.if-count-eq0.false);
     seen = g.D.Device.drive c.args.device.now;
     keeps = keeps-none (g.D.Device.drive c.args.device.now) c.requires.reported.lawful;
     holding = c.in_ok-find_holding.ensures.ok;
