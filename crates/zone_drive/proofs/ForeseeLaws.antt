@@ -1,5 +1,5 @@
 -- A command that is foreseen gives what it gives.
-use Rattle.std.proofs.Common.{◌≡◌, ◌≢◌, ℕ, ◌/◌, ◌%◌, ◌<◌, ◌≤◌, ◌^◌, Bool, false, List, [], length, map, Option, Some, None, Result, Ok, Err, ◌&&◌, inl, inr, refl, sym, ap, ◌∙◌, subst, arith}
+use Rattle.std.proofs.Common.{◌≡◌, ◌≢◌, ℕ, ◌/◌, ◌%◌, ◌<◌, ◌≤◌, ◌^◌, Bool, false, List, [], length, map, Option, Some, None, Result, Ok, Err, true, ◌&&◌, ◌||◌, inl, inr, refl, sym, ap, ◌∙◌, subst, arith}
 use Rattle.std.specs.Prelude.{nat_le}
 use Rattle.std.specs.Option.{unwrap_or}
 use Rattle.std.specs.Result.{result_err}
@@ -69,12 +69,16 @@ storable geometry in_range = record {
   open_zones = omega (arith, in_range.open_zones.1, in_range.active.1);
 }
 
+or-true : (a b : Bool) → b ≡ true → (a || b) ≡ true
+or-true true b e = refl
+or-true false b e = e
+
 -- a drive whose zones are stored so
-module _ (geometry : Geometry) (zones : List StoredZone) (completed refused appended : ℕ) (habit : Habit) (in_range : IsInRange geometry) (are : AreZones geometry zones) (most : completed ≤ 2 ^ 63) where
-  -- the drive in memory with these zones, counts and habit
+module _ (geometry : Geometry) (zones : List StoredZone) (completed refused appended : ℕ) (habit : Habit) (halted : Bool) (in_range : IsInRange geometry) (are : AreZones geometry zones) (most : completed ≤ 2 ^ 63) where
+  -- the drive with these zones, counts and habit
   abbrev pub drive : MemoryDrive
   drive = record {
-    state = record { geometry = geometry; zones = zones_of geometry.block zones; completed = completed; refused = refused; appended = appended; stopped = nat_le (2 ^ 63) completed };
+    state = record { geometry = geometry; zones = zones_of geometry.block zones; completed = completed; refused = refused; appended = appended; stopped = halted || nat_le (2 ^ 63) completed };
     habit = habit;
   }
 
@@ -86,7 +90,7 @@ module _ (geometry : Geometry) (zones : List StoredZone) (completed refused appe
     active = fits.active;
     open_zones = fits.open_zones;
     completed = most;
-    stopped = λ e. le-leb (2 ^ 63) completed (omega (arith, e));
+    stopped = λ e. or-true halted (nat_le (2 ^ 63) completed) (le-leb (2 ^ 63) completed (omega (arith, e)));
   })
 
   -- a drive whose zones are stored so is lawful

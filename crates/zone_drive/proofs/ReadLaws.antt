@@ -3,9 +3,13 @@ use Rattle.std.proofs.Common.{◌≡◌, ℕ, zero, suc, ◌+◌, ◌-◌, ◌*�
 use Rattle.std.proofs.Math.Nat.{div-eq_of_lt-le, div-mul-le_self, lt-div-mul-add}
 use Rattle.std.proofs.lemmas.Bool.{eq-eqb, eqb-true, ltb-false, ltb-true}
 use Rattle.std.proofs.lemmas.List.{drop-drop, length-drop}
-use Rattle.zone_states.specs.Zone.{cut_blocks}
-use Rattle.drive_port.specs.Step.{block_in, bytes_from}
-use Rattle.zone_drive.specs.Stored.{with_zeros}
+use Rattle.zone_states.specs.declared.geometry.Geometry.{Geometry}
+use Rattle.zone_states.specs.Stored.{StoredZone}
+use Rattle.zone_states.specs.Zone.{Zone, cut_blocks}
+use Rattle.drive_port.specs.Step.{block_in, bytes_from, zone_at}
+use Rattle.zone_drive.specs.Stored.{AreZones, with_zeros, zones_of}
+use Rattle.zone_drive.specs.Table.{stored_at}
+use Rattle.zone_drive.proofs.WriteLaws.{whole-at, zone_at-is}
 
 -- the first bytes, zeros where there are no more
 abbrev pub padded : ℕ → List ℕ → List ℕ
@@ -61,6 +65,17 @@ bytes_from-cut size n offset (suc count) from long bytes whole e f =
 pub read-shows : (size n offset count from long : ℕ) (bytes : List ℕ) → length bytes ≡ n * size → from ≡ offset * size → long ≡ count * size
     → with_zeros long (drop from bytes) ≡ bytes_from size (cut_blocks size n bytes) offset count
 read-shows size n offset count from long bytes whole e f = padded-short long _ (drop from bytes) refl ∙ sym (bytes_from-cut size n offset count from long bytes whole e f)
+
+-- and of a zone that is stored
+pub zone-shows : (geometry : Geometry) (zones : List StoredZone) (index offset count : ℕ) → AreZones geometry zones → index < geometry.zones
+    → with_zeros (count * geometry.block) (drop (offset * geometry.block) (stored_at zones index).bytes)
+    ≡ bytes_from geometry.block (zone_at (zones_of geometry.block zones) index).blocks offset count
+zone-shows geometry zones index offset count are below =
+    let block = geometry.block in
+    let bytes = (stored_at zones index).bytes in
+    let lt : index < length zones = omega (arith, below, are.count) in
+    let blocks_are = ap (λ (z : Zone). z.blocks) (zone_at-is block zones index lt) in
+    rw blocks_are (read-shows block (length bytes / block) offset count (offset * block) (count * block) bytes (whole-at geometry zones index are lt) refl refl)
 
 -- ---- the end of a zone
 

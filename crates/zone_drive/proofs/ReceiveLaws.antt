@@ -1,7 +1,6 @@
 -- What a report shows of the zones.
-use Rattle.std.proofs.Common.{◌≡◌, ℕ, ◌^◌, ◌<◌, ◌≤◌, Bool, List, [], length, get_or, Option, Some, None, Ok, refl, sym, ap, ◌∙◌, arith}
+use Rattle.std.proofs.Common.{◌≡◌, ℕ, ◌/◌, ◌^◌, ◌<◌, ◌≤◌, Bool, List, [], length, Option, Some, None, Ok, refl, ap, ◌∙◌, arith}
 use Rattle.std.proofs.lemmas.Bool.{le-leb, lt-leb}
-use Rattle.std.proofs.lemmas.List.{length-map}
 use Rattle.nvme_wire.specs.declared.command.ReportingOptions.{ReportingOptions}
 use Rattle.nvme_wire.specs.declared.command.Command.TheVariants.{Receive}
 use Rattle.nvme_wire.specs.declared.status.Status.{Status}
@@ -9,26 +8,30 @@ use Rattle.nvme_wire.specs.declared.status.Status.TheVariants.{LbaOutOfRange, Su
 use Rattle.zone_states.specs.declared.geometry.Geometry.{Geometry}
 use Rattle.zone_states.specs.Checks.{first_failing}
 use Rattle.zone_states.specs.Geometry.{IsInRange}
-use Rattle.zone_states.specs.Stored.{StoredZone, zone_stored}
+use Rattle.zone_states.specs.Stored.{StoredZone}
 use Rattle.zone_states.specs.Zone.{Zone}
+use Rattle.zone_states.proofs.Cutting.{length-cut}
 use Rattle.zone_states.proofs.HoldLaws.{may_hold-most}
 use Rattle.zone_report.specs.Report.{report}
 use Rattle.drive_port.specs.Step.{done, end_of, outcome, receive_checks, unless_refused}
 use Rattle.zone_drive.specs.Choice.{Gives}
 use Rattle.zone_drive.specs.Habits.{MemoryDrive}
-use Rattle.zone_drive.specs.Stored.{AreZones, zones_of}
+use Rattle.zone_drive.specs.Stored.{AreZones}
+use Rattle.zone_drive.specs.Table.{stored_at}
 use Rattle.zone_drive.proofs.OutcomeLaws.{gives-same, performed-plain}
-use Rattle.zone_drive.proofs.WriteLaws.{lawful-at, zone_at-stored}
+use Rattle.zone_drive.proofs.WriteLaws.{lawful-at, zone_at-is}
 
 -- ---- zones
 
 -- a zone has no more blocks than the size of a zone
-pub written-fits : (geometry : Geometry) (zones : List StoredZone) (index : ℕ) (zone : StoredZone) → IsInRange geometry → AreZones geometry zones → index < length (zones_of geometry.block zones)
-    → zone ≡ get_or zones index zone → length (zone_stored geometry.block zone).blocks ≤ 2 ^ 20
-written-fits geometry zones index zone in_range are below read =
-    let lt : index < length zones = omega (arith, below, length-map zones (zone_stored geometry.block)) in
+pub stored-fits : (geometry : Geometry) (zones : List StoredZone) (index : ℕ) → IsInRange geometry → AreZones geometry zones → index < geometry.zones
+    → length (stored_at zones index).bytes / geometry.block ≤ 2 ^ 20
+stored-fits geometry zones index in_range are below =
+    let block = geometry.block in
+    let bytes = (stored_at zones index).bytes in
+    let lt : index < length zones = omega (arith, below, are.count) in
     let lawful = lawful-at geometry zones index are lt in
-    let here = ap (λ (z : Zone). length z.blocks) (zone_at-stored geometry.block zones index zone lt ∙ ap (zone_stored geometry.block) (sym read)) in
+    let here = ap (λ (z : Zone). length z.blocks) (zone_at-is block zones index lt) ∙ length-cut block (length bytes / block) bytes in
     omega (arith, here, may_hold-most _ geometry.capacity _ lawful.written, in_range.capacity.1, in_range.size.1)
 
 -- ---- the command

@@ -1,12 +1,17 @@
 -- A command that this drive does is a step of a device.
-use Rattle.std.proofs.Common.{◌≡◌, ℕ, ◌+◌, ◌<◌, ◌^◌, Bool, true, false, cond, not, ◌&&◌, List, [], ◌∷◌, refl, sym, ap, ◌∙◌, inl, inr}
+use Rattle.std.proofs.Common.{◌≡◌, ℕ, ◌+◌, ◌<◌, ◌^◌, Bool, true, false, cond, not, ◌&&◌, List, [], ◌∷◌, refl, sym, ap, ◌∙◌, inl, inr, Result}
 use Rattle.nvme_wire.specs.Entry.{decode_of, id_of}
 use Rattle.nvme_wire.specs.Completion.{completion_bytes}
+use Rattle.nvme_wire.specs.declared.command.Command.{Command}
+use Rattle.nvme_wire.specs.declared.command.DecodeFault.{DecodeFault}
 use Rattle.nvme_wire.specs.declared.zone_state.ZoneState.{ZoneState}
 use Rattle.nvme_wire.specs.declared.zone_state.ZoneState.TheVariants.{Empty, ImplicitlyOpened, ExplicitlyOpened, Closed, ReadOnly, Full, Offline}
 use Rattle.zone_states.specs.Transition.{is_state}
 use Rattle.zone_states.specs.Zone.{Zone}
+use Rattle.drive_port.specs.declared.device.Halt.{Halt}
+use Rattle.drive_port.specs.declared.device.Halt.TheVariants.{Memory, Stopped}
 use Rattle.drive_port.specs.Drive.{ClosesOne, DriveState, IsClosing}
+use Rattle.drive_port.specs.Halting.{Halts}
 use Rattle.drive_port.specs.Step.{Completes, Outcome, is_append, is_success, one_if, outcome}
 use Rattle.drive_port.proofs.ClosingLaws.{IsClosing-refl}
 use Rattle.zone_drive.specs.declared.reply.Reply.{Reply}
@@ -87,4 +92,20 @@ completes old middle closing new entry bytes returned completion reply gives set
         refused = ap (λ (d : DriveState). d.refused) ends ∙ ap (λ (d : DriveState). d.refused + one_if (not (is_success reply.status))) others;
         appended = ap (λ (d : DriveState). d.appended) ends ∙ ap (λ (d : DriveState). d.appended + one_if (is_append command && is_success reply.status)) others;
       };
+    }
+
+-- ---- a halt
+
+-- The device is out of memory, and nothing changed; or what holds its zones has stopped, and nothing else changed.
+pub halts-noted : (old new : DriveState) (command : Result Command DecodeFault) (bytes : List ℕ) (halt : Halt) → old.stopped ≡ false
+    → (halt ≡ Memory → new ≡ old) → (halt ≡ Stopped → new ≡ record old { stopped = true }) → Halts old command bytes halt new
+halts-noted old new command bytes Memory going same stops = (going, same refl)
+halts-noted old new command bytes Stopped going same stops =
+    let is = stops refl in
+    record {
+      already = λ (e : old.stopped ≡ true). absurd (cc (sym going ∙ e));
+      stopped = ap (λ (d : DriveState). d.stopped) is;
+      geometry = ap (λ (d : DriveState). d.geometry) is;
+      counts = rw is (record { completed = refl; refused = refl; appended = refl });
+      left = inl (rw is (IsClosing-refl old.zones));
     }

@@ -8,4 +8,5 @@ pub mod Writing
 pub mod Sending
 pub mod Counts
 pub mod Memory
+pub mod Held
 pub mod Foreseen

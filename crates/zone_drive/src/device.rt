@@ -1,4 +1,4 @@
-ghost use Rattle.std.specs.Prelude.{◌≡◌, ◌<◌, ◌^◌, [], true, IfOk, IfErr, IsErrOf, OnErr, Ok, nat_le};
+ghost use Rattle.std.specs.Prelude.{◌≡◌, ◌⊎◌, ◌<◌, ◌||◌, ◌^◌, [], false, true, IfErr, IfOk, IsErrOf, IsTrue, OnErr, OnOk, Ok, nat_le, List, ℕ};
 ghost use Rattle.nvme_wire.specs.Entry.{IsAdmitted, decode_of};
 ghost use Rattle.drive_port.specs.Drive.{IsLawful};
 ghost use Rattle.drive_port.specs.Halting.{Adds, SubmitAdds, SubmitGives};
@@ -6,9 +6,11 @@ ghost use Rattle.drive_port.specs.Step.{decode_status};
 ghost use Rattle.zone_drive.specs.Choice.{AnswersByChoice, Gives};
 ghost use Rattle.zone_drive.specs.Memory.{may_allocate};
 ghost use Rattle.zone_drive.specs.Counts.{counted};
+ghost use Rattle.zone_drive.specs.Held.{LeavesJust, LeavesOrNow};
 
-use crate::drive::Drive;
+use crate::held::HeldZones;
 use crate::reply::Reply;
+use crate::zone_drive::ZoneDrive;
 use drive_port::{Device, Geometry, Halt};
 use nvme_wire::{Command, Completion, DecodeFault, Status, entry_id};
 
@@ -22,25 +24,45 @@ pub(crate) fn fault_status(fault: DecodeFault) -> Status
     }
 }
 
-impl Drive {
+impl<Z: HeldZones + Drop> ZoneDrive<Z> {
+    // A Flush.
+    fn flush(&mut self) -> Result<Reply, Halt>
+        ensures ok { (bytes : List ℕ) → IfOk result (λ reply.
+            Gives self.old.drive (Ok Command.Flush) bytes reply [] self.new.drive) }
+        ensures kept { OnErr result (self.new.drive ≡ self.old.drive) }
+        ensures only { IfErr result (λ halt. halt ≡ Halt.Stopped) }
+        ensures stops { OnErr result (IsTrue Z.may_stop) }
+        ensures halted { self.new.halted ≡ self.old.halted }
+        ensures leaves { LeavesOrNow Z.leaves (Z.stored self.old.held) self.old.held self.new.held }
+        ensures flushed { OnOk result (LeavesJust Z.leaves (Z.stored self.old.held) self.new.held) }
+    {
+        self.zones.flush()?;
+        Ok(Reply::done(0))
+    }
+
     // Does a command. What it returns goes after what `into` holds.
     #[inline(always)]
     fn execute(&mut self, command: Command, bytes: &[u8], into: &mut Vec<u8>) -> Result<Reply, Halt>
         requires admitted { IsAdmitted command }
         ensures ok { IfOk result (λ reply. Adds into.old.items
-            (λ returned. Gives self.old (Ok command) bytes.now reply returned self.new)
+            (λ returned. Gives self.old.drive (Ok command) bytes.now reply returned self.new.drive)
             into.new.items) }
-        ensures err { IfErr result (λ halt. halt ≡ Halt.Memory) }
-        ensures allocates { OnErr result (may_allocate (Ok command) ≡ true) }
-        ensures kept { OnErr result (self.new ≡ self.old) }
+        ensures allocates { IsErrOf result Halt.Memory → may_allocate (Ok command) ≡ true }
         ensures returned { OnErr result (into.new.items ≡ into.old.items) }
+        ensures kept { OnErr result (self.new.drive ≡ self.old.drive) }
+        ensures memory { IsErrOf result Halt.Memory → self.new ≡ self.old }
+        ensures stops { IsErrOf result Halt.Stopped → IsTrue Z.may_stop }
+        ensures halted { self.new.halted ≡ self.old.halted }
+        ensures leaves { LeavesOrNow Z.leaves (Z.stored self.old.held) self.old.held self.new.held }
+        ensures flushed { OnOk result (command ≡ Command.Flush
+            → LeavesJust Z.leaves (Z.stored self.old.held) self.new.held) }
     {
         match command {
-            Command::Flush => Ok(Reply::done(0)),
+            Command::Flush => Ok(self.flush()?),
             Command::Read { slba, blocks } => self.read(slba, blocks, into),
             Command::Write { slba, blocks } => self.write(slba, blocks, bytes),
             Command::Append { zslba, blocks } => self.append(zslba, blocks, bytes),
-            Command::Send { slba, action, all } => Ok(self.send(slba, action, all)),
+            Command::Send { slba, action, all } => Ok(self.send(slba, action, all)?),
             Command::Receive {
                 slba,
                 dwords,
@@ -60,11 +82,17 @@ impl Drive {
     ) -> Result<Reply, Halt>
         requires admitted { IfOk command IsAdmitted }
         ensures ok { IfOk result (λ reply. Adds into.old.items
-            (λ returned. Gives self.old command bytes.now reply returned self.new) into.new.items) }
-        ensures err { IfErr result (λ halt. halt ≡ Halt.Memory) }
-        ensures allocates { OnErr result (may_allocate command ≡ true) }
-        ensures kept { OnErr result (self.new ≡ self.old) }
+            (λ returned. Gives self.old.drive command bytes.now reply returned self.new.drive)
+            into.new.items) }
+        ensures allocates { IsErrOf result Halt.Memory → may_allocate command ≡ true }
         ensures returned { OnErr result (into.new.items ≡ into.old.items) }
+        ensures kept { OnErr result (self.new.drive ≡ self.old.drive) }
+        ensures memory { IsErrOf result Halt.Memory → self.new ≡ self.old }
+        ensures stops { IsErrOf result Halt.Stopped → IsTrue Z.may_stop }
+        ensures halted { self.new.halted ≡ self.old.halted }
+        ensures leaves { LeavesOrNow Z.leaves (Z.stored self.old.held) self.old.held self.new.held }
+        ensures flushed { OnOk result (command ≡ Ok Command.Flush
+            → LeavesJust Z.leaves (Z.stored self.old.held) self.new.held) }
     {
         match command {
             Ok(command) => self.execute(command, bytes, into),
@@ -74,10 +102,13 @@ impl Drive {
 
     // Counts a command that was completed.
     fn count(&mut self, command: Result<Command, DecodeFault>, status: Status)
-        requires { self.old.state.completed < 2 ^ 63 }
-        ensures counted { self.new ≡
-            record self.old { state = counted self.old.state command status } }
-        ensures lawful { IsLawful self.new.state }
+        requires few { self.old.drive.state.completed < 2 ^ 63 }
+        requires going { self.old.halted ≡ false }
+        ensures counted { self.new ≡ record self.old {
+          drive =
+              record self.old.drive { state = counted self.old.drive.state command status };
+        } }
+        ensures lawful { IsLawful self.new.drive.state }
     {
         self.completed += 1;
         if status != Status::Success {
@@ -87,6 +118,22 @@ impl Drive {
         if let Ok(Command::Append { .. }) = command {
             self.appended += 1;
         }
+    }
+
+    // Notes that what holds the zones has stopped, where it has.
+    fn note(&mut self, halt: Halt) -> Halt
+        requires stops { halt ≡ Halt.Stopped → IsTrue Z.may_stop }
+        ensures same { result ≡ halt }
+        ensures memory { halt ≡ Halt.Memory → self.new ≡ self.old }
+        ensures stopped { halt ≡ Halt.Stopped → self.new ≡ record self.old {
+          halted = true;
+          drive = record self.old.drive { state = record self.old.drive.state { stopped = true } };
+        } }
+    {
+        if halt == Halt::Stopped {
+            self.halted = true;
+        }
+        halt
     }
 
     /// Answers an entry as `submit` does, and extends what `into` holds as `submit_extending` does.
@@ -99,22 +146,33 @@ impl Drive {
         bytes: &[u8],
         into: &mut Vec<u8>,
     ) -> Result<[u8; 16], Halt>
-        ensures gives { SubmitAdds self.old.state entry.now bytes.now into.old.items result
-            into.new.items self.new.state }
-        ensures was_lawful { IsLawful self.old.state }
-        ensures lawful { IsLawful self.new.state }
+        ensures gives { SubmitAdds self.old.drive.state entry.now bytes.now into.old.items result
+            into.new.items self.new.drive.state }
+        ensures was_lawful { IsLawful self.old.drive.state }
+        ensures lawful { IsLawful self.new.drive.state }
         ensures memory { IsErrOf result Halt.Memory → may_allocate (decode_of entry.now) ≡ true }
         ensures choice { IfOk result (λ completion. Adds into.old.items
-            (λ returned. AnswersByChoice self.old entry.now bytes.now completion returned self.new)
-            into.new.items) }
-        ensures stops { self.new.state.stopped ≡ nat_le (2 ^ 63) self.new.state.completed }
-        ensures kept { OnErr result (self.new ≡ self.old) }
+            (λ returned. AnswersByChoice self.old.drive entry.now bytes.now completion returned
+            self.new.drive) into.new.items) }
+        ensures stops { self.new.drive.state.stopped
+            ≡ self.new.halted || nat_le (2 ^ 63) self.new.drive.state.completed }
+        ensures halts { IsTrue self.new.halted → IsTrue Z.may_stop }
+        ensures kept { OnErr result ((self.new ≡ self.old) ⊎ IsTrue Z.may_stop) }
+
+        // An open after a loss of power finds what it might have found before, or the zones before this command; after a
+        // Flush that succeeded just these.
+        ensures leaves { LeavesOrNow Z.leaves (Z.stored self.old.held) self.old.held self.new.held }
+        ensures flushed { OnOk result (decode_of entry.now ≡ Ok Command.Flush
+            → LeavesJust Z.leaves (Z.stored self.old.held) self.new.held) }
     {
         if self.stopped() {
             return Err(Halt::Stopped);
         }
         let command = Command::decode(entry);
-        let reply = self.perform(command, bytes, into)?;
+        let reply = match self.perform(command, bytes, into) {
+            Ok(reply) => reply,
+            Err(halt) => return Err(self.note(halt)),
+        };
         self.settle();
         self.count(command, reply.status);
         let completion = Completion {
@@ -126,8 +184,8 @@ impl Drive {
     }
 }
 
-impl Device for Drive {
-    ghost drive = { λ d. d.state };
+impl<Z: HeldZones + Drop> Device for ZoneDrive<Z> {
+    ghost drive = { λ d. d.drive.state };
 
     fn geometry(&self) -> Geometry {
         self.geometry
@@ -138,11 +196,13 @@ impl Device for Drive {
     }
 
     fn stopped(&self) -> bool
-        ensures value { result ≡ self.now.state.stopped }
-        ensures lawful { IsLawful self.now.state }
-        ensures by_count { self.now.state.stopped ≡ nat_le (2 ^ 63) self.now.state.completed }
+        ensures value { result ≡ self.now.drive.state.stopped }
+        ensures lawful { IsLawful self.now.drive.state }
+        ensures by_count { self.now.drive.state.stopped
+            ≡ self.now.halted || nat_le (2 ^ 63) self.now.drive.state.completed }
+        ensures halts { IsTrue self.now.halted → IsTrue Z.may_stop }
     {
-        self.completed >= 1 << 63
+        self.halted || self.completed >= 1 << 63
     }
 
     #[inline(always)]
@@ -152,19 +212,13 @@ impl Device for Drive {
         bytes: &[u8],
         into: &mut Vec<u8>,
     ) -> Result<[u8; 16], Halt>
-        ensures gives { SubmitGives self.old.state entry.now bytes.now result into.new.items
-            self.new.state }
-        ensures was_lawful { IsLawful self.old.state }
-        ensures lawful { IsLawful self.new.state }
-
-        // Only a Read, a Write, an Append or a Receive may be out of memory.
-        ensures memory { IsErrOf result Halt.Memory → may_allocate (decode_of entry.now) ≡ true }
-
-        // It closes what its habit says, and stops only by its count.
-        ensures choice { IfOk result (λ completion.
-            AnswersByChoice self.old entry.now bytes.now completion into.new.items self.new) }
-        ensures stops { self.new.state.stopped ≡ nat_le (2 ^ 63) self.new.state.completed }
-        ensures kept { OnErr result (self.new ≡ self.old) }
+        ensures gives { SubmitGives self.old.drive.state entry.now bytes.now result into.new.items
+            self.new.drive.state }
+        ensures was_lawful { IsLawful self.old.drive.state }
+        ensures lawful { IsLawful self.new.drive.state }
+        ensures leaves { LeavesOrNow Z.leaves (Z.stored self.old.held) self.old.held self.new.held }
+        ensures flushed { OnOk result (decode_of entry.now ≡ Ok Command.Flush
+            → LeavesJust Z.leaves (Z.stored self.old.held) self.new.held) }
     {
         into.clear();
         self.answer(entry, bytes, into)
@@ -172,18 +226,13 @@ impl Device for Drive {
 
     #[inline(always)]
     fn submit_extending(&mut self, entry: &[u8; 64], into: &mut Vec<u8>) -> Result<[u8; 16], Halt>
-        ensures gives { SubmitAdds self.old.state entry.now [] into.old.items result into.new.items
-            self.new.state }
-        ensures was_lawful { IsLawful self.old.state }
-        ensures lawful { IsLawful self.new.state }
-
-        // Of the memory, of what it closes and of when it stops, it keeps what `submit` does.
-        ensures memory { IsErrOf result Halt.Memory → may_allocate (decode_of entry.now) ≡ true }
-        ensures choice { IfOk result (λ completion. Adds into.old.items
-            (λ returned. AnswersByChoice self.old entry.now [] completion returned self.new)
-            into.new.items) }
-        ensures stops { self.new.state.stopped ≡ nat_le (2 ^ 63) self.new.state.completed }
-        ensures kept { OnErr result (self.new ≡ self.old) }
+        ensures gives { SubmitAdds self.old.drive.state entry.now [] into.old.items result into.new.items
+            self.new.drive.state }
+        ensures was_lawful { IsLawful self.old.drive.state }
+        ensures lawful { IsLawful self.new.drive.state }
+        ensures leaves { LeavesOrNow Z.leaves (Z.stored self.old.held) self.old.held self.new.held }
+        ensures flushed { OnOk result (decode_of entry.now ≡ Ok Command.Flush
+            → LeavesJust Z.leaves (Z.stored self.old.held) self.new.held) }
     {
         self.answer(entry, &[], into)
     }

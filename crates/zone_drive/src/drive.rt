@@ -1,20 +1,31 @@
-ghost use Rattle.std.specs.Prelude.{◌≡◌, ◌<◌, ◌≤◌, ◌↔◌, [], length, replicate, IfErr, IfOk, IfSome, IsSome, OnOk};
+ghost use Rattle.std.specs.Prelude.{◌≡◌, ◌<◌, ◌≤◌, ◌^◌, ◌↔◌, [], false, length, nat_le, replicate, true, IfErr, IfOk, IfSome, IsErrOf, IsSome, OnErr, OnOk};
 ghost use Rattle.std.specs.List.{AllByRecursion, list_all};
+ghost use Rattle.nvme_wire.specs.Entry.{decode_of};
 ghost use Rattle.zone_states.specs.Geometry.{IsInRange};
 ghost use Rattle.zone_states.specs.Stored.{AreWholeBlocks, zone_stored};
+ghost use Rattle.drive_port.specs.Drive.{IsLawful};
+ghost use Rattle.drive_port.specs.Halting.{Adds, SubmitAdds, SubmitGives};
 ghost use Rattle.drive_port.specs.Run.{restarted};
 ghost use Rattle.drive_port.specs.Step.{zone_at};
+ghost use Rattle.zone_drive.specs.Choice.{AnswersByChoice};
 ghost use Rattle.zone_drive.specs.Faults.{IsFault, IsFreshFault};
+ghost use Rattle.zone_drive.specs.Foreseen.{Foresees};
 ghost use Rattle.zone_drive.specs.Habits.{made};
+ghost use Rattle.zone_drive.specs.Memory.{may_allocate};
 ghost use Rattle.zone_drive.specs.Stored.{AreZones, fresh, is_lawful, unused, zones_of};
 ghost use Rattle.zone_drive.specs.declared.drive.DriveFault.TheVariants.{OutOfMemory};
 
 use crate::habit::Habit;
-use crate::zones::Zones;
+use crate::held::HeldZones;
+use crate::memory_zones::MemoryZones;
+use crate::zone_drive::ZoneDrive;
+use drive_port::{Device, Halt};
+use nvme_wire::Status;
 use std::alloc::{AllocError, Global};
 use std::marker::Model;
 use thiserror::Error;
-use zone_states::{Action, Geometry, GeometryFault, Zone, ZoneState};
+use zone_report::{ReportedZones, ZoneStatus};
+use zone_states::{Geometry, GeometryFault, Zone, ZoneState};
 
 /// Why there is no drive.
 #[derive(Clone, Copy, Debug, PartialEq, Eq, Error)]
@@ -38,42 +49,21 @@ impl From<AllocError> for DriveFault {
     }
 }
 
-/// A zoned drive in memory. Its habit says which zones it closes by itself.
+/// A zoned drive in memory.
 #[derive(Drop)]
 pub struct Drive {
-    pub(crate) geometry: Geometry,
-    pub(crate) zones: Zones,
-    pub(crate) completed: u64,
-    // Of the completed commands, those that were refused, and the Appends that succeeded.
-    pub(crate) refused: u64,
-    pub(crate) appended: u64,
-    pub(crate) habit: Habit,
-    pub(crate) alloc: Global,
+    held: ZoneDrive<MemoryZones>,
 }
 
 impl Model for Drive {
-    ghost use Rattle.std.specs.Prelude.{nat_le, ◌^◌, ◌≤◌};
+    ghost use Rattle.std.specs.Prelude.{◌≡◌, false};
     ghost use Rattle.zone_drive.specs.Habits.{MemoryDrive};
 
     ghost Value = { MemoryDrive };
 
-    ghost use Rattle.zone_states.specs.Geometry.{IsInRange};
-    ghost use Rattle.zone_drive.specs.Stored.{AreZones, zones_of};
+    ghost view = { λ d. d.held.drive };
 
-    ghost view = { λ d. record {
-      state = record {
-        geometry = d.geometry;
-        zones = zones_of d.geometry.block d.zones;
-        completed = d.completed;
-        refused = d.refused;
-        appended = d.appended;
-        stopped = nat_le (2 ^ 63) d.completed;
-      };
-      habit = d.habit;
-    } };
-
-    ghost invariant = { λ d. IsInRange d.geometry × AreZones d.geometry d.zones
-        × (d.completed ≤ 2 ^ 63) × (d.refused ≤ d.completed) × (d.appended ≤ d.completed) };
+    ghost invariant = { λ d. d.held.halted ≡ false };
 }
 
 // Whether a zone holds whole blocks, as many as its state allows.
@@ -114,19 +104,14 @@ fn empty_zones(alloc: Global, count: u32) -> Result<Vec<Zone>, AllocError>
 }
 
 // A drive of these zones, which has completed no command.
-fn unused(alloc: Global, geometry: Geometry, zones: Zones) -> Drive
+fn unused(alloc: Global, geometry: Geometry, zones: MemoryZones) -> Drive
     requires in_range { IsInRange geometry }
-    requires zones { AreZones geometry zones }
-    ensures { result ≡ made (unused geometry (zones_of geometry.block zones)) }
+    requires zones { AreZones geometry zones.zones }
+    requires shape { zones.shape ≡ geometry }
+    ensures { result ≡ made (unused geometry (zones_of geometry.block zones.zones)) }
 {
     Drive {
-        geometry,
-        zones,
-        completed: 0,
-        refused: 0,
-        appended: 0,
-        habit: Habit::Lazy,
-        alloc,
+        held: ZoneDrive::new(alloc, geometry, zones),
     }
 }
 
@@ -141,7 +126,7 @@ impl Drive {
             return Err(DriveFault::Geometry(fault));
         }
         let zones = empty_zones(alloc, geometry.zones)?;
-        Ok(unused(alloc, geometry, Zones::new(zones)))
+        Ok(unused(alloc, geometry, MemoryZones::new(geometry, zones)))
     }
 
     /// A drive of this shape with these zones, which has completed no command. Its habit is `Lazy`. It
@@ -165,7 +150,7 @@ impl Drive {
         if !all_lawful(&geometry, &zones) {
             return Err(DriveFault::Zones);
         }
-        let zones = Zones::new(zones);
+        let zones = MemoryZones::new(geometry, zones);
         if zones.active_zones() > geometry.active || zones.open_zones() > geometry.open {
             return Err(DriveFault::Zones);
         }
@@ -180,7 +165,7 @@ impl Drive {
             (λ zone. AreWholeBlocks self.now.state.geometry.block zone.now.bytes) }
         ensures in_range { IsSome result ↔ (index < length self.now.state.zones) }
     {
-        self.zones.as_slice().get(index)
+        self.held.zones.as_slice().get(index)
     }
 
     /// All zones, in ascending order.
@@ -190,16 +175,136 @@ impl Drive {
             (λ zone. AreWholeBlocks self.now.state.geometry.block zone.bytes) result.now }
         ensures in_range { IsInRange self.now.state.geometry }
     {
-        self.zones.as_slice()
+        self.held.zones.as_slice()
     }
 
     /// Makes open zones Closed, and begins all counts again. The habit stays. It allocates nothing.
     pub fn restart(&mut self)
         ensures { self.new ≡ record self.old { state = restarted self.old.state } }
     {
-        self.send_to_all(Action::Close);
-        self.completed = 0;
-        self.refused = 0;
-        self.appended = 0;
+        let _ = self.held.restart();
+    }
+
+    /// Which zones the drive closes by itself.
+    pub fn habit(&self) -> Habit
+        ensures { result ≡ self.now.habit }
+    {
+        self.held.habit()
+    }
+
+    /// Changes which zones the drive closes by itself, from the next command on. An image does not store
+    /// it, and a restart keeps it. It allocates nothing.
+    pub fn set_habit(&mut self, habit: Habit)
+        ensures { self.new ≡ record self.old { habit = habit } }
+    {
+        self.held.set_habit(habit);
+    }
+
+    /// Answers an entry as `submit` does, and extends what `into` holds as `submit_extending` does.
+    #[inline(always)]
+    pub fn answer(
+        &mut self,
+        entry: &[u8; 64],
+        bytes: &[u8],
+        into: &mut Vec<u8>,
+    ) -> Result<[u8; 16], Halt>
+        ensures gives { SubmitAdds self.old.state entry.now bytes.now into.old.items result
+            into.new.items self.new.state }
+        ensures was_lawful { IsLawful self.old.state }
+        ensures lawful { IsLawful self.new.state }
+        ensures memory { IsErrOf result Halt.Memory → may_allocate (decode_of entry.now) ≡ true }
+        ensures choice { IfOk result (λ completion. Adds into.old.items
+            (λ returned. AnswersByChoice self.old entry.now bytes.now completion returned self.new)
+            into.new.items) }
+        ensures stops { self.new.state.stopped ≡ nat_le (2 ^ 63) self.new.state.completed }
+        ensures kept { OnErr result (self.new ≡ self.old) }
+    {
+        self.held.answer(entry, bytes, into)
+    }
+
+    /// The status with which the command of this entry will end, if there is memory for it and the drive has not
+    /// stopped. It allocates nothing.
+    pub fn foresee(&self, entry: &[u8; 64], bytes: &[u8]) -> Status
+        ensures { Foresees self.now (decode_of entry.now) bytes.now result }
+    {
+        self.held.foresee(entry, bytes)
+    }
+
+    /// Takes the memory that the command of this entry needs for its blocks. Nothing else changes.
+    pub fn reserve(&mut self, entry: &[u8; 64], bytes: &[u8]) -> Result<(), AllocError>
+        ensures { self.new ≡ self.old }
+    {
+        self.held.reserve(entry, bytes)
+    }
+}
+
+impl Device for Drive {
+    ghost drive = { λ d. d.state };
+
+    fn geometry(&self) -> Geometry {
+        self.held.geometry()
+    }
+
+    fn completed(&self) -> u64 {
+        self.held.completed()
+    }
+
+    fn stopped(&self) -> bool
+        ensures value { result ≡ self.now.state.stopped }
+        ensures lawful { IsLawful self.now.state }
+        ensures by_count { self.now.state.stopped ≡ nat_le (2 ^ 63) self.now.state.completed }
+    {
+        self.held.stopped()
+    }
+
+    #[inline(always)]
+    fn submit(
+        &mut self,
+        entry: &[u8; 64],
+        bytes: &[u8],
+        into: &mut Vec<u8>,
+    ) -> Result<[u8; 16], Halt>
+        ensures gives { SubmitGives self.old.state entry.now bytes.now result into.new.items
+            self.new.state }
+        ensures was_lawful { IsLawful self.old.state }
+        ensures lawful { IsLawful self.new.state }
+
+        // Only a Read, a Write, an Append or a Receive may be out of memory.
+        ensures memory { IsErrOf result Halt.Memory → may_allocate (decode_of entry.now) ≡ true }
+
+        // It closes what its habit says, and stops only by its count.
+        ensures choice { IfOk result (λ completion.
+            AnswersByChoice self.old entry.now bytes.now completion into.new.items self.new) }
+        ensures stops { self.new.state.stopped ≡ nat_le (2 ^ 63) self.new.state.completed }
+        ensures kept { OnErr result (self.new ≡ self.old) }
+    {
+        into.clear();
+        self.answer(entry, bytes, into)
+    }
+
+    #[inline(always)]
+    fn submit_extending(&mut self, entry: &[u8; 64], into: &mut Vec<u8>) -> Result<[u8; 16], Halt>
+        ensures gives { SubmitAdds self.old.state entry.now [] into.old.items result into.new.items
+            self.new.state }
+        ensures was_lawful { IsLawful self.old.state }
+        ensures lawful { IsLawful self.new.state }
+
+        // Of the memory, of what it closes and of when it stops, it keeps what `submit` does.
+        ensures memory { IsErrOf result Halt.Memory → may_allocate (decode_of entry.now) ≡ true }
+        ensures choice { IfOk result (λ completion. Adds into.old.items
+            (λ returned. AnswersByChoice self.old entry.now [] completion returned self.new)
+            into.new.items) }
+        ensures stops { self.new.state.stopped ≡ nat_le (2 ^ 63) self.new.state.completed }
+        ensures kept { OnErr result (self.new ≡ self.old) }
+    {
+        self.answer(entry, &[], into)
+    }
+}
+
+impl ReportedZones for Drive {
+    ghost zones = { λ d. d.state.zones };
+
+    fn status(&self, number: u32) -> ZoneStatus {
+        self.held.status(number)
     }
 }

@@ -8,18 +8,19 @@ ghost use Rattle.drive_port.specs.Step.{zone_at};
 ghost use Rattle.zone_drive.specs.Foreseen.{CouldOpen, CouldWrite, Foresees};
 
 use crate::device::fault_status;
-use crate::drive::Drive;
+use crate::held::HeldZones;
+use crate::zone_drive::ZoneDrive;
 use nvme_wire::{Action, Command, Status};
 use std::alloc::AllocError;
 
-impl Drive {
+impl<Z: HeldZones + Drop> ZoneDrive<Z> {
     // The status of a Write or an Append to a zone that takes it, where the zone lacks a resource.
     fn write_room_refusal(&self, number: u32, bytes: &[u8]) -> Option<Status>
-        requires in_range { number < self.now.state.geometry.zones }
-        requires checks { None ≡ first_failing (append_bytes_checks self.now.state.geometry
-            (zone_at self.now.state.zones number) bytes.now) }
-        ensures could { CouldWrite self.now number bytes.now result }
-        ensures limit { open_count self.now.state.zones ≤ self.now.state.geometry.open }
+        requires in_range { number < self.now.drive.state.geometry.zones }
+        requires checks { None ≡ first_failing (append_bytes_checks self.now.drive.state.geometry
+            (zone_at self.now.drive.state.zones number) bytes.now) }
+        ensures could { CouldWrite self.now.drive number bytes.now result }
+        ensures limit { open_count self.now.drive.state.zones ≤ self.now.drive.state.geometry.open }
     {
         let _ = &self.geometry;
         self.room_for(number).err()
@@ -27,16 +28,16 @@ impl Drive {
 
     // The status of an Open of a zone that can be opened, where the zone lacks a resource.
     fn open_room_refusal(&self, number: u32) -> Option<Status>
-        requires { number < self.now.state.geometry.zones }
-        ensures could { CouldOpen self.now number result }
-        ensures limit { open_count self.now.state.zones ≤ self.now.state.geometry.open }
+        requires { number < self.now.drive.state.geometry.zones }
+        ensures could { CouldOpen self.now.drive number result }
+        ensures limit { open_count self.now.drive.state.zones ≤ self.now.drive.state.geometry.open }
     {
         let _ = &self.geometry;
         self.room_for(number).err()
     }
 
     fn foresee_append(&self, zslba: u64, blocks: u32, bytes: &[u8]) -> Status
-        ensures { Foresees self.now (Ok (Command.Append zslba blocks)) bytes.now result }
+        ensures { Foresees self.now.drive (Ok (Command.Append zslba blocks)) bytes.now result }
     {
         let geometry = self.geometry;
         if let Some(status) = self.append_refusal(zslba, blocks, bytes) {
@@ -48,7 +49,7 @@ impl Drive {
 
     fn foresee_write(&self, slba: u64, blocks: u32, bytes: &[u8]) -> Status
         requires { 1 ≤ blocks }
-        ensures { Foresees self.now (Ok (Command.Write slba blocks)) bytes.now result }
+        ensures { Foresees self.now.drive (Ok (Command.Write slba blocks)) bytes.now result }
     {
         let geometry = self.geometry;
         if let Some(status) = self.write_refusal(slba, blocks, bytes) {
@@ -59,7 +60,7 @@ impl Drive {
     }
 
     fn foresee_send(&self, slba: u64, action: Action) -> Status
-        ensures { (bytes : List ℕ) → Foresees self.now (Ok (Command.Send slba action false)) bytes result }
+        ensures { (bytes : List ℕ) → Foresees self.now.drive (Ok (Command.Send slba action false)) bytes result }
     {
         let geometry = self.geometry;
         if let Some(status) = self.send_refusal(slba, action) {
@@ -73,7 +74,7 @@ impl Drive {
     }
 
     fn foresee_send_to_all(&self, slba: u64, action: Action) -> Status
-        ensures { (bytes : List ℕ) → Foresees self.now (Ok (Command.Send slba action true)) bytes result }
+        ensures { (bytes : List ℕ) → Foresees self.now.drive (Ok (Command.Send slba action true)) bytes result }
     {
         let _ = &self.geometry;
         Status::Success
@@ -81,10 +82,10 @@ impl Drive {
 
     fn foresee_read(&self, slba: u64, blocks: u32) -> Status
         requires { 1 ≤ blocks }
-        ensures { (bytes : List ℕ) → Foresees self.now (Ok (Command.Read slba blocks)) bytes result }
+        ensures { (bytes : List ℕ) → Foresees self.now.drive (Ok (Command.Read slba blocks)) bytes result }
     {
         let _ = &self.geometry;
-        match self.written_from(slba, blocks) {
+        match self.read_place(slba, blocks) {
             Ok(_) => Status::Success,
             Err(status) => status,
         }
@@ -92,7 +93,7 @@ impl Drive {
 
     fn foresee_receive(&self, slba: u64) -> Status
         ensures { (dwords : ℕ) (options : ReportingOptions) (partial : Bool) (bytes : List ℕ) →
-            Foresees self.now (Ok (Command.Receive slba dwords options partial)) bytes result }
+            Foresees self.now.drive (Ok (Command.Receive slba dwords options partial)) bytes result }
     {
         if slba >= self.geometry.end() {
             return Status::LbaOutOfRange;
@@ -102,7 +103,7 @@ impl Drive {
 
     fn foresee_command(&self, command: Command, bytes: &[u8]) -> Status
         requires { IsAdmitted command }
-        ensures { Foresees self.now (Ok command) bytes.now result }
+        ensures { Foresees self.now.drive (Ok command) bytes.now result }
     {
         let _ = &self.geometry;
         match command {
@@ -127,7 +128,7 @@ impl Drive {
     /// The status with which the command of this entry will end, if there is memory for it and the drive has not
     /// stopped. It allocates nothing.
     pub fn foresee(&self, entry: &[u8; 64], bytes: &[u8]) -> Status
-        ensures { Foresees self.now (decode_of entry.now) bytes.now result }
+        ensures { Foresees self.now.drive (decode_of entry.now) bytes.now result }
     {
         let _ = &self.geometry;
         match Command::decode(entry) {

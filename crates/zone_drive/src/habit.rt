@@ -1,8 +1,10 @@
 ghost use Rattle.std.specs.Prelude.{◌≡◌, true, IfNone, IfSome};
 ghost use Rattle.zone_drive.specs.Choice.{IsLowestOpened, close_lowest};
 ghost use Rattle.zone_drive.specs.Habits.{makes_room, settled, with_zones};
+ghost use Rattle.zone_drive.specs.Held.{LeavesNoMore};
 
-use crate::drive::Drive;
+use crate::held::HeldZones;
+use crate::zone_drive::ZoneDrive;
 
 /// Which zones a drive closes by itself. They are only ever Implicitly Opened zones.
 #[derive(Clone, Copy, Debug, PartialEq, Eq)]
@@ -17,29 +19,14 @@ pub enum Habit {
     Strict,
 }
 
-impl Drive {
-    /// Which zones the drive closes by itself.
-    pub fn habit(&self) -> Habit
-        ensures { result ≡ self.now.habit }
-    {
-        self.habit
-    }
-
-    /// Changes which zones the drive closes by itself, from the next command on. An image does not store
-    /// it, and a restart keeps it. It allocates nothing.
-    pub fn set_habit(&mut self, habit: Habit)
-        ensures { self.new ≡ record self.old { habit = habit } }
-    {
-        self.habit = habit;
-    }
-
+impl<Z: HeldZones + Drop> ZoneDrive<Z> {
     /// The zone to close where an open resource is missing: the lowest implicitly opened one. A strict
     /// drive closes none.
     pub(crate) fn zone_to_close(&self) -> Option<usize>
-        ensures makes { IfSome result (λ low. makes_room self.now.habit ≡ true) }
-        ensures lowest { IfSome result (λ low. IsLowestOpened self.now.state.zones low) }
-        ensures none { makes_room self.now.habit ≡ true →
-            IfNone result (close_lowest self.now.state.zones ≡ self.now.state.zones) }
+        ensures makes { IfSome result (λ low. makes_room self.now.drive.habit ≡ true) }
+        ensures lowest { IfSome result (λ low. IsLowestOpened self.now.drive.state.zones low) }
+        ensures none { makes_room self.now.drive.habit ≡ true →
+            IfNone result (close_lowest self.now.drive.state.zones ≡ self.now.drive.state.zones) }
     {
         if self.habit == Habit::Strict {
             return None;
@@ -49,7 +36,10 @@ impl Drive {
 
     /// Closes what the drive closes by itself after a command.
     pub(crate) fn settle(&mut self)
-        ensures { self.new ≡ with_zones self.old (settled self.old.habit self.old.state.zones) }
+        ensures settled { self.new.drive
+            ≡ with_zones self.old.drive (settled self.old.drive.habit self.old.drive.state.zones) }
+        ensures halted { self.new.halted ≡ self.old.halted }
+        ensures leaves { LeavesNoMore Z.leaves self.old.held self.new.held }
     {
         if self.habit == Habit::Closing {
             self.zones.close_implicit();

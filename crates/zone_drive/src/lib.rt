@@ -1,4 +1,4 @@
-//! A zoned drive in memory: a device of `drive_port` whose zones are vectors of bytes.
+//! A zoned drive over what holds its zones, a device of `drive_port`; and one whose zones are vectors of bytes.
 //!
 //! # Example
 //!
@@ -12,14 +12,19 @@
 //!
 //! # What is promised
 //!
-//! * The drive is a `Device`: each command does what the step of `drive_port` says, and nothing else.
+//! * A `ZoneDrive` is a `Device` over whatever holds its zones (`HeldZones`): each command does what the step of
+//!   `drive_port` says, and nothing else. It asks of what holds the zones only what its rules admit. Where that has
+//!   stopped, the drive has stopped inside the command, and the zones are as before it.
 //! * Where the step leaves a choice, the drive makes it by its habit (`specs/Choice.antt`). A drive is
 //!   made `Lazy`: it closes the lowest implicitly opened zone where a command needs an open resource and
 //!   none is left, and no other zone ever. It stops once it has completed 2^63 commands.
+//! * What an open may find after a loss of power is what it might have found before the command, or the zones before
+//!   the command. After a Flush that succeeded it is just the zones that are there (`specs/Held.antt`).
 //! * Only a Read, a Write, an Append and a Receive may be out of memory (`specs/Memory.antt`), and then
 //!   nothing changed.
-//! * A drive can be made of any zones that a drive of its geometry can have (`AreZones` in
-//!   `specs/Stored.antt`), and shows its zones at any time.
+//! * `Drive` is the drive over zones in memory, which never stop. After a loss of power an open finds nothing of it. It
+//!   can be made of any zones that a drive of its geometry can have (`AreZones` in `specs/Stored.antt`), and shows
+//!   its zones at any time.
 //!
 //! Each command has a file of its own.
 //!
@@ -30,6 +35,8 @@ mod device;
 mod drive;
 mod foresee;
 mod habit;
+mod held;
+mod memory_zones;
 mod opening;
 mod read;
 mod receive;
@@ -38,8 +45,11 @@ mod resources;
 mod send;
 mod shape;
 mod write;
-mod zones;
+mod zone_drive;
 
 pub use drive::{Drive, DriveFault};
 pub use habit::Habit;
-pub use zones::apply_to_each;
+pub use held::HeldZones;
+pub use memory_zones::{MemoryZones, apply_to_each};
+pub use resources::{HasState, Resources};
+pub use zone_drive::ZoneDrive;

@@ -3,19 +3,20 @@ ghost use Rattle.zone_states.specs.Checks.{first_failing};
 ghost use Rattle.drive_port.specs.Step.{resource_checks, zone_at};
 ghost use Rattle.zone_drive.specs.Choice.{RoomGives};
 
-use crate::drive::Drive;
+use crate::held::HeldZones;
+use crate::zone_drive::ZoneDrive;
 use nvme_wire::Status;
 use zone_states::ZoneState;
 
-impl Drive {
+impl<Z: HeldZones + Drop> ZoneDrive<Z> {
     // Whether there are the resources that a zone needs to be opened.
     fn resource_refusal(&self, number: u32) -> Option<Status>
-        requires { number < self.now.state.geometry.zones }
+        requires { number < self.now.drive.state.geometry.zones }
         ensures { result ≡ first_failing
-            (resource_checks self.now.state.geometry self.now.state.zones
-            (zone_at self.now.state.zones number)) }
+            (resource_checks self.now.drive.state.geometry self.now.drive.state.zones
+            (zone_at self.now.drive.state.zones number)) }
     {
-        let state = self.zone_numbered(number).state();
+        let state = self.state_of(number);
         if state == ZoneState::Empty && self.zones.active_zones() >= self.geometry.active {
             return Some(Status::TooManyActiveZones);
         }
@@ -31,9 +32,9 @@ impl Drive {
     /// Makes sure of the resources that a zone needs to be opened. Where the limit on open zones is met,
     /// `Some` is the zone that is to be closed: the lowest implicitly opened one. A strict drive closes none.
     pub(crate) fn room_for(&self, number: u32) -> Result<Option<usize>, Status>
-        requires { number < self.now.state.geometry.zones }
-        ensures { RoomGives self.now.habit self.now.state.geometry self.now.state.zones
-            (zone_at self.now.state.zones number) result }
+        requires { number < self.now.drive.state.geometry.zones }
+        ensures { RoomGives self.now.drive.habit self.now.drive.state.geometry self.now.drive.state.zones
+            (zone_at self.now.drive.state.zones number) result }
     {
         match self.resource_refusal(number) {
             None => Ok(None),

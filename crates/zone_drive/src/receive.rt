@@ -2,25 +2,26 @@ ghost use Rattle.std.specs.Prelude.{◌≡◌, ◌≤◌, ℕ, List, Ok, IfOk, I
 ghost use Rattle.drive_port.specs.Halting.{Adds};
 ghost use Rattle.zone_drive.specs.Choice.{Gives};
 
-use crate::drive::Drive;
+use crate::held::HeldZones;
 use crate::reply::Reply;
+use crate::zone_drive::ZoneDrive;
 use drive_port::Halt;
 use nvme_wire::{Command, ReportingOptions, Status};
 use zone_report::{ReportFault, ReportedZones, ZoneStatus, report_bytes};
 
-impl ReportedZones for Drive {
-    ghost zones = { λ d. d.state.zones };
+impl<Z: HeldZones + Drop> ReportedZones for ZoneDrive<Z> {
+    ghost zones = { λ d. d.drive.state.zones };
 
     fn status(&self, number: u32) -> ZoneStatus {
-        let zone = &self.zones.as_slice()[number as usize];
+        let _ = &self.geometry;
         ZoneStatus {
-            state: zone.state(),
-            written: zone.blocks(&self.geometry) as u32,
+            state: self.state_of(number),
+            written: self.written_in(number) as u32,
         }
     }
 }
 
-impl Drive {
+impl<Z: HeldZones + Drop> ZoneDrive<Z> {
     /// A Zone Management Receive: the report of the zones from the one that holds `slba` on goes after
     /// what `into` holds.
     pub(crate) fn receive(
@@ -33,8 +34,8 @@ impl Drive {
     ) -> Result<Reply, Halt>
         requires room { 16 ≤ dwords }
         ensures ok { (bytes : List ℕ) → IfOk result (λ reply. Adds into.old.items
-            (λ returned. Gives self.now (Ok (Command.Receive slba dwords options partial)) bytes
-            reply returned self.now) into.new.items) }
+            (λ returned. Gives self.now.drive (Ok (Command.Receive slba dwords options partial)) bytes
+            reply returned self.now.drive) into.new.items) }
         ensures err { IfErr result (λ halt. halt ≡ Halt.Memory) }
         ensures returned { OnErr result (into.new.items ≡ into.old.items) }
     {

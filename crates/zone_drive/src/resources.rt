@@ -1,13 +1,31 @@
 ghost use Rattle.std.specs.Prelude.{◌≡◌, ◌+◌, ◌-◌, ◌^◌, ◌<◌, ◌≤◌, length, nat_lt, position, slice_set};
-ghost use Rattle.zone_states.specs.Stored.{StoredZone};
+ghost use Rattle.nvme_wire.specs.declared.zone_state.ZoneState.{ZoneState as States};
 ghost use Rattle.zone_states.specs.Transition.{is_state};
 ghost use Rattle.drive_port.specs.Step.{one_if};
-ghost use Rattle.zone_drive.specs.Groups.{IsCounted, IsGrouped, is_implicit};
+ghost use Rattle.zone_drive.specs.Groups.{IsCounted, IsGrouped};
 
 use zone_states::{Zone, ZoneState, is_active, is_open};
 
 // How many zones a group has: the zone with a number is in the group of the number by this.
 const GROUP: usize = 256;
+
+/// A zone that shows its state.
+pub trait HasState {
+    /// The state of the zone.
+    ghost state: { Self → States };
+
+    /// The state of the zone.
+    fn state(&self) -> ZoneState
+        ensures { result ≡ state self.now };
+}
+
+impl HasState for Zone {
+    ghost state = { λ z. z.state };
+
+    fn state(&self) -> ZoneState {
+        Zone::state(self)
+    }
+}
 
 /// What a drive knows of its zones without looking at each: how many are active and open, and how many
 /// of each group of 256 are implicitly opened.
@@ -20,9 +38,9 @@ pub struct Resources {
 
 impl Resources {
     /// Those of these zones.
-    pub fn of(zones: &[Zone]) -> Resources
+    pub fn of<S: HasState>(zones: &[S]) -> Resources
         requires { length zones.now ≤ 65536 }
-        ensures { IsCounted zones.now result }
+        ensures { IsCounted S.state zones.now result }
     {
         let active_zones = zones.iter().filter(|zone| is_active(zone.state()));
         let open_zones = zones.iter().filter(|zone| is_open(zone.state()));
@@ -34,11 +52,11 @@ impl Resources {
     }
 
     /// Accounts for a zone that was in another state before.
-    pub fn follow(&mut self, zones: &[Zone], index: usize, before: ZoneState)
+    pub fn follow<S: HasState>(&mut self, zones: &[S], index: usize, before: ZoneState)
         requires in_range { index < length zones.now }
-        requires counted { (was : StoredZone) × (was.state ≡ before)
-            × IsCounted (slice_set zones.now index was) self.old }
-        ensures { IsCounted zones.now self.new }
+        requires counted { (was : S) × (S.state was ≡ before)
+            × IsCounted S.state (slice_set zones.now index was) self.old }
+        ensures { IsCounted S.state zones.now self.new }
     {
         let after = zones[index].state();
         self.active_zones = moved(self.active_zones, is_active(before), is_active(after));
@@ -53,9 +71,9 @@ impl Resources {
 
     /// The number of the lowest implicitly opened zone. It looks at the counts of the groups, and at the
     /// zones of one group.
-    pub fn lowest_implicit(&self, zones: &[Zone]) -> Option<usize>
-        requires { IsGrouped zones.now self.now.implicit }
-        ensures { result ≡ position is_implicit zones.now }
+    pub fn lowest_implicit<S: HasState>(&self, zones: &[S]) -> Option<usize>
+        requires { IsGrouped (λ zone. is_state ZoneState.ImplicitlyOpened (S.state zone)) zones.now self.now.implicit }
+        ensures { result ≡ position (λ zone. is_state ZoneState.ImplicitlyOpened (S.state zone)) zones.now }
     {
         let Some(group) = first_counted(&self.implicit) else {
             return None;
@@ -85,8 +103,8 @@ fn first_counted(counts: &[u32]) -> Option<usize>
 }
 
 // The first implicitly opened zone.
-fn first_implicit(zones: &[Zone]) -> Option<usize>
-    ensures { result ≡ position is_implicit zones.now }
+fn first_implicit<S: HasState>(zones: &[S]) -> Option<usize>
+    ensures { result ≡ position (λ zone. is_state ZoneState.ImplicitlyOpened (S.state zone)) zones.now }
 {
     zones.iter().position(|zone| is_implicit(zone.state()))
 }
@@ -98,9 +116,9 @@ fn is_implicit(state: ZoneState) -> bool
 }
 
 // How many zones of each group are implicitly opened.
-fn implicit_counts(zones: &[Zone]) -> [u32; 256]
+fn implicit_counts<S: HasState>(zones: &[S]) -> [u32; 256]
     requires { length zones.now ≤ 65536 }
-    ensures { IsGrouped zones.now result }
+    ensures { IsGrouped (λ zone. is_state ZoneState.ImplicitlyOpened (S.state zone)) zones.now result }
 {
     let mut counts = [0; 256];
     for (index, zone) in zones.iter().enumerate() {

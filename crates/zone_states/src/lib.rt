@@ -28,10 +28,12 @@
 
 mod geometry;
 mod pieces;
+mod refusal;
 mod transition;
 mod zone;
 
 pub use geometry::{Geometry, GeometryFault};
 pub use nvme_wire::{Action, Status, ZoneState};
+pub use refusal::{append_refusal, write_refusal};
 pub use transition::{is_active, is_open, next_state};
 pub use zone::{Zone, ZoneFault};

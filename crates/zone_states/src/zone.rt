@@ -5,13 +5,14 @@ ghost use Rattle.zone_states.specs.Sending.{zone_after};
 ghost use Rattle.zone_states.specs.Stored.{AreWholeBlocks, WrittenAfter, apply_result, refusal_of};
 ghost use Rattle.zone_states.specs.Stored.{stored_after, stored_write, zone_stored};
 ghost use Rattle.zone_states.specs.Transition.{state_after};
-ghost use Rattle.zone_states.specs.Writing.{append_bytes_checks, data_checks, room_checks, state_checks};
+ghost use Rattle.zone_states.specs.Writing.{append_bytes_checks, data_checks};
 ghost use Rattle.zone_states.specs.Writing.{zone_append_checks, zone_write_checks, write_bytes_checks};
 ghost use Rattle.zone_states.specs.Zone.{opened_by_write};
 ghost use Rattle.zone_states.specs.declared.zone.ZoneFault.TheVariants.{OutOfMemory};
 
 use crate::geometry::Geometry;
 use crate::pieces::extend_in_pieces;
+use crate::refusal::{append_refusal, write_refusal};
 use crate::transition::next_state;
 use nvme_wire::{Action, Status, ZoneState};
 use std::alloc::{AllocError, Global};
@@ -126,40 +127,13 @@ impl Zone {
         blocks_in(geometry, self.written.len())
     }
 
-    // The status with which the state refuses every Write and Append.
-    fn state_refusal(&self) -> Option<Status>
-        ensures { (block : _) → result ≡ first_failing (state_checks (zone_stored block self.now)) }
-    {
-        match self.state {
-            ZoneState::Full => Some(Status::ZoneIsFull),
-            ZoneState::ReadOnly => Some(Status::ZoneIsReadOnly),
-            ZoneState::Offline => Some(Status::ZoneIsOffline),
-            _ => None,
-        }
-    }
-
-    // The status of a Write or an Append of that many blocks for which there is no room.
-    fn room_refusal(&self, geometry: &Geometry, blocks: u64) -> Option<Status>
-        ensures { result ≡ first_failing
-            (room_checks geometry.now (zone_stored geometry.now.block self.now) blocks) }
-    {
-        let written = self.blocks(geometry) as u64;
-        if written.saturating_add(blocks) > u64::from(geometry.capacity) {
-            return Some(Status::ZoneBoundaryError);
-        }
-        None
-    }
-
     /// The status of the first check on this zone that an Append of that many blocks fails. The limits
     /// on active and open zones are not looked at.
     pub fn append_refusal(&self, geometry: &Geometry, blocks: u64) -> Option<Status>
         ensures { result ≡ first_failing
             (zone_append_checks geometry.now (zone_stored geometry.now.block self.now) blocks) }
     {
-        if let Some(status) = self.state_refusal() {
-            return Some(status);
-        }
-        self.room_refusal(geometry, blocks)
+        append_refusal(geometry, self.state, self.blocks(geometry) as u64, blocks)
     }
 
     /// The status of the first check on this zone that a Write of that many blocks fails, from an
@@ -169,13 +143,13 @@ impl Zone {
             (zone_write_checks geometry.now
             (zone_stored geometry.now.block self.now) offset blocks) }
     {
-        if let Some(status) = self.state_refusal() {
-            return Some(status);
-        }
-        if offset != self.blocks(geometry) as u64 {
-            return Some(Status::ZoneInvalidWrite);
-        }
-        self.room_refusal(geometry, blocks)
+        write_refusal(
+            geometry,
+            self.state,
+            self.blocks(geometry) as u64,
+            offset,
+            blocks,
+        )
     }
 
     /// Takes the memory for that many more bytes, so that they can be added without another allocation.

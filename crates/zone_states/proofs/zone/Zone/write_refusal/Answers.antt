@@ -1,30 +1,6 @@
-use Rattle.std.proofs.Common.{◌≡◌, ◌++◌, Some, None, rules}
-use Rattle.nvme_wire.specs.declared.status.Status.TheVariants.{ZoneInvalidWrite}
-use Rattle.zone_states.specs.Checks.{first_failing}
-use Rattle.zone_states.specs.Stored.{zone_stored}
-use Rattle.zone_states.specs.Writing.{pointer_checks, room_checks, state_checks}
-use Rattle.zone_states.proofs.CheckLaws.{first_failing-front, first_failing-back}
+use Rattle.std.proofs.Common.{ap, sym}
+use Rattle.zone_states.specs.Stored.{StoredZone, zone_stored}
 use Rattle.zone_states.proofs.zone.Zone.write_refusal.Goals as goal
 
-pub returns-in-Some : goal.returns-in-Some
-returns-in-Some c =
-    let block = c.args.geometry.now.block in
-    let zone = zone_stored block c.args.self.now in
-    first_failing-front (state_checks zone ++ pointer_checks zone c.args.offset) (room_checks c.args.geometry.now zone c.args.blocks) _
-    (first_failing-front (state_checks zone) (pointer_checks zone c.args.offset) _ (c.in-Some.ensures block))
-
-pub returns-then-offset-blocks : goal.returns-then-offset-blocks
-returns-then-offset-blocks c =
-    let block = c.args.geometry.now.block in
-    let zone = zone_stored block c.args.self.now in
-    let here : Some ZoneInvalidWrite ≡ first_failing (pointer_checks zone c.args.offset) = search rules in
-    first_failing-front (state_checks zone ++ pointer_checks zone c.args.offset) (room_checks c.args.geometry.now zone c.args.blocks) _
-    (first_failing-back (state_checks zone) (pointer_checks zone c.args.offset) _ (c.in_default.ensures block) here)
-
 pub returns : goal.returns
-returns c =
-    let block = c.args.geometry.now.block in
-    let zone = zone_stored block c.args.self.now in
-    let here : None ≡ first_failing (pointer_checks zone c.args.offset) = search rules in
-    first_failing-back (state_checks zone) (pointer_checks zone c.args.offset ++ room_checks c.args.geometry.now zone c.args.blocks) _ (c.in_default.ensures block)
-    (first_failing-back (pointer_checks zone c.args.offset) (room_checks c.args.geometry.now zone c.args.blocks) _ here c.room_refusal.ensures)
+returns c = c.write_refusal.ensures (zone_stored c.args.geometry.now.block c.args.self.now) (ap (λ (z : StoredZone). z.state) (sym c.self.view_is)) (sym c.blocks-2.ensures.value)

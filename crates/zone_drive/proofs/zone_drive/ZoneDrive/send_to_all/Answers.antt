@@ -1,0 +1,14 @@
+use Rattle.std.proofs.Common.{refl, ◌∙◌}
+use Rattle.zone_drive.proofs.SendLaws.{are-all, zones_of-sent}
+use Rattle.zone_drive.proofs.zone_drive.ZoneDrive.send_to_all.Goals as goal
+
+pub invariant_of-self-2 : goal.invariant_of-self-2
+invariant_of-self-2 g c =
+    let inside = c.self.inside in
+    let held = c.self.invariant in
+    (held.0, rw c.in_ok-apply_to_all.ensures.ok (are-all inside.geometry (g.Z.HeldZones.stored inside.zones) c.args.action held.0 held.1), c.in_ok-apply_to_all.ensures.shape ∙ held.2, held.3, held.4, held.5, held.6)
+
+pub returns-clause-ok : goal.returns-clause-ok
+returns-clause-ok g c =
+    let inside = c.self.inside in
+    rw (← c.self.view_is, c.in_ok-apply_to_all.ensures.ok, zones_of-sent inside.geometry.block c.args.action (g.Z.HeldZones.stored inside.zones)) refl

@@ -1,8 +1,0 @@
-use Rattle.std.proofs.Common.{sym}
-use Rattle.zone_drive.proofs.TableLaws.{counted-back}
-use Rattle.zone_drive.proofs.zones.Zones.write.Goals as goal
-
-pub follow-requires-clause-counted : goal.follow-requires-clause-counted
-follow-requires-clause-counted c =
-    let was = c.index_mut-zone.result.now in
-    (was, sym c.state-before.ensures, rw c.deref.ensures.value (counted-back c.self.inside.zones.items c.self.inside.resources c.args.index was c.extend.new.self c.index_mut-zone.ensures.value c.self.invariant))
