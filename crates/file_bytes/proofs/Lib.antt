@@ -1,0 +1,2 @@
+pub mod SpliceLaws
+pub mod PendingLaws

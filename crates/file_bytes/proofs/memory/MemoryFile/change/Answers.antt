@@ -1,0 +1,23 @@
+use Rattle.std.proofs.Common.{length, refl, ap, arith}
+use Rattle.file_bytes.specs.Pending.{FileState}
+use Rattle.file_bytes.specs.declared.memory.Range.{Range}
+use Rattle.file_bytes.proofs.PendingLaws.{leaves-written, left-written}
+use Rattle.file_bytes.proofs.memory.MemoryFile.change.Goals as goal
+
+pub invariant_of-self-2 : goal.invariant_of-self-2
+invariant_of-self-2 c =
+    let range : Range = record { start = c.args.at; length = length c.args.part.now } in
+    let long = ap (λ (s : FileState). length s.bytes) c.self.view_is in
+    let same = c.self.invariant.length_is in
+    rw (c.overwrite.ensures, c.in_ok-push.ensures.items)
+    (left-written c.self.inside.changed.items range c.self.inside.synced.items (omega (arith, long, same, c.requires)) c.self.inside.bytes.items c.args.part.now refl c.self.invariant)
+
+pub returns-clause-leaves : goal.returns-clause-leaves
+returns-clause-leaves c left may =
+    let range : Range = record { start = c.args.at; length = length c.args.part.now } in
+    let long = ap (λ (s : FileState). length s.bytes) c.self.view_is in
+    let same = c.self.invariant.length_is in
+    let old : FileState = record { bytes = c.self.inside.bytes.items; synced = c.self.inside.synced.items; changed = c.self.inside.changed.items; usable = c.self.inside.usable } in
+    let new : FileState = record { bytes = c.overwrite.new.bytes.items; synced = c.self.inside.synced.items; changed = c.push.new.self.items; usable = c.self.inside.usable } in
+    rw (← c.self.view_is)
+    (leaves-written old new range c.args.part.now (omega (arith, long, c.requires)) refl same c.overwrite.ensures c.in_ok-push.ensures.items refl left may)

@@ -1,0 +1,58 @@
+ghost use Rattle.std.specs.Prelude.{◌≡◌, ◌+◌, ◌%◌, ◌^◌, ◌<◌, ◌≤◌, ℕ, Bool, List, length, IsTrue, OnErr, OnOk, is_ok};
+ghost use Rattle.std.specs.Int.{to_le_bytes, w64};
+ghost use Rattle.sqlite_disk.specs.Disk.{Follows, Holds, Only};
+ghost use Rattle.file_bytes.specs.Changes.{SameBeside};
+
+use std::io;
+
+/// The bytes of one file, whose length never changes. Offsets and lengths are in bytes.
+pub trait FileBytes {
+    /// The bytes that a read returns.
+    ghost seen: { Self → List ℕ };
+
+    /// The bytes that the file may hold after a loss of power at this moment.
+    ghost may_leave: { Self → List ℕ → Type 0 };
+
+    /// No sync has failed.
+    ghost is_usable: { Self → Bool };
+
+    /// A loss of power may also leave just what a read returns.
+    ghost seen_may_stay: { (file : Self) → may_leave file (seen file) };
+
+    /// The length of the file, in bytes.
+    fn len(&self) -> u64
+        ensures { result ≡ length (seen self.now) };
+
+    /// Fills `room` with the bytes from an offset on. After an error it holds any bytes.
+    fn read(&self, at: u64, room: &mut [u8]) -> io::Result<()>
+        requires within { at + length room.old ≤ length (seen self.now) }
+        ensures read { OnOk result (Holds (seen self.now) at room.new) };
+
+    /// Writes these bytes from an offset on. After an error any part of the range may have changed.
+    fn write(&mut self, at: u64, bytes: &[u8]) -> io::Result<()>
+        requires within { at + length bytes.now ≤ length (seen self.old) }
+        ensures written { OnOk result (Holds (seen self.new) at bytes.now) }
+        ensures others { SameBeside at (length bytes.now) (seen self.old) (seen self.new) }
+        ensures leaves { Follows (SameBeside at (length bytes.now)) (may_leave self.old) (may_leave self.new) }
+        ensures usable { is_usable self.new ≡ is_usable self.old };
+
+    /// Writes a word of 8 bytes, the lowest first, at a multiple of 8. After an error a read returns what was there
+    /// before: a kill does not tear a word. A loss of power may.
+    fn write_word(&mut self, at: u64, word: u64) -> io::Result<()>
+        requires within { at + 8 ≤ length (seen self.old) }
+        requires aligned { at % 8 ≡ 0 }
+        ensures written { OnOk result (Holds (seen self.new) at (to_le_bytes w64 word)) }
+        ensures kept { OnErr result (seen self.new ≡ seen self.old) }
+        ensures others { SameBeside at 8 (seen self.old) (seen self.new) }
+        ensures leaves { Follows (SameBeside at 8) (may_leave self.old) (may_leave self.new) }
+        ensures usable { is_usable self.new ≡ is_usable self.old };
+
+    /// Makes sure that a loss of power leaves just what a read returns. After an error what might be left before may
+    /// still be left, and `sync` may not be called again.
+    fn sync(&mut self) -> io::Result<()>
+        requires { IsTrue (is_usable self.old) }
+        ensures durable { OnOk result (Only (seen self.old) (may_leave self.new)) }
+        ensures seen { seen self.new ≡ seen self.old }
+        ensures usable { is_usable self.new ≡ is_ok result }
+        ensures leaves { (c : List ℕ) → may_leave self.new c → may_leave self.old c };
+}

@@ -1,0 +1,34 @@
+//! The bytes of one file of a fixed length: what a read returns, and what a loss of power may leave.
+//!
+//! # Example
+//!
+//! ```text
+//! let mut file = MemoryFile::new(alloc, 4)?;
+//! file.write(0, b"ab")?;
+//! file.sync()?;
+//! file.write(1, b"cd")?;
+//! assert_eq!(rt; file.bytes(), b"acd\0".as_slice());
+//! assert!(rt; file.lose_power(b"axd\0")?);
+//! ```
+//!
+//! # What is promised
+//!
+//! * A `FileBytes` is strict: what a read returns is what the file holds.
+//! * After a loss of power each range that was written since the last sync may hold any bytes. So a write may be lost,
+//!   torn, or kept while an earlier one is lost. The other bytes are those of that sync.
+//! * A process that is killed leaves what a read would return. So a kill inside a call is a call that failed.
+//! * After a sync that failed, none may be called again: the system may have dropped what was written.
+//! * `MemoryFile` may leave all that this allows, and takes each of these outcomes by `lose_power`.
+//! * `StoppingFile` does a number of changes of another file, and fails from then on. The write at which it stops may be
+//!   torn.
+#![tactic(auto)]
+
+mod file;
+mod memory;
+mod stopping;
+#[cfg(test)]
+mod tests;
+
+pub use file::FileBytes;
+pub use memory::MemoryFile;
+pub use stopping::StoppingFile;

@@ -1,0 +1,232 @@
+ghost use Rattle.std.specs.Prelude.{◌≡◌, ◌+◌, ◌%◌, ◌≤◌, ◌↔◌, ℕ, [], List, false, is_ok, length, refl, replicate, true, IfOk, IsOk, OnErr, OnOk, IsTrue};
+ghost use Rattle.std.proofs.Common.{inl};
+ghost use Rattle.std.specs.List.{AllByRecursion, splice};
+ghost use Rattle.std.specs.Int.{to_le_bytes, w64};
+ghost use Rattle.sqlite_disk.specs.Disk.{Follows, Holds, Only};
+ghost use Rattle.file_bytes.specs.Changes.{SameBeside};
+ghost use Rattle.file_bytes.specs.Pending.{AreLeft, IsOutside, MayLeave};
+
+use crate::file::FileBytes;
+use std::alloc::{AllocError, Global};
+use std::io;
+use std::marker::Model;
+
+/// A range of bytes.
+#[derive(Clone, Copy)]
+pub struct Range {
+    pub start: u64,
+    pub length: u64,
+}
+
+/// A file in memory, which may leave after a loss of power all that the contract of a file allows. Its changes and syncs
+/// fail only where memory is missing. After a sync that failed, only `lose_power` makes it usable again.
+#[derive(Drop)]
+pub struct MemoryFile {
+    bytes: Vec<u8>,
+    /// The bytes of the last sync.
+    synced: Vec<u8>,
+    /// What was written since.
+    changed: Vec<Range>,
+    usable: bool,
+}
+
+impl Model for MemoryFile {
+    ghost use Rattle.std.specs.Prelude.{List, ℕ, Bool};
+    ghost use Rattle.file_bytes.specs.Pending.{AreLeft, FileState};
+
+    ghost Value = { FileState };
+
+    ghost view = { λ f. record {
+      bytes = f.bytes.items;
+      synced = f.synced.items;
+      changed = f.changed.items;
+      usable = f.usable;
+    } };
+
+    ghost invariant = { λ f. AreLeft f.changed.items f.synced.items f.bytes.items };
+}
+
+// The error where memory is missing.
+fn no_memory() -> io::Error {
+    io::ErrorKind::OutOfMemory.into()
+}
+
+// Whether an offset is outside of each range.
+fn is_outside(ranges: &[Range], at: u64) -> bool
+    ensures { IsTrue result ↔ AllByRecursion (IsOutside at) ranges.now }
+{
+    ranges.iter().all(|range| at < range.start || at - range.start >= range.length)
+}
+
+impl MemoryFile {
+    /// A file of that many zeros, which is synced; an error where memory is missing.
+    pub fn new(alloc: Global, len: usize) -> Result<MemoryFile, AllocError>
+        ensures { IfOk result (λ file. file ≡ record {
+          bytes = replicate len 0;
+          synced = replicate len 0;
+          changed = [];
+          usable = true;
+        }) }
+    {
+        let mut bytes = Vec::new(alloc);
+        bytes.resize(len, 0)?;
+        let mut synced = Vec::new(alloc);
+        synced.resize(len, 0)?;
+        Ok(MemoryFile {
+            bytes,
+            synced,
+            changed: Vec::new(alloc),
+            usable: true,
+        })
+    }
+
+    /// The bytes that a read returns.
+    pub fn bytes(&self) -> &[u8]
+        ensures { result.now ≡ self.now.bytes }
+    {
+        &self.bytes
+    }
+
+    /// Whether a loss of power at this moment may leave these bytes.
+    pub fn may_leave(&self, left: &[u8]) -> bool
+        ensures { IsTrue result ↔ MayLeave self.now left.now }
+    {
+        if left.len() != self.synced.len() {
+            return false;
+        }
+        (0..left.len()).all(|at| {
+            left[at] == self.synced[at] || !is_outside(&self.changed, at as u64)
+        })
+    }
+
+    /// Loses power. The file then has these bytes, synced, if they may be left. If not, or where memory is missing,
+    /// nothing changes.
+    pub fn lose_power(&mut self, left: &[u8]) -> Result<bool, AllocError>
+        ensures left { IfOk result (λ done. IsTrue done ↔ MayLeave self.old left.now) }
+        ensures lost { IfOk result (λ done. IsTrue done → self.new ≡ record {
+          bytes = left.now;
+          synced = left.now;
+          changed = [];
+          usable = true;
+        }) }
+        ensures kept { IfOk result (λ done. (done ≡ false) → self.new ≡ self.old) }
+        ensures err { OnErr result (self.new ≡ self.old) }
+    {
+        if !self.may_leave(left) {
+            return Ok(false);
+        }
+        let alloc = *self.bytes.allocator();
+        let bytes = copy_of(alloc, left)?;
+        self.synced = copy_of(alloc, left)?;
+        self.bytes = bytes;
+        self.changed.clear();
+        self.usable = true;
+        Ok(true)
+    }
+}
+
+fn copy_of(alloc: Global, bytes: &[u8]) -> Result<Vec<u8>, AllocError>
+    ensures { IfOk result (λ copy. copy.items ≡ bytes.now) }
+{
+    let mut copy = Vec::new(alloc);
+    copy.extend_from_slice(bytes)?;
+    Ok(copy)
+}
+
+// Puts a part in the place of the bytes from an offset on.
+fn overwrite(bytes: &mut Vec<u8>, at: usize, part: &[u8])
+    requires { at + length part.now ≤ length bytes.old.items }
+    ensures { bytes.new.items ≡ splice bytes.old.items at (at + length part.now) part.now }
+{
+    bytes[at..at + part.len()].copy_from_slice(part);
+}
+
+impl MemoryFile {
+    // Writes these bytes from an offset on. Without memory for that nothing changes.
+    fn change(&mut self, at: u64, part: &[u8]) -> Result<(), AllocError>
+        requires { at + length part.now ≤ length self.old.bytes }
+        ensures written { OnOk result (Holds self.new.bytes at part.now) }
+        ensures others { SameBeside at (length part.now) self.old.bytes self.new.bytes }
+        ensures leaves { Follows (SameBeside at (length part.now)) (MayLeave self.old) (MayLeave self.new) }
+        ensures allows { OnOk result ((before after : List ℕ) → MayLeave self.old before
+            → SameBeside at (length part.now) before after → MayLeave self.new after) }
+        ensures usable { self.new.usable ≡ self.old.usable }
+        ensures err { OnErr result (self.new ≡ self.old) }
+    {
+        let range = Range {
+            start: at,
+            length: part.len() as u64,
+        };
+        self.changed.push(range)?;
+        overwrite(&mut self.bytes, at as usize, part);
+        Ok(())
+    }
+}
+
+impl FileBytes for MemoryFile {
+    ghost seen = { λ f. f.bytes };
+
+    ghost may_leave = { λ f. MayLeave f };
+
+    ghost is_usable = { λ f. f.usable };
+
+    ghost seen_may_stay = { λ f. inl refl };
+
+    fn len(&self) -> u64 {
+        self.bytes.len() as u64
+    }
+
+    fn read(&self, at: u64, room: &mut [u8]) -> io::Result<()>
+        requires within { at + length room.old ≤ length self.now.bytes }
+        ensures done { IsOk result }
+        ensures read { Holds self.now.bytes at room.new }
+    {
+        let at = at as usize;
+        room.copy_from_slice(&self.bytes[at..at + room.len()]);
+        Ok(())
+    }
+
+    fn write(&mut self, at: u64, bytes: &[u8]) -> io::Result<()>
+        requires within { at + length bytes.now ≤ length self.old.bytes }
+        ensures written { OnOk result (Holds self.new.bytes at bytes.now) }
+        ensures others { SameBeside at (length bytes.now) self.old.bytes self.new.bytes }
+        ensures leaves { Follows (SameBeside at (length bytes.now)) (MayLeave self.old) (MayLeave self.new) }
+        ensures allows { OnOk result ((before after : List ℕ) → MayLeave self.old before
+            → SameBeside at (length bytes.now) before after → MayLeave self.new after) }
+        ensures usable { self.new.usable ≡ self.old.usable }
+        ensures err { OnErr result (self.new ≡ self.old) }
+    {
+        self.change(at, bytes).map_err(|_| no_memory())
+    }
+
+    fn write_word(&mut self, at: u64, word: u64) -> io::Result<()>
+        requires within { at + 8 ≤ length self.old.bytes }
+        requires aligned { at % 8 ≡ 0 }
+        ensures written { OnOk result (Holds self.new.bytes at (to_le_bytes w64 word)) }
+        ensures kept { OnErr result (self.new.bytes ≡ self.old.bytes) }
+        ensures others { SameBeside at 8 self.old.bytes self.new.bytes }
+        ensures leaves { Follows (SameBeside at 8) (MayLeave self.old) (MayLeave self.new) }
+        ensures allows { OnOk result ((before after : List ℕ) → MayLeave self.old before
+            → SameBeside at 8 before after → MayLeave self.new after) }
+        ensures usable { self.new.usable ≡ self.old.usable }
+        ensures err { OnErr result (self.new ≡ self.old) }
+    {
+        self.write(at, &word.to_le_bytes())
+    }
+
+    fn sync(&mut self) -> io::Result<()>
+        requires { IsTrue self.old.usable }
+        ensures durable { OnOk result (Only self.old.bytes (MayLeave self.new)) }
+        ensures seen { self.new.bytes ≡ self.old.bytes }
+        ensures usable { self.new.usable ≡ is_ok result }
+        ensures leaves { (c : List ℕ) → MayLeave self.new c → MayLeave self.old c }
+        ensures err { OnErr result ((c : List ℕ) → MayLeave self.old c → MayLeave self.new c) }
+    {
+        self.usable = false;
+        let alloc = *self.bytes.allocator();
+        self.synced = copy_of(alloc, &self.bytes).map_err(|_| no_memory())?;
+        self.changed.clear();
+        self.usable = true;
+        Ok(())
+    }
+}
