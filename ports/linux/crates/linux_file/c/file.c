@@ -1,0 +1,213 @@
+// Passes reads, writes and syncs of files to Linux. Each is of a session, at its present moment.
+#define _GNU_SOURCE
+#include "file.h"
+#include <errno.h>
+#include <fcntl.h>
+#include <libgen.h>
+#include <limits.h>
+#include <stdio.h>
+#include <stdlib.h>
+#include <string.h>
+#include <sys/file.h>
+#include <sys/stat.h>
+#include <unistd.h>
+
+enum { MOST_SESSIONS = 16, WORD = 8 };
+
+struct session {
+    uint64_t number; // from 1 on, or 0 where there is none
+    uint64_t moment;
+    uint64_t size; // of the file, in bytes
+    int file;
+    bool is_lost; // a sync has failed
+};
+
+static struct session sessions[MOST_SESSIONS];
+static uint64_t begun;
+
+// Ends the process: what is proved of a file holds only of the present moment of a session that there is.
+static _Noreturn void end_process(const char *why) {
+    fprintf(stderr, "zonedisk: %s\n", why);
+    abort();
+}
+
+// The session with a number, or a place for a new one where the number is 0. NULL where there is none.
+static struct session *find(uint64_t number) {
+    for (size_t i = 0; i < MOST_SESSIONS; i++) {
+        if (sessions[i].number == number) return &sessions[i];
+    }
+    return NULL;
+}
+
+static struct session *session_of(uint64_t number) {
+    struct session *used = number == 0 ? NULL : find(number);
+    if (used == NULL) end_process("there is no such session of a file");
+    return used;
+}
+
+static struct session *session_at(uint64_t number, uint64_t moment) {
+    struct session *used = session_of(number);
+    if (used->moment != moment) end_process("a call of a file at another moment than the present one");
+    return used;
+}
+
+// The session at its present moment, which is the next one from now on.
+static struct session *change_at(uint64_t number, uint64_t *moment) {
+    struct session *used = session_at(number, *moment);
+    *moment = ++used->moment;
+    return used;
+}
+
+// What a call of the system comes to: 0, or the number of the error that it has just given.
+static uint32_t number_of(int given) {
+    return given == 0 ? 0 : (uint32_t)errno;
+}
+
+// Copies a path, and ends it by a byte 0. There has to be a place for a session too.
+static uint32_t copy_path(char name[PATH_MAX], const uint8_t *path, size_t length) {
+    if (find(0) == NULL) return EMFILE;
+    if (length == 0 || length >= PATH_MAX || memchr(path, 0, length) != NULL) return EINVAL;
+    memcpy(name, path, length);
+    name[length] = 0;
+    return 0;
+}
+
+// Begins the session of a file that was opened, or closes it where it is refused.
+static uint32_t begin(uint32_t number, int file, uint64_t size, uint64_t *session) {
+    *session = 0;
+    if (number == 0) {
+        *session = ++begun;
+        *find(0) = (struct session){.number = *session, .size = size, .file = file};
+    } else if (file >= 0) {
+        close(file);
+    }
+    return number;
+}
+
+// Takes the lock that other programs of this kind ask for too.
+static uint32_t lock(int file, int kind) {
+    uint32_t number = number_of(flock(file, kind | LOCK_NB));
+    return number == EWOULDBLOCK ? LOCKED : number;
+}
+
+// Brings to the disk what earlier programs wrote, and lets go of it in memory. A sync of theirs may have failed. Then
+// Linux may still show what they wrote, and no later sync would write it.
+static uint32_t go_by_disk(int file) {
+    uint32_t number = number_of(fdatasync(file));
+    posix_fadvise(file, 0, 0, POSIX_FADV_DONTNEED);
+    return number;
+}
+
+// A file is looked at before it is opened, since opening a device may do something, and a pipe waits for its other end.
+static uint32_t open_regular(const char *name, bool is_writable, int *file, uint64_t *size) {
+    struct stat seen;
+    if (stat(name, &seen) != 0) return number_of(-1);
+    if (!S_ISREG(seen.st_mode)) return NOT_REGULAR;
+    *file = open(name, (is_writable ? O_RDWR : O_RDONLY) | O_CLOEXEC);
+    if (*file < 0) return number_of(-1);
+    uint32_t number = lock(*file, is_writable ? LOCK_EX : LOCK_SH);
+    if (number == 0 && is_writable) number = go_by_disk(*file);
+    if (number == 0) number = number_of(fstat(*file, &seen));
+    *size = (uint64_t)seen.st_size;
+    return number;
+}
+
+uint32_t zonedisk_file_open(const uint8_t *path, size_t length, bool is_writable, uint64_t *size, uint64_t *session) {
+    char name[PATH_MAX];
+    int file = -1;
+    *size = 0;
+    uint32_t number = copy_path(name, path, length);
+    if (number == 0) number = open_regular(name, is_writable, &file, size);
+    return begin(number, file, *size, session);
+}
+
+// Syncs the folder of a file, so that the file's name is durable. A file system that syncs no folders says EINVAL: then
+// there is nothing to do.
+static uint32_t sync_folder(const char *name) {
+    char copy[PATH_MAX];
+    snprintf(copy, sizeof copy, "%s", name);
+    int folder = open(dirname(copy), O_RDONLY | O_DIRECTORY | O_CLOEXEC);
+    if (folder < 0) return number_of(-1);
+    uint32_t number = number_of(fsync(folder));
+    close(folder);
+    return number == EINVAL ? 0 : number;
+}
+
+static uint32_t make_new(const char *name, uint64_t size, int *file) {
+    *file = open(name, O_RDWR | O_CREAT | O_EXCL | O_CLOEXEC, 0666);
+    if (*file < 0) return errno == EEXIST ? EXISTS : number_of(-1);
+    uint32_t number = lock(*file, LOCK_EX);
+    if (number == LOCKED) return number;
+    if (number == 0) number = number_of(ftruncate(*file, (off_t)size));
+    if (number == 0) number = number_of(fsync(*file));
+    if (number == 0) number = sync_folder(name);
+    if (number != 0) unlink(name);
+    return number;
+}
+
+uint32_t zonedisk_file_create(const uint8_t *path, size_t length, uint64_t size, uint64_t *session) {
+    char name[PATH_MAX];
+    int file = -1;
+    uint32_t number = size > INT64_MAX ? EFBIG : copy_path(name, path, length);
+    if (number == 0) number = make_new(name, size, &file);
+    return begin(number, file, size, session);
+}
+
+// Why the system is not asked for a range: 0 where it is asked.
+static uint32_t fault_of(const struct session *used, uint64_t at, size_t length) {
+    if (used->is_lost) return EIO;
+    return at <= used->size && length <= used->size - at ? 0 : EINVAL;
+}
+
+uint32_t zonedisk_file_read(uint64_t session, uint64_t moment, uint64_t at, uint8_t *room, size_t length) {
+    const struct session *used = session_at(session, moment);
+    uint32_t number = fault_of(used, at, length);
+    for (size_t done = 0; done < length && number == 0;) {
+        ssize_t count = pread(used->file, room + done, length - done, (off_t)(at + done));
+        if (count > 0) done += (size_t)count;
+        else if (count == 0) number = EIO;
+        else if (errno != EINTR) number = (uint32_t)errno;
+    }
+    return number;
+}
+
+// Writes a range, and counts the bytes that are written.
+static uint32_t write_range(const struct session *used, uint64_t at, const uint8_t *bytes, size_t length,
+                            size_t *done) {
+    uint32_t number = fault_of(used, at, length);
+    for (*done = 0; *done < length && number == 0;) {
+        ssize_t count = pwrite(used->file, bytes + *done, length - *done, (off_t)(at + *done));
+        if (count > 0) *done += (size_t)count;
+        else if (count == 0) number = EIO;
+        else if (errno != EINTR) number = (uint32_t)errno;
+    }
+    return number;
+}
+
+uint32_t zonedisk_file_write(uint64_t session, uint64_t *moment, uint64_t at, const uint8_t *bytes, size_t length) {
+    size_t done;
+    return write_range(change_at(session, moment), at, bytes, length, &done);
+}
+
+uint32_t zonedisk_file_write_word(uint64_t session, uint64_t *moment, uint64_t at, const uint8_t word[8]) {
+    const struct session *used = change_at(session, moment);
+    size_t done;
+    if (at % WORD != 0) return EINVAL;
+    uint32_t number = write_range(used, at, word, WORD, &done);
+    if (number != 0 && done != 0) end_process("a word of a file is written in part");
+    return number;
+}
+
+uint32_t zonedisk_file_sync(uint64_t session, uint64_t *moment) {
+    struct session *used = change_at(session, moment);
+    if (used->is_lost) return EIO;
+    uint32_t number = number_of(fdatasync(used->file));
+    used->is_lost = number != 0;
+    return number;
+}
+
+void zonedisk_file_close(uint64_t session) {
+    struct session *used = session_of(session);
+    close(used->file);
+    used->number = 0;
+}

@@ -1,0 +1,44 @@
+// What the crate's kernel.rt declares: regular files of Linux, whose length stays the same.
+//
+// There is no format here. C opens and locks a file, and passes reads, writes and syncs. A session is one file, from
+// its opening to its closing. Its number is never used again. A session begins at moment 0. Each change that is asked
+// leads to the next moment: a write, a write of a word, a sync. A call at another moment, or of a session that is not
+// open, ends the process.
+//
+// A result is 0 where the call is done, or else the number of an error of the system. It is EINVAL for a range that is
+// not within the file. After a sync that failed it is EIO for each later call of the session. For Linux may have let go
+// of what was written, and a read could return older bytes.
+#pragma once
+#include <stdbool.h>
+#include <stddef.h>
+#include <stdint.h>
+
+// Why a file is not opened or made, beside the errors of the system. Those have smaller numbers.
+enum refusal {
+    NOT_REGULAR = 0x10000, // a folder, a device, a pipe
+    LOCKED = 0x10001,      // another program has it, and one of the two wants to change it
+    EXISTS = 0x10002,      // a new file was asked for, and something is there
+};
+
+// Opens and locks a file that is there, and tells its length in bytes. A file that is only read is locked against
+// changes alone.
+uint32_t zonedisk_file_open(const uint8_t *path, size_t length, bool is_writable, uint64_t *size, uint64_t *session);
+
+// Makes and locks a file of so many zeros, and syncs it and its folder. Where that fails, it is removed again.
+uint32_t zonedisk_file_create(const uint8_t *path, size_t length, uint64_t size, uint64_t *session);
+
+// Fills the room. It is EIO where the file has become shorter and has no such bytes.
+uint32_t zonedisk_file_read(uint64_t session, uint64_t moment, uint64_t at, uint8_t *room, size_t length);
+
+// Writes a range. After an error any part of it may be written.
+uint32_t zonedisk_file_write(uint64_t session, uint64_t *moment, uint64_t at, const uint8_t *bytes, size_t length);
+
+// Writes 8 bytes at a multiple of 8, or none of them. Linux writes them as one. If it ever writes some and then fails,
+// the process ends.
+uint32_t zonedisk_file_write_word(uint64_t session, uint64_t *moment, uint64_t at, const uint8_t word[8]);
+
+// Brings all that was written to the disk.
+uint32_t zonedisk_file_sync(uint64_t session, uint64_t *moment);
+
+// Closes the file of a session, at any moment. Its lock is given back.
+void zonedisk_file_close(uint64_t session);

@@ -1,0 +1,15 @@
+// The calls of the system that the port makes. They are the system's own, but for what a test asks for here. The linker
+// puts them in place of the system's (--wrap).
+#pragma once
+#include <stddef.h>
+
+// An error is the number of one, or 0 where the call is the system's.
+struct calls {
+    size_t most_bytes;      // the most that one call reads or writes, or 0 for all
+    unsigned interruptions; // so many of the next reads and writes are interrupted first
+    unsigned writes_left;   // so many writes are done before one fails by `write_error`
+    int read_error, write_error, data_error, lock_error, look_error, length_error, file_error, folder_error;
+    unsigned reads, writes, data_syncs, file_syncs, folder_syncs, advices; // how many were made
+};
+
+extern struct calls calls;
