@@ -4,6 +4,7 @@ use Rattle.zone_states.specs.declared.geometry.Geometry.{Geometry}
 use Rattle.zone_states.specs.Stored.{StoredZone}
 use Rattle.drive_port.specs.Run.{restarted_state}
 use Rattle.zone_drive.specs.Habits.{MemoryDrive}
+use Rattle.zone_drive.specs.Stored.{AreZones}
 
 -- a drive, and what holds its zones
 pub record HeldDrive (H : Type 0) : Type 0 where
@@ -27,6 +28,10 @@ LeavesOrNow leaves now old new = (zones : List StoredZone) → leaves new zones 
 -- It finds these zones, and nothing else.
 abbrev pub LeavesJust : {H : Type 0} → (H → List StoredZone → Type 0) → List StoredZone → H → Type 0
 LeavesJust leaves now new = (zones : List StoredZone) → leaves new zones → zones ≡ map restarted_stored now
+
+-- Whatever it finds, a drive of this shape can have.
+abbrev pub LeavesZones : {H : Type 0} → (H → List StoredZone → Type 0) → Geometry → H → Type 0
+LeavesZones leaves geometry held = (zones : List StoredZone) → leaves held zones → AreZones geometry zones
 
 -- zones in memory: the shape of their drive, and the zones as they are stored
 pub record ShapedZones : Type 0 where

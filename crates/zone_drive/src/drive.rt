@@ -12,7 +12,7 @@ ghost use Rattle.zone_drive.specs.Faults.{IsFault, IsFreshFault};
 ghost use Rattle.zone_drive.specs.Foreseen.{Foresees};
 ghost use Rattle.zone_drive.specs.Habits.{made};
 ghost use Rattle.zone_drive.specs.Memory.{may_allocate};
-ghost use Rattle.zone_drive.specs.Stored.{AreZones, fresh, is_lawful, unused, zones_of};
+ghost use Rattle.zone_drive.specs.Stored.{AreZones, fresh, is_lawful, may_hold, unused, zones_of};
 ghost use Rattle.zone_drive.specs.declared.drive.DriveFault.TheVariants.{OutOfMemory};
 
 use crate::habit::Habit;
@@ -66,6 +66,20 @@ impl Model for Drive {
     ghost invariant = { λ d. d.held.halted ≡ false };
 }
 
+/// Whether a zone in this state may hold so many blocks, in a drive with zones of a capacity in blocks.
+pub fn may_hold(state: ZoneState, capacity: u32, written: usize) -> bool
+    ensures { result ≡ may_hold state capacity written }
+{
+    let capacity = capacity as usize;
+    match state {
+        ZoneState::Empty => written == 0,
+        ZoneState::ImplicitlyOpened | ZoneState::ExplicitlyOpened | ZoneState::Closed => {
+            written < capacity
+        }
+        ZoneState::Full | ZoneState::ReadOnly | ZoneState::Offline => written <= capacity,
+    }
+}
+
 // Whether a zone holds whole blocks, as many as its state allows.
 fn is_lawful(geometry: &Geometry, zone: &Zone) -> bool
     requires { 1 ≤ geometry.now.block }
@@ -74,15 +88,7 @@ fn is_lawful(geometry: &Geometry, zone: &Zone) -> bool
     if zone.written().len() % geometry.block as usize != 0 {
         return false;
     }
-    let written = zone.blocks(geometry);
-    let capacity = geometry.capacity as usize;
-    match zone.state() {
-        ZoneState::Empty => written == 0,
-        ZoneState::ImplicitlyOpened | ZoneState::ExplicitlyOpened | ZoneState::Closed => {
-            written < capacity
-        }
-        ZoneState::Full | ZoneState::ReadOnly | ZoneState::Offline => written <= capacity,
-    }
+    may_hold(zone.state(), geometry.capacity, zone.blocks(geometry))
 }
 
 fn all_lawful(geometry: &Geometry, zones: &[Zone]) -> bool

@@ -47,9 +47,9 @@ mod shape;
 mod write;
 mod zone_drive;
 
-pub use drive::{Drive, DriveFault};
+pub use drive::{Drive, DriveFault, may_hold};
 pub use habit::Habit;
 pub use held::HeldZones;
-pub use memory_zones::{MemoryZones, apply_to_each};
+pub use memory_zones::{MemoryZones, apply_to_each, selects};
 pub use resources::{HasState, Resources};
 pub use zone_drive::ZoneDrive;

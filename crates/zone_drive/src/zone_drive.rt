@@ -1,7 +1,7 @@
 ghost use Rattle.std.specs.Prelude.{◌≡◌, false, IfErr, IsTrue, OnErr, OnOk};
 ghost use Rattle.zone_states.specs.Geometry.{IsInRange};
 ghost use Rattle.drive_port.specs.Run.{restarted};
-ghost use Rattle.zone_drive.specs.Held.{LeavesOrNow};
+ghost use Rattle.zone_drive.specs.Held.{LeavesOrNow, LeavesZones};
 ghost use Rattle.zone_drive.specs.Stored.{AreZones, unused, zones_of};
 ghost use Rattle.zone_drive.specs.Habits.{made};
 
@@ -30,7 +30,7 @@ pub struct ZoneDrive<Z: HeldZones + Drop> {
 
 impl<Z: HeldZones + Drop> Model for ZoneDrive<Z> {
     ghost use Rattle.std.specs.Prelude.{◌≡◌, ◌||◌, nat_le, ◌^◌, ◌≤◌, IsTrue};
-    ghost use Rattle.zone_drive.specs.Held.{HeldDrive};
+    ghost use Rattle.zone_drive.specs.Held.{HeldDrive, LeavesZones};
 
     ghost Value = { HeldDrive Z };
 
@@ -55,7 +55,8 @@ impl<Z: HeldZones + Drop> Model for ZoneDrive<Z> {
 
     ghost invariant = { λ d. IsInRange d.geometry × AreZones d.geometry (Z.stored d.zones)
         × (Z.shape d.zones ≡ d.geometry) × (IsTrue d.halted → IsTrue Z.may_stop)
-        × (d.completed ≤ 2 ^ 63) × (d.refused ≤ d.completed) × (d.appended ≤ d.completed) };
+        × (d.completed ≤ 2 ^ 63) × (d.refused ≤ d.completed) × (d.appended ≤ d.completed)
+        × LeavesZones Z.leaves d.geometry d.zones };
 }
 
 impl<Z: HeldZones + Drop> ZoneDrive<Z> {
@@ -64,6 +65,7 @@ impl<Z: HeldZones + Drop> ZoneDrive<Z> {
         requires in_range { IsInRange geometry }
         requires zones { AreZones geometry (Z.stored zones) }
         requires shape { Z.shape zones ≡ geometry }
+        requires left { LeavesZones Z.leaves geometry zones }
         ensures { result ≡ record {
           drive = made (unused geometry (zones_of geometry.block (Z.stored zones)));
           held = zones;
@@ -94,6 +96,17 @@ impl<Z: HeldZones + Drop> ZoneDrive<Z> {
         self.refused = 0;
         self.appended = 0;
         Ok(())
+    }
+
+    /// What holds the zones.
+    pub fn into_zones(self) -> Z
+        ensures held { result ≡ self.held }
+        ensures zones { AreZones self.drive.state.geometry (Z.stored result) }
+        ensures stored { zones_of self.drive.state.geometry.block (Z.stored result) ≡ self.drive.state.zones }
+        ensures shape { Z.shape result ≡ self.drive.state.geometry }
+        ensures left { LeavesZones Z.leaves self.drive.state.geometry result }
+    {
+        self.zones
     }
 
     /// Which zones the drive closes by itself.

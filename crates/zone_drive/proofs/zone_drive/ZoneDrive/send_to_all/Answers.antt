@@ -1,12 +1,36 @@
-use Rattle.std.proofs.Common.{refl, ◌∙◌}
+use Rattle.std.proofs.Common.{◌≡◌, rules, refl, ◌∙◌}
 use Rattle.zone_drive.proofs.SendLaws.{are-all, zones_of-sent}
+use Rattle.zone_drive.proofs.LeftLaws.{left-or-now}
 use Rattle.zone_drive.proofs.zone_drive.ZoneDrive.send_to_all.Goals as goal
+
+pub invariant_of-self : goal.invariant_of-self
+invariant_of-self g c =
+    let inside = c.self.inside in
+    let held = c.self.invariant in
+    let same : g.Z.HeldZones.stored c.apply_to_all.new.self ≡ g.Z.HeldZones.stored inside.zones = search rules in (
+      held.0,
+      rw same held.1,
+      c.apply_to_all.ensures.shape ∙ held.2,
+      held.3,
+      held.4,
+      held.5,
+      held.6,
+      left-or-now g.Z.HeldZones.leaves inside.geometry (g.Z.HeldZones.stored inside.zones) inside.zones c.apply_to_all.new.self held.0 held.1 held.7 c.apply_to_all.ensures.leaves,
+    )
 
 pub invariant_of-self-2 : goal.invariant_of-self-2
 invariant_of-self-2 g c =
     let inside = c.self.inside in
-    let held = c.self.invariant in
-    (held.0, rw c.in_ok-apply_to_all.ensures.ok (are-all inside.geometry (g.Z.HeldZones.stored inside.zones) c.args.action held.0 held.1), c.in_ok-apply_to_all.ensures.shape ∙ held.2, held.3, held.4, held.5, held.6)
+    let held = c.self.invariant in (
+      held.0,
+      rw c.in_ok-apply_to_all.ensures.ok (are-all inside.geometry (g.Z.HeldZones.stored inside.zones) c.args.action held.0 held.1),
+      c.in_ok-apply_to_all.ensures.shape ∙ held.2,
+      held.3,
+      held.4,
+      held.5,
+      held.6,
+      left-or-now g.Z.HeldZones.leaves inside.geometry (g.Z.HeldZones.stored inside.zones) inside.zones c.apply_to_all.new.self held.0 held.1 held.7 c.apply_to_all.ensures.leaves,
+    )
 
 pub returns-clause-ok : goal.returns-clause-ok
 returns-clause-ok g c =

@@ -1,0 +1,12 @@
+pub mod PartLaws
+pub mod PlaceLaws
+pub mod ServedLaws
+pub mod DataLaws
+pub mod StoreLaws
+pub mod ReadLaws
+mod FaultLaws
+mod OpenLaws
+mod TakeLaws
+mod OpenedLaws
+mod FindsLaws
+mod FormatLaws

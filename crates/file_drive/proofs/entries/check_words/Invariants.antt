@@ -1,0 +1,7 @@
+use Rattle.std.proofs.Common.{take}
+use Rattle.std.specs.List.{AllByRecursion}
+use Rattle.file_drive.specs.Opening.{IsWord}
+use Rattle.file_drive.proofs.entries.check_words.Given as goal
+
+abbrev pub invariant-loop-index : goal.invariant-loop-index
+invariant-loop-index l = AllByRecursion (IsWord l.geometry) (take l.index l.words)

@@ -1,0 +1,39 @@
+use Rattle.std.proofs.Common.{◌∙◌, ap, arith}
+use Rattle.file_drive.specs.InFile.{FiledZones, entry_at}
+use Rattle.file_drive.proofs.DataLaws.{within-at}
+use Rattle.file_drive.proofs.ServedLaws.{filed-same}
+use Rattle.file_drive.proofs.StoreLaws.{acted-few, entry-read, filed-low, no_entry, on-err, sent-stored-in}
+use Rattle.file_drive.proofs.zones.FileZones.act.Goals as goal
+
+pub index-requires : goal.index-requires
+index-requires g c =
+    let low = rw (← c.self.view_is) at (filed-low g.F.FileBytes.seen c.args.self.now c.args.index c.requires) in
+    omega (arith, low)
+
+pub put-requires-clause-in_range : goal.put-requires-clause-in_range
+put-requires-clause-in_range g c = filed-low g.F.FileBytes.seen c.args.self.now c.args.index c.requires
+
+pub put-requires-clause-within : goal.put-requires-clause-within
+put-requires-clause-within g c =
+    let inside = c.self.inside in
+    let low = rw (← c.self.view_is) at (filed-low g.F.FileBytes.seen c.args.self.now c.args.index c.requires) in
+    let is = entry-read inside.entries.items c.args.index c.index.result.now low c.index.ensures in
+    rw (← c.self.view_is, c.acted-entry.ensures, is)
+    (acted-few inside.geometry c.args.action (entry_at inside.entries.items c.args.index) (within-at inside.geometry inside.entries.items c.args.index no_entry c.self.invariant.2 low))
+
+pub returns-in_err-put-clause-err : goal.returns-in_err-put-clause-err
+returns-in_err-put-clause-err g c =
+    on-err c.from_residual.result _
+    (filed-same g.F.FileBytes.seen c.args.self.now c.put.new.self c.put.ensures.shape c.in_err-put.ensures.err c.put.ensures.zones
+    (rw (← c.self.view_is) c.self.invariant.1) (rw (← c.self.view_is) c.self.invariant.2))
+
+pub returns-clause-ok : goal.returns-clause-ok
+returns-clause-ok g c =
+    let now = c.args.self.now in
+    let low = filed-low g.F.FileBytes.seen now c.args.index c.requires in
+    let low' = rw (← c.self.view_is) at low in
+    let is = entry-read c.self.inside.entries.items c.args.index c.index.result.now low' c.index.ensures in
+    let is' = is ∙ ap (λ (z : FiledZones _). entry_at z.entries c.args.index) c.self.view_is in
+    rw (c.put.ensures.shape, c.in_ok-put.ensures.ok, c.acted-entry.ensures, is')
+    (sent-stored-in now.shape (g.F.FileBytes.seen now.file) (g.F.FileBytes.seen c.put.new.self.file) now.entries c.args.index c.args.action c.put.ensures.zones
+    (rw (← c.self.view_is) c.self.invariant.1) (rw (← c.self.view_is) c.self.invariant.2) low)

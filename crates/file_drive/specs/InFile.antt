@@ -1,0 +1,121 @@
+-- What is true of a file while a drive is served from it.
+use Rattle.std.specs.Prelude.{◌≡◌, ◌≢◌, ◌⊎◌, ℕ, ◌-◌, ◌*◌, ◌<◌, ◌≤◌, List, length, map, slice_index, slice_index_or}
+use Rattle.std.specs.List.{AllByRecursion}
+use Rattle.sqlite_disk.specs.Disk.{Only}
+use Rattle.nvme_wire.specs.declared.command.Action.{Action}
+use Rattle.nvme_wire.specs.declared.zone_state.ZoneState.TheVariants.{Offline}
+use Rattle.zone_states.specs.declared.geometry.Geometry.{Geometry}
+use Rattle.zone_states.specs.Stored.{StoredZone}
+use Rattle.file_drive.specs.Head.{boot_in, shape_words}
+use Rattle.file_drive.specs.Layout.{at_table, at_zone, file_length, part}
+use Rattle.file_drive.specs.Tables.{entry_of, flushed_table, flushed_zones, live_table, sent_entry, word_of, words_in, zones_in}
+use Rattle.file_drive.specs.declared.boot.Boot.{Boot}
+use Rattle.file_drive.specs.declared.entry.Entry.{Entry}
+
+-- zones in a file: the shape of their drive, the file, and what is known of each zone
+pub record FiledZones (F : Type 0) : Type 0 where
+  pub shape : Geometry
+  pub file : F
+  pub entries : List Entry
+
+-- the zones, as they are stored
+abbrev pub filed : {F : Type 0} → (F → List ℕ) → FiledZones F → List StoredZone
+filed seen zones = zones_in zones.shape (seen zones.file) 0 zones.entries
+
+-- no more blocks are counted than a zone has
+abbrev pub AreWithin : Geometry → List Entry → Type 0
+AreWithin geometry entries = AllByRecursion (λ entry. entry.written ≤ geometry.capacity) entries
+
+-- the other live table, and the other flushed one
+abbrev pub spare_table : ℕ → ℕ
+spare_table live = 1 - live
+
+abbrev pub other_table : ℕ → ℕ
+other_table flushed = 5 - flushed
+
+-- the words of the tables that are not live: of the other live one, of the flushed one that is picked, and of the other
+pub record Words : Type 0 where
+  pub spare : List ℕ
+  pub safe : List ℕ
+  pub other : List ℕ
+
+-- words that a table may have: each is the word of a zone, with no more blocks than a zone has
+pub record AreWords (geometry : Geometry) (words : List ℕ) : Type 0 where
+  pub said : map word_of (map entry_of words) ≡ words
+  pub within : AreWithin geometry (map entry_of words)
+
+-- What a read shows: the live table that is picked says what is known, and the other tables have these words.
+pub record IsServed (geometry : Geometry) (boot : Boot) (file : List ℕ) (entries : List Entry) (live flushed : ℕ) (words : Words) : Type 0 where
+  pub long : length file ≡ file_length geometry
+  pub head : words_in file 0 8 ≡ shape_words geometry
+  pub boot_is : boot_in file ≡ boot
+  pub live_is : live_table file ≡ live
+  pub live_words : words_in file (at_table geometry live) geometry.zones ≡ map word_of entries
+  pub spare_words : words_in file (at_table geometry (spare_table live)) geometry.zones ≡ words.spare
+  pub flushed_is : flushed_table file ≡ flushed
+  pub safe_words : words_in file (at_table geometry flushed) geometry.zones ≡ words.safe
+  pub other_words : words_in file (at_table geometry (other_table flushed)) geometry.zones ≡ words.other
+
+-- What a loss of power may leave: the same flushed table, and the zones that it counts.
+pub record IsPromised (geometry : Geometry) (flushed : ℕ) (safe : List ℕ) (promised : List StoredZone) (file : List ℕ) : Type 0 where
+  pub long : length file ≡ file_length geometry
+  pub head : words_in file 0 8 ≡ shape_words geometry
+  pub flushed_is : flushed_table file ≡ flushed
+  pub safe_words : words_in file (at_table geometry flushed) geometry.zones ≡ safe
+  pub zones : zones_in geometry file 0 (map entry_of safe) ≡ promised
+
+-- What any system can open: a file of this shape, whose flushed table has words that a table may have.
+pub record CanOpen (geometry : Geometry) (file : List ℕ) : Type 0 where
+  pub long : length file ≡ file_length geometry
+  pub head : words_in file 0 8 ≡ shape_words geometry
+  pub words : AreWords geometry (words_in file (at_table geometry (flushed_table file)) geometry.zones)
+
+-- whatever a loss of power leaves can be opened
+abbrev pub AllCanOpen : {F : Type 0} → (F → List ℕ → Type 0) → Geometry → F → Type 0
+AllCanOpen may_leave geometry file = (bytes : List ℕ) → may_leave file bytes → CanOpen geometry bytes
+
+-- the zones that an open may find after a loss of power
+abbrev pub left_zones : {F : Type 0} → (F → List ℕ → Type 0) → FiledZones F → List StoredZone → Type 0
+left_zones may_leave zones found = (bytes : List ℕ) × may_leave zones.file bytes × (found ≡ flushed_zones zones.shape bytes)
+
+-- what the last flush promised, as a read shows it
+abbrev pub promised_zones : Geometry → List ℕ → List ℕ → List StoredZone
+promised_zones geometry file safe = zones_in geometry file 0 (map entry_of safe)
+
+-- all that a loss of power may leave is what the last flush promised
+abbrev pub KeepsPromise : {F : Type 0} → (F → List ℕ) → (F → List ℕ → Type 0) → Geometry → F → ℕ → List ℕ → Type 0
+KeepsPromise seen may_leave geometry file flushed safe =
+    (bytes : List ℕ) → may_leave file bytes → IsPromised geometry flushed safe (promised_zones geometry (seen file) safe) bytes
+
+-- The other flushed table has the words of the zones, and all is synced.
+pub record IsReady {F : Type 0} (seen : F → List ℕ) (may_leave : F → List ℕ → Type 0) (zones : FiledZones F) : Type 0 where
+  pub synced : Only (seen zones.file) (may_leave zones.file)
+  pub words : words_in (seen zones.file) (at_table zones.shape (other_table (flushed_table (seen zones.file)))) zones.shape.zones ≡ map word_of zones.entries
+
+-- what is known of a zone; past the last nothing is
+abbrev pub entry_at : List Entry → ℕ → Entry
+entry_at entries index = slice_index_or entries index (record { state = Offline; written = 0 })
+
+-- The last flush promises no block of a zone past those that are written.
+abbrev pub IsClear : {F : Type 0} → (F → List ℕ) → FiledZones F → ℕ → Type 0
+IsClear seen zones index =
+    let file = seen zones.file in
+    (entry_of (slice_index (words_in file (at_table zones.shape (flushed_table file)) zones.shape.zones) index)).written ≤ (entry_at zones.entries index).written
+
+-- All blocks are the same but those of one zone past so many.
+abbrev pub KeepsOthers : Geometry → ℕ → ℕ → List ℕ → List ℕ → Type 0
+KeepsOthers geometry index first old new =
+    (number written : ℕ) → number < geometry.zones → written ≤ geometry.capacity → (number ≢ index) ⊎ (written ≤ first)
+    → part new (at_zone geometry number) (written * geometry.block) ≡ part old (at_zone geometry number) (written * geometry.block)
+
+-- The flushed table that is picked has the words of the zones.
+abbrev pub IsFlushed : {F : Type 0} → (F → List ℕ) → FiledZones F → Type 0
+IsFlushed seen zones =
+    let file = seen zones.file in
+    words_in file (at_table zones.shape (flushed_table file)) zones.shape.zones ≡ map word_of zones.entries
+
+-- The other live table has the words of the zones after an action on all of them.
+abbrev pub IsSpared : {F : Type 0} → (F → List ℕ) → Action → FiledZones F → Type 0
+IsSpared seen action zones =
+    let file = seen zones.file in
+    words_in file (at_table zones.shape (spare_table (live_table file))) zones.shape.zones ≡ map word_of (map (sent_entry action) zones.entries)

@@ -1,0 +1,9 @@
+pub mod Layout
+pub mod Head
+pub mod Tables
+pub mod InFile
+pub mod Opening
+pub mod Faults
+pub mod Found
+pub mod Opened
+pub mod Finds

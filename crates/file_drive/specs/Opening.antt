@@ -1,0 +1,61 @@
+-- What an open finds in a file.
+use Rattle.std.specs.Prelude.{◌≡◌, ℕ, ◌⊎◌, ◌≤◌, true, if◌then◌else◌, List, count_by, length, map}
+use Rattle.zone_states.specs.declared.geometry.Geometry.{Geometry}
+use Rattle.zone_states.specs.Stored.{StoredZone}
+use Rattle.std.specs.List.{AllByRecursion}
+use Rattle.zone_states.specs.Transition.{is_active, is_open}
+use Rattle.zone_drive.specs.Stored.{may_hold}
+use Rattle.file_drive.specs.Head.{is_of_boot}
+use Rattle.file_drive.specs.InFile.{CanOpen}
+use Rattle.file_drive.specs.Layout.{SameZones, at_table}
+use Rattle.file_drive.specs.Tables.{entry_of, flushed_table, flushed_zones, live_table, word_of, words_in, zones_by}
+use Rattle.file_drive.specs.declared.boot.Boot.{Boot}
+use Rattle.file_drive.specs.declared.entry.Entry.{Entry}
+
+-- The table that counts: in the boot that served the file last, which shows all that was written, the one after the
+-- last command; in another, that of the last flush.
+abbrev pub opened_table : Boot → List ℕ → ℕ
+opened_table boot file = if is_of_boot boot file then live_table file else flushed_table file
+
+-- the zones that a system in this boot finds
+abbrev pub opened_zones : Geometry → Boot → List ℕ → List StoredZone
+opened_zones geometry boot file = zones_by geometry file (opened_table boot file)
+
+-- A word that a table may have for a zone: the word of what it says, with no more blocks than a zone has.
+pub record IsWord (geometry : Geometry) (word : ℕ) : Type 0 where
+  pub said : word_of (entry_of word) ≡ word
+  pub within : (entry_of word).written ≤ geometry.capacity
+
+-- a zone that is in a state in which it may hold so many blocks
+abbrev pub Holds : Geometry → Entry → Type 0
+Holds geometry entry = may_hold entry.state geometry.capacity entry.written ≡ true
+
+-- no more zones are active and open than may be
+pub record AreFew (geometry : Geometry) (entries : List Entry) : Type 0 where
+  pub active : count_by (λ entry. is_active entry.state) entries ≤ geometry.active
+  pub open_zones : count_by (λ entry. is_open entry.state) entries ≤ geometry.«open»
+
+-- the words of a table of a drive of this shape
+pub record IsTable (geometry : Geometry) (words : List ℕ) : Type 0 where
+  pub each : AllByRecursion (IsWord geometry) words
+  pub hold : AllByRecursion (Holds geometry) (map entry_of words)
+  pub few : AreFew geometry (map entry_of words)
+
+-- The new bytes are those of the same drive with the same last flush.
+pub record KeepsFlushed (geometry : Geometry) (old new : List ℕ) : Type 0 where
+  pub long : length new ≡ length old
+  pub head : words_in new 0 8 ≡ words_in old 0 8
+  pub picked : flushed_table new ≡ flushed_table old
+  pub words : words_in new (at_table geometry (flushed_table old)) geometry.zones ≡ words_in old (at_table geometry (flushed_table old)) geometry.zones
+  pub zones : SameZones geometry old new
+
+-- A change of a drive's file that changes no zone: a system in this boot finds the same zones. One in another boot finds
+-- the same, or those of the last flush. After a loss of power is found what might have been found before, or that flush.
+pub record Unnoticed {F : Type 0} (seen : F → List ℕ) (may_leave : F → List ℕ → Type 0) (boot : Boot) (geometry : Geometry) (old new : F) : Type 0 where
+  pub long : length (seen new) ≡ length (seen old)
+  pub head : words_in (seen new) 0 8 ≡ words_in (seen old) 0 8
+  pub kill : opened_zones geometry boot (seen new) ≡ opened_zones geometry boot (seen old)
+  pub others : (other : Boot) → (opened_zones geometry other (seen new) ≡ opened_zones geometry other (seen old))
+      ⊎ (opened_zones geometry other (seen new) ≡ flushed_zones geometry (seen old))
+  pub power : (bytes : List ℕ) → may_leave new bytes
+      → may_leave old bytes ⊎ (CanOpen geometry bytes × (flushed_zones geometry bytes ≡ flushed_zones geometry (seen old)))

@@ -1,0 +1,104 @@
+-- What the tables of a file say of its zones.
+use Rattle.std.specs.Prelude.{ℕ, zero, suc, ◌+◌, ◌*◌, ◌/◌, ◌%◌, ◌^◌, ◌==◌, if◌then◌else◌, List, [], ◌∷◌, map, Option, Some, None, Result, Ok, Err}
+use Rattle.std.specs.Option.{unwrap_or}
+use Rattle.nvme_wire.specs.Descriptor.{state_code, state_of}
+use Rattle.nvme_wire.specs.declared.command.Action.{Action}
+use Rattle.nvme_wire.specs.declared.command.Action.TheVariants as actions
+use Rattle.nvme_wire.specs.declared.status.Status.{Status}
+use Rattle.nvme_wire.specs.declared.zone_state.ZoneState.{ZoneState}
+use Rattle.nvme_wire.specs.declared.zone_state.ZoneState.TheVariants.{Empty, Full, Offline}
+use Rattle.zone_states.specs.declared.geometry.Geometry.{Geometry}
+use Rattle.zone_states.specs.Stored.{StoredZone}
+use Rattle.zone_states.specs.Transition.{state_after}
+use Rattle.zone_states.specs.Zone.{opened_by_write}
+use Rattle.drive_port.specs.Run.{restarted_state}
+use Rattle.drive_port.specs.Step.{is_selected}
+use Rattle.file_drive.specs.Layout.{at_flushed, at_live, at_table, at_zone, part, word_in}
+use Rattle.file_drive.specs.declared.entry.Entry.{Entry}
+
+-- ---- words
+
+-- The number of a state in a table: the standard's, but 0 for an empty zone, so that a table of zeros has only these.
+abbrev pub table_code : ZoneState → ℕ
+table_code Empty = 0
+table_code state = state_code state
+
+-- the state with a number in a table; a number that is that of no state is taken for Offline
+abbrev pub state_from : ℕ → ZoneState
+state_from zero = Empty
+state_from code = unwrap_or (state_of code) Offline
+
+-- the word of a zone: its state as a restart leaves it, and how many of its blocks are written
+abbrev pub word_of : Entry → ℕ
+word_of entry = table_code (restarted_state entry.state) * 2 ^ 32 + entry.written
+
+-- what a word says
+abbrev pub entry_of : ℕ → Entry
+entry_of word = record { state = state_from (word / 2 ^ 32); written = word % 2 ^ 32 }
+
+-- the words of a table
+abbrev pub words_in : List ℕ → ℕ → ℕ → List ℕ
+words_in file at zero = []
+words_in file at (suc count) = word_in file at ∷ words_in file (at + 8) count
+
+-- ---- zones
+
+-- a zone with a number has the blocks that are counted, and no more, whatever the file holds after them
+abbrev pub zone_in : Geometry → List ℕ → ℕ → Entry → StoredZone
+zone_in geometry file number entry =
+    record { state = entry.state; bytes = part file (at_zone geometry number) (entry.written * geometry.block) }
+
+-- the zones of these entries, the first of them with a number
+abbrev pub zones_in : Geometry → List ℕ → ℕ → List Entry → List StoredZone
+zones_in geometry file number [] = []
+zones_in geometry file number (entry ∷ entries) = zone_in geometry file number entry ∷ zones_in geometry file (number + 1) entries
+
+-- the zones as a table says
+abbrev pub zones_by : Geometry → List ℕ → ℕ → List StoredZone
+zones_by geometry file table = zones_in geometry file 0 (map entry_of (words_in file (at_table geometry table) geometry.zones))
+
+-- The table after each command: one of the first two, by its word.
+abbrev pub live_table : List ℕ → ℕ
+live_table file = word_in file at_live % 2
+
+-- The table of the last flush: one of the other two, by its word.
+abbrev pub flushed_table : List ℕ → ℕ
+flushed_table file = 2 + word_in file at_flushed % 2
+
+-- what an open finds where the system went on since the file was written: after a kill
+abbrev pub live_zones : Geometry → List ℕ → List StoredZone
+live_zones geometry file = zones_by geometry file (live_table file)
+
+-- what an open finds where it may not have: after a loss of power
+abbrev pub flushed_zones : Geometry → List ℕ → List StoredZone
+flushed_zones geometry file = zones_by geometry file (flushed_table file)
+
+-- ---- actions
+
+-- what an action leaves of a zone: a Reset leaves no block
+abbrev pub written_after : Action → ℕ → ℕ
+written_after actions.Reset written = 0
+written_after action written = written
+
+abbrev pub entry_after : Action → Entry → Result ZoneState Status → Entry
+entry_after action entry (Ok state) = record { state = state; written = written_after action entry.written }
+entry_after action entry (Err status) = entry
+
+-- an action on one zone
+abbrev pub acted : Action → Entry → Entry
+acted action entry = entry_after action entry (state_after entry.state action)
+
+-- an action on all zones
+abbrev pub sent_entry : Action → Entry → Entry
+sent_entry action entry = if is_selected action entry.state then acted action entry else entry
+
+-- what an action on all zones leaves, if there is one
+abbrev pub next_entry : Option Action → Entry → Entry
+next_entry None entry = entry
+next_entry (Some action) entry = sent_entry action entry
+
+-- a zone of which so many more blocks are written
+abbrev pub appended : Geometry → Entry → ℕ → Entry
+appended geometry entry blocks =
+    let written = entry.written + blocks in
+    record { state = if written == geometry.capacity then Full else opened_by_write entry.state; written = written }

@@ -1,0 +1,69 @@
+use std::alloc::{AllocError, AllocFailed};
+use std::io;
+use thiserror::Error;
+use zone_states::GeometryFault;
+
+/// Why a file is not opened as a drive.
+#[derive(Debug, Error, Drop)]
+pub enum OpenFault {
+    /// It does not begin with the eight bytes of a drive in a file.
+    #[error("it is no drive in a file")]
+    NotADrive,
+    /// It begins with those of another version.
+    #[error("a drive in a file of another version")]
+    Version,
+    /// The first part of the geometry that is out of range.
+    #[error("{0}")]
+    Geometry(GeometryFault),
+    /// It is shorter than its geometry wants.
+    #[error("the file is too short for its drive")]
+    Short,
+    /// It is longer.
+    #[error("the file is too long for its drive")]
+    Long,
+    /// The word of the zone with this number is none that a table may have.
+    #[error("the table says of zone {0} what cannot be")]
+    Table(u32),
+    /// More zones are active or open than may be.
+    #[error("more zones are active than may be")]
+    Limits,
+    /// A call on the file failed.
+    #[error("{0}")]
+    Input(io::Error),
+    /// An allocation failed.
+    #[error("out of memory")]
+    OutOfMemory,
+}
+
+impl From<AllocError> for OpenFault {
+    ghost use Rattle.std.specs.Prelude.{◌≡◌};
+    ghost use Rattle.file_drive.specs.declared.fault.OpenFault.TheVariants.{OutOfMemory};
+
+    ghost from_gives = { λ _ fault. fault ≡ OutOfMemory };
+
+    fn from(_error: AllocError) -> OpenFault {
+        OpenFault::OutOfMemory
+    }
+}
+
+impl<T: Drop> From<AllocFailed<T>> for OpenFault {
+    ghost use Rattle.std.specs.Prelude.{◌≡◌};
+    ghost use Rattle.file_drive.specs.declared.fault.OpenFault.TheVariants.{OutOfMemory};
+
+    ghost from_gives = { λ _ fault. fault ≡ OutOfMemory };
+
+    fn from(_error: AllocFailed<T>) -> OpenFault {
+        OpenFault::OutOfMemory
+    }
+}
+
+impl From<io::Error> for OpenFault {
+    ghost use Rattle.std.specs.Prelude.{◌≡◌};
+    ghost use Rattle.file_drive.specs.declared.fault.OpenFault.TheVariants.{Input};
+
+    ghost from_gives = { λ error fault. fault ≡ Input error };
+
+    fn from(error: io::Error) -> OpenFault {
+        OpenFault::Input(error)
+    }
+}

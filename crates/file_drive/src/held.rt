@@ -1,0 +1,61 @@
+ghost use Rattle.std.specs.Prelude.{◌≡◌, ◌<◌, ◌≤◌, ◌++◌, IfErr, IfSome, IsErrOf, IsTrue, None, OnErr, OnOk, count_by, drop, length, map, position, slice_set, true};
+ghost use Rattle.zone_states.specs.Checks.{first_failing};
+ghost use Rattle.zone_states.specs.Stored.{stored_write, zone_stored};
+ghost use Rattle.zone_states.specs.Writing.{append_bytes_checks};
+ghost use Rattle.zone_drive.specs.Held.{LeavesNoMore, LeavesOrNow};
+ghost use Rattle.zone_drive.specs.Table.{sent_in, stored_at};
+ghost use Rattle.file_drive.specs.InFile.{filed, left_zones};
+
+use crate::boot::System;
+use crate::zones::FileZones;
+use drive_port::Halt;
+use file_bytes::FileBytes;
+use zone_states::Action;
+
+impl<F: FileBytes + Drop, S: System + Drop> FileZones<F, S> {
+    // Writes bytes after a zone's, as a Write or an Append does that passed its checks.
+    pub(crate) fn append(&mut self, index: usize, bytes: &[u8]) -> Result<(), Halt>
+        requires in_range { index < length (filed F.seen self.old) }
+        requires checks { None ≡ first_failing (append_bytes_checks self.old.shape
+            (zone_stored self.old.shape.block (stored_at (filed F.seen self.old) index)) bytes.now) }
+        ensures shape { self.new.shape ≡ self.old.shape }
+        ensures ok { OnOk result (filed F.seen self.new ≡ slice_set (filed F.seen self.old) index
+            (stored_write self.old.shape (stored_at (filed F.seen self.old) index) bytes.now)) }
+        ensures err { OnErr result (filed F.seen self.new ≡ filed F.seen self.old) }
+        ensures only { IfErr result (λ halt. halt ≡ Halt.Stopped) }
+        ensures leaves { LeavesOrNow (left_zones F.may_leave) (filed F.seen self.old) self.old self.new }
+    {
+        let blocks = bytes.len() / self.geometry.block as usize;
+        let entry = self.entries[index].appended(&self.geometry, blocks as u32);
+        self.clear(index)?;
+        self.write_data(index, bytes)?;
+        self.put(index, entry)?;
+        Ok(())
+    }
+
+    // Does an action on one zone.
+    pub(crate) fn act(&mut self, index: usize, action: Action) -> Result<(), Halt>
+        requires { index < length (filed F.seen self.old) }
+        ensures shape { self.new.shape ≡ self.old.shape }
+        ensures ok { OnOk result (filed F.seen self.new ≡ sent_in (filed F.seen self.old) index action) }
+        ensures err { OnErr result (filed F.seen self.new ≡ filed F.seen self.old) }
+        ensures only { IfErr result (λ halt. halt ≡ Halt.Stopped) }
+        ensures leaves { LeavesNoMore (left_zones F.may_leave) self.old self.new }
+    {
+        let entry = self.entries[index].acted(action);
+        self.put(index, entry)?;
+        Ok(())
+    }
+
+    // Closes a zone, as a restart does, so that its word stays. A zone that is not open stays as it is.
+    pub(crate) fn close_one(&mut self, index: usize)
+        requires { index < length (filed F.seen self.old) }
+        ensures shape { self.new.shape ≡ self.old.shape }
+        ensures closed { filed F.seen self.new ≡ sent_in (filed F.seen self.old) index Action.Close }
+        ensures leaves { LeavesNoMore (left_zones F.may_leave) self.old self.new }
+    {
+        let before = self.entries[index];
+        self.entries[index] = before.acted(Action::Close);
+        self.resources.follow(&self.entries, index, before.state);
+    }
+}

@@ -1,0 +1,152 @@
+ghost use Rattle.std.specs.Prelude.{◌≡◌, ◌⊎◌, false, length, map, true, IfErr, IfOk, IsTrue, OnErr, OnOk};
+ghost use Rattle.sqlite_disk.specs.Disk.{Follows, Only};
+ghost use Rattle.file_drive.specs.Found.{IsFound, IsRead, with_boot};
+ghost use Rattle.file_drive.specs.Head.{is_of_boot, shape_words};
+ghost use Rattle.file_drive.specs.Faults.{IsOpenFault};
+ghost use Rattle.file_drive.specs.Opened.{IsOpened};
+ghost use Rattle.file_drive.specs.Opening.{KeepsFlushed, Unnoticed, opened_zones};
+ghost use Rattle.file_drive.specs.Tables.{word_of, words_in, zones_in};
+ghost use Rattle.zone_states.specs.declared.geometry.Geometry.{Geometry};
+ghost use Rattle.file_drive.specs.declared.boot.Boot.{Boot as Boots};
+
+use crate::boot::{Boot, System};
+use crate::fault::OpenFault;
+use crate::found::{Found, is_same_boot, read_all};
+use crate::layout::at_table;
+use crate::words::{put_word, write_words};
+use file_bytes::FileBytes;
+use std::alloc::Global;
+use std::io;
+
+// The first and the second word of the boot in a file.
+const AT_FIRST: u64 = 64;
+
+const AT_SECOND: u64 = 72;
+
+// Writes the first word of the boot.
+fn put_first<F: FileBytes>(file: &mut F, found: &mut Found, word: u64) -> io::Result<()>
+    requires { IsRead (F.FileBytes.seen file.old) found.old }
+    ensures read { IsRead (F.FileBytes.seen file.new) found.new }
+    ensures ok { OnOk result (found.new ≡ with_boot found.old (record found.old.head.boot { first = word })) }
+    ensures err { OnErr result (found.new ≡ found.old) }
+    ensures shown { OnErr result (F.FileBytes.seen file.new ≡ F.FileBytes.seen file.old) }
+    ensures keeps { KeepsFlushed found.old.head.geometry (F.FileBytes.seen file.old) (F.FileBytes.seen file.new) }
+    ensures leaves { Follows (KeepsFlushed found.old.head.geometry) (F.FileBytes.may_leave file.old)
+        (F.FileBytes.may_leave file.new) }
+    ensures usable { F.FileBytes.is_usable file.new ≡ F.FileBytes.is_usable file.old }
+{
+    put_word(file, AT_FIRST, found.head.boot.first, word)?;
+    found.head.boot.first = word;
+    Ok(())
+}
+
+// Writes the second word of the boot.
+fn put_second<F: FileBytes>(file: &mut F, found: &mut Found, word: u64) -> io::Result<()>
+    requires { IsRead (F.FileBytes.seen file.old) found.old }
+    ensures read { IsRead (F.FileBytes.seen file.new) found.new }
+    ensures ok { OnOk result (found.new ≡ with_boot found.old (record found.old.head.boot { second = word })) }
+    ensures err { OnErr result (found.new ≡ found.old) }
+    ensures shown { OnErr result (F.FileBytes.seen file.new ≡ F.FileBytes.seen file.old) }
+    ensures keeps { KeepsFlushed found.old.head.geometry (F.FileBytes.seen file.old) (F.FileBytes.seen file.new) }
+    ensures leaves { Follows (KeepsFlushed found.old.head.geometry) (F.FileBytes.may_leave file.old)
+        (F.FileBytes.may_leave file.new) }
+    ensures usable { F.FileBytes.is_usable file.new ≡ F.FileBytes.is_usable file.old }
+{
+    put_word(file, AT_SECOND, found.head.boot.second, word)?;
+    found.head.boot.second = word;
+    Ok(())
+}
+
+// Writes the words of the zones in the live table.
+fn put_live<F: FileBytes>(file: &mut F, found: &mut Found) -> io::Result<()>
+    requires read { IsRead (F.FileBytes.seen file.old) found.old }
+    requires count { length found.old.entries.items ≡ found.old.head.geometry.zones }
+    ensures read { IsRead (F.FileBytes.seen file.new) found.new }
+    ensures ok { OnOk result (found.new.tables.current.items ≡ map word_of found.new.entries.items) }
+    ensures same { found.new ≡ record found.old {
+      tables = record found.old.tables {
+        current = found.new.tables.current;
+      };
+    } }
+    ensures keeps { KeepsFlushed found.old.head.geometry (F.FileBytes.seen file.old) (F.FileBytes.seen file.new) }
+    ensures leaves { Follows (KeepsFlushed found.old.head.geometry) (F.FileBytes.may_leave file.old)
+        (F.FileBytes.may_leave file.new) }
+    ensures usable { F.FileBytes.is_usable file.new ≡ F.FileBytes.is_usable file.old }
+{
+    let at = at_table(&found.head.geometry, found.tables.live);
+    write_words(file, at, &mut found.tables.current, &found.entries, None)
+}
+
+// Makes a file ready for this boot: its live table says what was found. Until the last word is written, the file is of
+// no boot.
+fn take_over<F: FileBytes>(file: &mut F, found: &mut Found, boot: Boot) -> io::Result<()>
+    requires read { IsRead (F.FileBytes.seen file.old) found.old }
+    requires count { length found.old.entries.items ≡ found.old.head.geometry.zones }
+    requires another { is_of_boot boot (F.FileBytes.seen file.old) ≡ false }
+    ensures read { IsRead (F.FileBytes.seen file.new) found.new }
+    ensures ok { OnOk result (found.new.head.boot ≡ boot) }
+    ensures live { OnOk result (found.new.tables.current.items ≡ map word_of found.new.entries.items) }
+    ensures counts { (other : Boots) → is_of_boot other (F.FileBytes.seen file.new) ≡ true
+        → (found.new.tables.current.items ≡ map word_of found.new.entries.items)
+        ⊎ (F.FileBytes.seen file.new ≡ F.FileBytes.seen file.old) }
+    ensures same { found.new ≡ record (with_boot found.old found.new.head.boot) {
+      tables = record found.old.tables { current = found.new.tables.current };
+    } }
+    ensures keeps { KeepsFlushed found.old.head.geometry (F.FileBytes.seen file.old) (F.FileBytes.seen file.new) }
+    ensures leaves { Follows (KeepsFlushed found.old.head.geometry) (F.FileBytes.may_leave file.old)
+        (F.FileBytes.may_leave file.new) }
+    ensures usable { F.FileBytes.is_usable file.new ≡ F.FileBytes.is_usable file.old }
+{
+    put_second(file, found, 0)?;
+    put_live(file, found)?;
+    put_first(file, found, boot.first)?;
+    put_second(file, found, boot.second)?;
+    Ok(())
+}
+
+// Makes a file that was read and synced ready for this boot.
+fn make_ready<F: FileBytes>(file: &mut F, found: &mut Found, boot: Boot) -> io::Result<()>
+    requires found { IsFound boot (F.FileBytes.seen file.old) found.old }
+    requires synced { Only (F.FileBytes.seen file.old) (F.FileBytes.may_leave file.old) }
+    requires usable { IsTrue (F.FileBytes.is_usable file.old) }
+    ensures ok { OnOk result (IsOpened F.FileBytes.seen F.FileBytes.may_leave F.FileBytes.is_usable boot file.new
+        found.new) }
+    ensures geometry { found.new.head.geometry ≡ found.old.head.geometry }
+    ensures zones { zones_in found.old.head.geometry (F.FileBytes.seen file.new) 0 found.new.entries.items
+        ≡ opened_zones found.old.head.geometry boot (F.FileBytes.seen file.old) }
+    ensures unnoticed { Unnoticed F.FileBytes.seen F.FileBytes.may_leave boot found.old.head.geometry file.old
+        file.new }
+{
+    if is_same_boot(found.head.boot, boot) {
+        return Ok(());
+    }
+    take_over(file, found, boot)?;
+    Ok(())
+}
+
+/// Opens a file as a drive: reads it, syncs it, and makes it ready for this boot of the system.
+///
+/// Where the same boot served the file last, the zones are those after the last command: the system kept all that was
+/// written, though the program may have been killed. Else they are those of the last flush.
+///
+/// After an error the file is as it was before to each open: a system in this boot finds the same zones in it, and after
+/// a loss of power it shows no others.
+pub fn open<F: FileBytes, S: System>(
+    alloc: Global,
+    file: &mut F,
+    system: &S,
+) -> Result<Found, OpenFault>
+    requires { IsTrue (F.is_usable file.old) }
+    ensures ok { IfOk result (IsOpened F.seen F.may_leave F.is_usable S.boot file.new) }
+    ensures zones { IfOk result (λ found. zones_in found.head.geometry (F.seen file.new) 0 found.entries.items
+        ≡ opened_zones found.head.geometry S.boot (F.seen file.old)) }
+    ensures err { IfErr result (IsOpenFault S.boot (F.seen file.old)) }
+    ensures unnoticed { (geometry : Geometry) → words_in (F.seen file.old) 0 8 ≡ shape_words geometry
+        → Unnoticed F.seen F.may_leave S.boot geometry file.old file.new }
+{
+    let boot = system.boot();
+    let mut found = read_all(alloc, file, boot)?;
+    file.sync()?;
+    make_ready(file, &mut found, boot)?;
+    Ok(found)
+}

@@ -1,0 +1,74 @@
+ghost use Rattle.std.specs.Prelude.{◌≡◌, false, map, true, List, ℕ};
+ghost use Rattle.zone_drive.specs.Habits.{made};
+ghost use Rattle.zone_drive.specs.Held.{LeavesZones, restarted_stored};
+ghost use Rattle.zone_drive.specs.Stored.{AreZones, unused, zones_of};
+ghost use Rattle.file_drive.specs.Finds.{Finds};
+ghost use Rattle.file_drive.specs.Head.{is_known, is_of_boot};
+ghost use Rattle.file_drive.specs.InFile.{filed, left_zones};
+ghost use Rattle.file_drive.specs.Opened.{IsOpened};
+ghost use Rattle.file_drive.specs.Tables.{flushed_zones, zones_in};
+ghost use Rattle.file_drive.specs.declared.boot.Boot.{Boot};
+
+use crate::boot::System;
+use crate::found::Found;
+use crate::zones::FileZones;
+use file_bytes::FileBytes;
+use std::alloc::Global;
+use zone_drive::{Resources, ZoneDrive};
+
+/// A drive over a file that was opened. It has completed no command, and its habit is `Lazy`.
+pub fn serve<F: FileBytes + Drop, S: System + Drop>(
+    alloc: Global,
+    file: F,
+    system: S,
+    found: Found,
+) -> ZoneDrive<FileZones<F, S>>
+    requires { IsOpened F.FileBytes.seen F.FileBytes.may_leave F.FileBytes.is_usable S.System.boot file found }
+    ensures { result ≡ record {
+      drive = made (unused found.head.geometry (zones_of found.head.geometry.block
+          (zones_in found.head.geometry (F.FileBytes.seen file) 0 found.entries.items)));
+      held = record { shape = found.head.geometry; file = file; entries = found.entries.items };
+      halted = false;
+    } }
+{
+    let geometry = found.head.geometry;
+    ZoneDrive::new(alloc, geometry, FileZones::new(file, system, found))
+}
+
+impl<F: FileBytes + Drop, S: System + Drop> FileZones<F, S> {
+    /// The zones of a file that was opened.
+    pub fn new(file: F, system: S, found: Found) -> FileZones<F, S>
+        requires { IsOpened F.seen F.may_leave F.is_usable S.boot file found }
+        ensures { result ≡ record { shape = found.head.geometry; file = file; entries = found.entries.items } }
+    {
+        let resources = Resources::of(&found.entries);
+        let tables = found.tables;
+        FileZones {
+            file,
+            system,
+            geometry: found.head.geometry,
+            entries: found.entries,
+            resources,
+            live: tables.live,
+            spare: tables.spare,
+            flushed: tables.flushed,
+            safe: tables.safe,
+            other: tables.other,
+            failed: false,
+        }
+    }
+
+    /// The file. It is what a kill at this moment leaves: a system in the same boot finds the zones as they are. After a
+    /// loss of power, in another boot, it finds those of the last flush.
+    pub fn into_file(self) -> F
+        ensures file { result ≡ self.file }
+        ensures kill { is_known S.boot ≡ true → AreZones self.shape (filed F.seen self)
+            → LeavesZones (left_zones F.may_leave) self.shape self
+            → Finds self.shape S.boot (F.seen self.file) (map restarted_stored (filed F.seen self)) }
+        ensures power { LeavesZones (left_zones F.may_leave) self.shape self → (bytes : List ℕ) (boot : Boot)
+            → F.may_leave self.file bytes → is_of_boot boot bytes ≡ false
+            → Finds self.shape boot bytes (flushed_zones self.shape bytes) }
+    {
+        self.file
+    }
+}

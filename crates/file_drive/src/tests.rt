@@ -1,0 +1,243 @@
+ghost use Rattle.std.specs.Prelude.{IfSome, IsTrue};
+
+use crate::{Boot, FileZones, System, file_length, format, open, serve};
+use drive_port::{Device, append, read, reset};
+use file_bytes::{FileBytes, MemoryFile, StoppingFile};
+use nvme_wire::Command;
+use std::alloc::Global;
+use std::test::Fail;
+use zone_drive::ZoneDrive;
+use zone_states::Geometry;
+
+const GEOMETRY: Geometry = Geometry {
+    block: 512,
+    zones: 4,
+    size: 8,
+    capacity: 6,
+    transfer: 4,
+    active: 4,
+    open: 4,
+};
+
+// A system before a loss of power, and after it.
+#[derive(Drop)]
+struct Before;
+
+impl System for Before {
+    ghost boot = { record { first = 1; second = 1 } };
+
+    fn boot(&self) -> Boot {
+        Boot {
+            first: 1,
+            second: 1,
+        }
+    }
+}
+
+#[derive(Drop)]
+struct After;
+
+impl System for After {
+    ghost boot = { record { first = 2; second = 1 } };
+
+    fn boot(&self) -> Boot {
+        Boot {
+            first: 2,
+            second: 1,
+        }
+    }
+}
+
+// A file of a fresh drive.
+fn formatted(alloc: Global, geometry: &Geometry) -> Option<MemoryFile>
+    ensures { IfSome result (λ file. IsTrue file.usable) }
+{
+    if geometry.check().is_err() {
+        return None;
+    }
+    let mut file = MemoryFile::new(alloc, file_length(geometry) as usize).ok()?;
+    format(&mut file, geometry).ok()?;
+    Some(file)
+}
+
+// A drive over a file.
+fn opened<F: FileBytes + Drop, S: System + Drop>(
+    alloc: Global,
+    file: F,
+    system: S,
+) -> Option<ZoneDrive<FileZones<F, S>>>
+    requires { IsTrue (F.FileBytes.is_usable file) }
+{
+    let mut file = file;
+    let found = open(alloc, &mut file, &system).ok()?;
+    Some(serve(alloc, file, system, found))
+}
+
+// The file once it lost power, if it may be left with these bytes.
+fn after_loss(file: MemoryFile, left: &[u8]) -> Option<MemoryFile>
+    ensures { IfSome result (λ file. IsTrue file.usable) }
+{
+    let mut file = file;
+    if file.lose_power(left) != Ok(true) {
+        return None;
+    }
+    Some(file)
+}
+
+fn copied(alloc: Global, bytes: &[u8]) -> Option<Vec<u8>> {
+    let mut copy = Vec::new(alloc);
+    copy.extend_from_slice(bytes).ok()?;
+    Some(copy)
+}
+
+// The blocks of two zones, with zeros after those that are written.
+fn shown<D: Device>(alloc: Global, drive: &mut D) -> Option<Vec<u8>> {
+    let mut room = Vec::new(alloc);
+    let mut all = Vec::new(alloc);
+    for address in [0, 3, 8, 11] {
+        read(drive, address, 3, &mut room).ok()?;
+        all.extend_from_slice(&room).ok()?;
+    }
+    Some(all)
+}
+
+// Appends blocks of one byte to a zone: whether that was answered.
+fn put<D: Device>(alloc: Global, drive: &mut D, start: u64, byte: u8, blocks: usize) -> bool {
+    if blocks == 0 || blocks > 4 {
+        return false;
+    }
+    let Ok(bytes) = Vec::from_elem(alloc, byte, blocks * 512) else {
+        return false;
+    };
+    if drive.geometry().block != 512 {
+        return false;
+    }
+    append(alloc, drive, start, &bytes).is_ok()
+}
+
+fn flush<D: Device>(alloc: Global, drive: &mut D) -> Option<()> {
+    let mut into = Vec::new(alloc);
+    drive
+        .submit(&Command::Flush.encode(0), &[], &mut into)
+        .ok()?;
+    Some(())
+}
+
+// A drive with blocks in two zones is killed: whether it is found as it was.
+fn survives_a_kill(alloc: Global) -> Option<bool> {
+    let mut drive = opened(alloc, formatted(alloc, &GEOMETRY)?, Before)?;
+    let put_both = put(alloc, &mut drive, 0, 1, 2) && put(alloc, &mut drive, 8, 2, 1);
+    let before = shown(alloc, &mut drive)?;
+    let file = drive.into_zones().into_file();
+    let left = copied(alloc, file.bytes())?;
+    let mut drive = opened(alloc, after_loss(file, &left)?, Before)?;
+    Some(put_both && shown(alloc, &mut drive)? == before)
+}
+
+#[test]
+fn a_kill_loses_nothing(rt: HostRuntime) -> Result<(), Fail> {
+    assert_eq!(rt; survives_a_kill(rt.alloc()), Some(true));
+    Ok(())
+}
+
+// A flush, and then a write that a loss of power takes: whether the zones of the flush are found.
+fn survives_a_loss(alloc: Global, tear: bool) -> Option<bool> {
+    let mut drive = opened(alloc, formatted(alloc, &GEOMETRY)?, Before)?;
+    let put_first = put(alloc, &mut drive, 0, 1, 2);
+    flush(alloc, &mut drive)?;
+    let before = shown(alloc, &mut drive)?;
+    let file = drive.into_zones().into_file();
+    let mut left = copied(alloc, file.bytes())?;
+    let mut drive = opened(alloc, after_loss(file, &left)?, Before)?;
+    let put_second = put(alloc, &mut drive, 0, 3, 1);
+    let file = drive.into_zones().into_file();
+    if tear {
+        *left.get_mut(12288)? = 255;
+        *left.get_mut(12292)? = 255;
+    }
+    let mut drive = opened(alloc, after_loss(file, &left)?, After)?;
+    Some(put_first && put_second && shown(alloc, &mut drive)? == before)
+}
+
+#[test]
+fn a_loss_of_power_leaves_the_last_flush(rt: HostRuntime) -> Result<(), Fail> {
+    assert_eq!(rt; survives_a_loss(rt.alloc(), false), Some(true));
+    Ok(())
+}
+
+#[test]
+fn a_torn_word_is_not_looked_at(rt: HostRuntime) -> Result<(), Fail> {
+    assert_eq!(rt; survives_a_loss(rt.alloc(), true), Some(true));
+    Ok(())
+}
+
+// How many steps there are.
+const STEPS: usize = 7;
+
+// Does one step: whether it was answered.
+fn step<D: Device>(alloc: Global, drive: &mut D, number: usize) -> bool {
+    match number {
+        0 => put(alloc, drive, 0, 1, 2),
+        1 => put(alloc, drive, 8, 2, 1),
+        3 => reset(alloc, drive, 0).is_ok(),
+        4 => put(alloc, drive, 0, 3, 3),
+        5 => put(alloc, drive, 8, 4, 2),
+        _ => flush(alloc, drive).is_some(),
+    }
+}
+
+// Does the steps up to the first that is not answered: what is shown after it, and after each before it.
+fn done<D: Device>(alloc: Global, drive: &mut D) -> Option<Vec<Vec<u8>>> {
+    let mut all = Vec::new(alloc);
+    all.push(shown(alloc, drive)?).ok()?;
+    for number in 0..STEPS {
+        if !step(alloc, drive, number) {
+            return Some(all);
+        }
+        all.push(shown(alloc, drive)?).ok()?;
+    }
+    Some(all)
+}
+
+// Whether a drive shows what was wanted after one of the steps from one number to another.
+fn shows_one_of(shown: &Vec<u8>, wanted: &Vec<Vec<u8>>, first: usize, last: usize) -> bool {
+    (first..=last).any(|number| wanted.get(number) == Some(shown))
+}
+
+// A kill at a change of the file. In the same boot the drive is found as after the last step that was answered, or the
+// next. In another boot it is found as after the last flush that was answered, or a later step.
+fn survives_a_stop(alloc: Global, changes: u64, wanted: &Vec<Vec<u8>>) -> Option<bool> {
+    let drive = opened(alloc, formatted(alloc, &GEOMETRY)?, Before)?;
+    let file = drive.into_zones().into_file();
+    let left = copied(alloc, file.bytes())?;
+    let file = StoppingFile::new(after_loss(file, &left)?, changes.checked_add(1)?, 700);
+    let mut drive = opened(alloc, file, Before)?;
+    let answered = done(alloc, &mut drive)?.len();
+    let last = answered.checked_sub(1)?;
+    let flushed = if last < 3 { 0 } else { 3 };
+    let file = drive.into_zones().into_file().into_inner();
+    let left = copied(alloc, file.bytes())?;
+    let mut drive = opened(alloc, after_loss(file, &left)?, Before)?;
+    let same_boot = shows_one_of(&shown(alloc, &mut drive)?, wanted, last, answered);
+    let file = drive.into_zones().into_file();
+    let mut drive = opened(alloc, after_loss(file, &left)?, After)?;
+    let another = shows_one_of(&shown(alloc, &mut drive)?, wanted, flushed, answered);
+    Some(same_boot && another)
+}
+
+fn survives_all_stops(alloc: Global) -> Option<bool> {
+    let mut drive = opened(alloc, formatted(alloc, &GEOMETRY)?, Before)?;
+    let wanted = done(alloc, &mut drive)?;
+    for changes in 0..40 {
+        if survives_a_stop(alloc, changes, &wanted) != Some(true) {
+            return Some(false);
+        }
+    }
+    Some(wanted.len() == STEPS + 1)
+}
+
+#[test]
+fn a_kill_at_each_change_loses_nothing(rt: HostRuntime) -> Result<(), Fail> {
+    assert_eq!(rt; survives_all_stops(rt.alloc()), Some(true));
+    Ok(())
+}
