@@ -3,6 +3,8 @@
 #include <errno.h>
 #include <fcntl.h>
 #include <stdbool.h>
+#include <stdio.h>
+#include <string.h>
 #include <sys/file.h>
 #include <sys/stat.h>
 #include <unistd.h>
@@ -17,6 +19,7 @@ int __real_flock(int file, int operation);
 int __real_fstat(int file, struct stat *seen);
 int __real_ftruncate(int file, off_t length);
 int __real_posix_fadvise(int file, off_t at, off_t length, int advice);
+FILE *__real_fopen(const char *path, const char *mode);
 
 // Whether a call fails, by an error that is not 0.
 static bool fails(int error) {
@@ -79,4 +82,10 @@ int __wrap_ftruncate(int file, off_t length) {
 int __wrap_posix_fadvise(int file, off_t at, off_t length, int advice) {
     if (at == 0 && length == 0 && advice == POSIX_FADV_DONTNEED) calls.advices++;
     return __real_posix_fadvise(file, at, length, advice);
+}
+
+FILE *__wrap_fopen(const char *path, const char *mode) {
+    bool is_boot = strcmp(path, "/proc/sys/kernel/random/boot_id") == 0;
+    if (is_boot) calls.boot_reads++;
+    return __real_fopen(is_boot && calls.boot_path != NULL ? calls.boot_path : path, mode);
 }

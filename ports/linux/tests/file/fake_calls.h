@@ -9,7 +9,9 @@ struct calls {
     unsigned interruptions; // so many of the next reads and writes are interrupted first
     unsigned writes_left;   // so many writes are done before one fails by `write_error`
     int read_error, write_error, data_error, lock_error, look_error, length_error, file_error, folder_error;
+    const char *boot_path; // what is read for the identifier of the boot, or NULL for the system's
     unsigned reads, writes, data_syncs, file_syncs, folder_syncs, advices; // how many were made
+    unsigned boot_reads; // how often that was opened
 };
 
 extern struct calls calls;
