@@ -142,7 +142,7 @@ open_count-closing (z ∷ zs) [] h = absurd h
 
 -- ---- a restart keeps a drive lawful
 
-may_hold-restarted : (state : ZoneState) (capacity written : ℕ) → MayHold state capacity written → MayHold (restarted_state state) capacity written
+pub may_hold-restarted : (state : ZoneState) (capacity written : ℕ) → MayHold state capacity written → MayHold (restarted_state state) capacity written
 may_hold-restarted Empty capacity written h = h
 may_hold-restarted ImplicitlyOpened capacity written h = h
 may_hold-restarted ExplicitlyOpened capacity written h = h
@@ -151,7 +151,7 @@ may_hold-restarted ReadOnly capacity written h = h
 may_hold-restarted Full capacity written h = h
 may_hold-restarted Offline capacity written h = h
 
-active-restarted : (state : ZoneState) → is_active (restarted_state state) ≡ is_active state
+pub active-restarted : (state : ZoneState) → is_active (restarted_state state) ≡ is_active state
 active-restarted Empty = refl
 active-restarted ImplicitlyOpened = refl
 active-restarted ExplicitlyOpened = refl
@@ -160,7 +160,7 @@ active-restarted ReadOnly = refl
 active-restarted Full = refl
 active-restarted Offline = refl
 
-open-restarted : (state : ZoneState) → is_open (restarted_state state) ≡ false
+pub open-restarted : (state : ZoneState) → is_open (restarted_state state) ≡ false
 open-restarted Empty = refl
 open-restarted ImplicitlyOpened = refl
 open-restarted ExplicitlyOpened = refl
@@ -168,6 +168,16 @@ open-restarted Closed = refl
 open-restarted ReadOnly = refl
 open-restarted Full = refl
 open-restarted Offline = refl
+
+-- a second restart changes nothing
+pub restarted-twice : (state : ZoneState) → restarted_state (restarted_state state) ≡ restarted_state state
+restarted-twice Empty = refl
+restarted-twice ImplicitlyOpened = refl
+restarted-twice ExplicitlyOpened = refl
+restarted-twice Closed = refl
+restarted-twice ReadOnly = refl
+restarted-twice Full = refl
+restarted-twice Offline = refl
 
 zones-restarted : (geometry : Geometry) (zones : List Zone) → AllByRecursion (IsLawfulZone geometry) zones → AllByRecursion (IsLawfulZone geometry) (map restarted_zone zones)
 zones-restarted geometry [] all = tt

@@ -1,4 +1,5 @@
-ghost use Rattle.std.specs.Prelude.{◌≡◌, ◌+◌, ◌%◌, ◌≤◌, ◌↔◌, ℕ, [], List, false, is_ok, length, refl, replicate, true, IfOk, IsOk, OnErr, OnOk, IsTrue};
+ghost use Rattle.std.specs.Prelude.{◌≡◌, ◌+◌, ◌%◌, ◌≤◌, ◌↔◌, ℕ, [], List, false, is_ok, length, refl};
+ghost use Rattle.std.specs.Prelude.{replicate, true, IfOk, IsOk, OnErr, OnOk, IsTrue};
 ghost use Rattle.std.proofs.Common.{inl};
 ghost use Rattle.std.specs.List.{AllByRecursion, splice};
 ghost use Rattle.std.specs.Int.{to_le_bytes, w64};

@@ -1,4 +1,5 @@
-ghost use Rattle.std.specs.Prelude.{◌≡◌, ◌&&◌, ◌+◌, ◌-◌, ◌%◌, ◌≤◌, ◌↔◌, List, ℕ, false, is_ok, length, min, not, IsErr, IsTrue, OnErr, OnOk};
+ghost use Rattle.std.specs.Prelude.{◌≡◌, ◌&&◌, ◌+◌, ◌-◌, ◌%◌, ◌≤◌, ◌↔◌, List, ℕ, false, is_ok, length, min};
+ghost use Rattle.std.specs.Prelude.{not, IsErr, IsTrue, OnErr, OnOk};
 ghost use Rattle.std.specs.Int.{to_le_bytes, w64};
 ghost use Rattle.sqlite_disk.specs.Disk.{Follows, Holds, Only};
 ghost use Rattle.file_bytes.specs.Changes.{SameBeside};

@@ -16,7 +16,8 @@ use Rattle.drive_port.specs.Run.{restarted_state}
 use Rattle.zone_drive.specs.Stored.{AreZones, may_hold, zones_of}
 use Rattle.zone_drive.specs.Held.{restarted_stored}
 use Rattle.zone_drive.proofs.CountLaws.{count-cons}
-use Rattle.zone_drive.proofs.ZonesLaws.{block-some}
+use Rattle.drive_port.proofs.ClosingLaws.{active-restarted, may_hold-restarted, open-restarted}
+use Rattle.zone_drive.proofs.ZonesLaws.{block-some, may_hold-is, may_hold-true}
 use Rattle.file_drive.specs.Faults.{AreTableFaults, IsHeadFault, IsOpenFault, IsReadFault, IsTableFault, narrow, shape_in}
 use Rattle.file_drive.specs.Finds.{Finds}
 use Rattle.file_drive.specs.Head.{boot_in, is_known, is_of_boot, magic, shape_words}
@@ -79,15 +80,6 @@ every-word g [] said within = tt
 every-word g (word ∷ words) said within =
     (record { said = ap (λ (ws : List ℕ). slice_index ws 0) said; within = within.0 }, every-word g words (ap (drop 1) said) within.1)
 
-hold-true : (state : ZoneState) (capacity written : ℕ) → MayHold state capacity written → may_hold state capacity written ≡ true
-hold-true Empty capacity written hold = eq-eqb written 0 hold
-hold-true ImplicitlyOpened capacity written hold = lt-ltb written capacity hold
-hold-true ExplicitlyOpened capacity written hold = lt-ltb written capacity hold
-hold-true Closed capacity written hold = lt-ltb written capacity hold
-hold-true ReadOnly capacity written hold = le-leb written capacity hold
-hold-true Full capacity written hold = le-leb written capacity hold
-hold-true Offline capacity written hold = le-leb written capacity hold
-
 every-hold : (g : Geometry) (file : List ℕ) (number : ℕ) (entries : List Entry) → 1 ≤ g.block → length file ≡ file_length g → number + length entries ≤ g.zones
     → AreWithin g entries → AllByRecursion (IsLawfulZone g) (zones_of g.block (zones_in g file number entries)) → AllByRecursion (Holds g) entries
 every-hold g file number [] some long few within lawful = tt
@@ -95,7 +87,7 @@ every-hold g file number (entry ∷ entries) some long few within lawful =
     let zone = zone_in g file number entry in
     let written = length-written g file number entry.written long (omega (arith, few)) within.0 in
     let blocks = length-cut g.block (length zone.bytes / g.block) zone.bytes ∙ ap (λ (n : ℕ). n / g.block) written ∙ mul-div_cancel entry.written {n = g.block} (omega (arith, some)) in (
-      hold-true entry.state g.capacity entry.written (rw blocks at lawful.0.written),
+      may_hold-is entry.state g.capacity entry.written (rw blocks at lawful.0.written),
       every-hold g file (number + 1) entries some long (omega (arith, few)) within.1 lawful.1,
     )
 
@@ -108,31 +100,8 @@ all-at P (x ∷ xs) (suc i) d all low = all-at P xs i d all.1 (omega (arith, low
 -- ---- after a restart
 
 hold-restarted : (state : ZoneState) (capacity written : ℕ) → may_hold state capacity written ≡ true → may_hold (restarted_state state) capacity written ≡ true
-hold-restarted Empty capacity written e = e
-hold-restarted ImplicitlyOpened capacity written e = e
-hold-restarted ExplicitlyOpened capacity written e = e
-hold-restarted Closed capacity written e = e
-hold-restarted ReadOnly capacity written e = e
-hold-restarted Full capacity written e = e
-hold-restarted Offline capacity written e = e
-
-active-restarted : (state : ZoneState) → is_active (restarted_state state) ≡ is_active state
-active-restarted Empty = refl
-active-restarted ImplicitlyOpened = refl
-active-restarted ExplicitlyOpened = refl
-active-restarted Closed = refl
-active-restarted ReadOnly = refl
-active-restarted Full = refl
-active-restarted Offline = refl
-
-open-restarted : (state : ZoneState) → is_open (restarted_state state) ≡ false
-open-restarted Empty = refl
-open-restarted ImplicitlyOpened = refl
-open-restarted ExplicitlyOpened = refl
-open-restarted Closed = refl
-open-restarted ReadOnly = refl
-open-restarted Full = refl
-open-restarted Offline = refl
+hold-restarted state capacity written e =
+    may_hold-is (restarted_state state) capacity written (may_hold-restarted state capacity written (may_hold-true state capacity written e))
 
 module _ (g : Geometry) (small : g.capacity < 2 ^ 32) where
   -- what the words of zones say is what a restart leaves of them

@@ -114,7 +114,7 @@ module _ (boot : Boot) {F : Type 0} (seen : F → List ℕ) (may_leave : F → L
   pub found-kept : (new : List ℕ) → KeepsFlushed g (seen old) new → zones_in g new 0 found.entries.items ≡ opened_zones g boot (seen old)
   found-kept new keeps = kept new keeps ∙ found-is
 
-  -- the test of the boot that was read is that of the file
+  -- the test of the boot that was read is the test of the file
   pub boot-test : (b : Bool) → (is_known boot && (eqb found.head.boot.first boot.first && eqb found.head.boot.second boot.second)) ≡ b → is_of_boot boot (seen old) ≡ b
   boot-test b e = ap (λ (served : Boot). is_known boot && (eqb served.first boot.first && eqb served.second boot.second)) is.head.boot_is ∙ e
 

@@ -11,6 +11,7 @@ use Rattle.zone_states.specs.declared.geometry.Geometry.{Geometry}
 use Rattle.zone_states.specs.Geometry.{IsInRange}
 use Rattle.zone_states.specs.Stored.{StoredZone}
 use Rattle.drive_port.specs.Run.{restarted_state}
+use Rattle.drive_port.proofs.ClosingLaws.{restarted-twice}
 use Rattle.zone_drive.specs.Held.{restarted_stored}
 use Rattle.file_bytes.specs.Changes.{SameBeside}
 use Rattle.file_drive.specs.Head.{at_boot, boot_in}
@@ -378,15 +379,6 @@ words-within g [] small within = tt
 words-within g (entry ∷ entries) small within =
     let says = word-says entry (omega (arith, small, within.0)) in
     (omega (arith, says.1, within.0), words-within g entries small within.1)
-
-restarted-twice : (state : ZoneState) → restarted_state (restarted_state state) ≡ restarted_state state
-restarted-twice Empty = refl
-restarted-twice ImplicitlyOpened = refl
-restarted-twice ExplicitlyOpened = refl
-restarted-twice Closed = refl
-restarted-twice ReadOnly = refl
-restarted-twice Full = refl
-restarted-twice Offline = refl
 
 -- a word of a zone is the word of what it says
 word-again : (entry : Entry) → entry.written < 2 ^ 32 → word_of (entry_of (word_of entry)) ≡ word_of entry

@@ -42,19 +42,19 @@ shape_in file = shape_said (words_in file 0 10)
 abbrev pub name_of : ℕ → ℕ
 name_of word = word % 2 ^ 48
 
--- a first word that is not that of a drive, or of another version
+-- a first word of no drive, or of another version
 abbrev pub IsMagicFault : ℕ → OpenFault → Type 0
 IsMagicFault word faults.NotADrive = name_of word ≢ name_of magic
 IsMagicFault word faults.Version = (name_of word ≡ name_of magic) × (word ≢ magic)
 IsMagicFault word fault = ⊥
 
--- a length that is not that of a drive of this shape
+-- a length that a drive of this shape has not
 abbrev pub IsLengthFault : Geometry → ℕ → OpenFault → Type 0
 IsLengthFault geometry long faults.Short = long < file_length geometry
 IsLengthFault geometry long faults.Long = file_length geometry < long
 IsLengthFault geometry long fault = ⊥
 
--- Why a head is not that of a drive. The shape is looked at after the magic, and the length after the shape.
+-- Why a head is no drive's. The shape is looked at after the magic, and the length after the shape.
 abbrev pub IsHeadFault : List ℕ → OpenFault → Type 0
 IsHeadFault file (faults.Geometry fault) = (word_in file 0 ≡ magic) × (first_failing (geometry_checks (shape_in file)) ≡ Some fault)
 IsHeadFault file fault =
@@ -68,7 +68,7 @@ abbrev pub IsWordFault : Geometry → List ℕ → OpenFault → Type 0
 IsWordFault geometry words (faults.Table number) = (number < length words) × ¬ IsWord geometry (slice_index words number)
 IsWordFault geometry words fault = ⊥
 
--- a zone that may not hold so many blocks in its state
+-- a zone that holds more blocks than its state allows
 abbrev pub IsEntryFault : Geometry → List Entry → OpenFault → Type 0
 IsEntryFault geometry entries (faults.Table number) = (number < length entries) × ¬ Holds geometry (entry_at entries number)
 IsEntryFault geometry entries fault = ⊥

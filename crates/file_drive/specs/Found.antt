@@ -44,7 +44,7 @@ pub record IsFound (boot : Boot) (file : List ℕ) (found : Found) : Type 0 wher
   pub words : IsTable found.head.geometry (words_in file (at_table found.head.geometry (opened_table boot file)) found.head.geometry.zones)
   pub safe : IsTable found.head.geometry found.tables.safe.items
 
--- the head and the tables are those of the file
+-- the head and the tables are as the file has them
 pub record IsRead (file : List ℕ) (found : Found) : Type 0 where
   pub head : IsHead file found.head
   pub tables : AreTables found.head.geometry file found.tables

@@ -102,7 +102,7 @@ IsClear seen zones index =
     let file = seen zones.file in
     (entry_of (slice_index (words_in file (at_table zones.shape (flushed_table file)) zones.shape.zones) index)).written ≤ (entry_at zones.entries index).written
 
--- All blocks are the same but those of one zone past so many.
+-- All blocks are the same, but for one zone past its first ones.
 abbrev pub KeepsOthers : Geometry → ℕ → ℕ → List ℕ → List ℕ → Type 0
 KeepsOthers geometry index first old new =
     (number written : ℕ) → number < geometry.zones → written ≤ geometry.capacity → (number ≢ index) ⊎ (written ≤ first)

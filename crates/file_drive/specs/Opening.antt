@@ -13,7 +13,7 @@ use Rattle.file_drive.specs.declared.boot.Boot.{Boot}
 use Rattle.file_drive.specs.declared.entry.Entry.{Entry}
 
 -- The table that counts: in the boot that served the file last, which shows all that was written, the one after the
--- last command; in another, that of the last flush.
+-- last command; in another, the one of the last flush.
 abbrev pub opened_table : Boot → List ℕ → ℕ
 opened_table boot file = if is_of_boot boot file then live_table file else flushed_table file
 
@@ -26,7 +26,7 @@ pub record IsWord (geometry : Geometry) (word : ℕ) : Type 0 where
   pub said : word_of (entry_of word) ≡ word
   pub within : (entry_of word).written ≤ geometry.capacity
 
--- a zone that is in a state in which it may hold so many blocks
+-- a zone whose state allows its blocks
 abbrev pub Holds : Geometry → Entry → Type 0
 Holds geometry entry = may_hold entry.state geometry.capacity entry.written ≡ true
 
@@ -41,7 +41,7 @@ pub record IsTable (geometry : Geometry) (words : List ℕ) : Type 0 where
   pub hold : AllByRecursion (Holds geometry) (map entry_of words)
   pub few : AreFew geometry (map entry_of words)
 
--- The new bytes are those of the same drive with the same last flush.
+-- The new bytes are the same drive, with the same last flush.
 pub record KeepsFlushed (geometry : Geometry) (old new : List ℕ) : Type 0 where
   pub long : length new ≡ length old
   pub head : words_in new 0 8 ≡ words_in old 0 8
@@ -50,7 +50,7 @@ pub record KeepsFlushed (geometry : Geometry) (old new : List ℕ) : Type 0 wher
   pub zones : SameZones geometry old new
 
 -- A change of a drive's file that changes no zone: a system in this boot finds the same zones. One in another boot finds
--- the same, or those of the last flush. After a loss of power is found what might have been found before, or that flush.
+-- the same, or the zones of the last flush. After a loss of power is found what might have been found before, or that flush.
 pub record Unnoticed {F : Type 0} (seen : F → List ℕ) (may_leave : F → List ℕ → Type 0) (boot : Boot) (geometry : Geometry) (old new : F) : Type 0 where
   pub long : length (seen new) ≡ length (seen old)
   pub head : words_in (seen new) 0 8 ≡ words_in (seen old) 0 8

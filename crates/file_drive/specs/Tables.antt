@@ -23,7 +23,7 @@ abbrev pub table_code : ZoneState → ℕ
 table_code Empty = 0
 table_code state = state_code state
 
--- the state with a number in a table; a number that is that of no state is taken for Offline
+-- the state with a number in a table; a number without a state is taken for Offline
 abbrev pub state_from : ℕ → ZoneState
 state_from zero = Empty
 state_from code = unwrap_or (state_of code) Offline
@@ -97,7 +97,7 @@ abbrev pub next_entry : Option Action → Entry → Entry
 next_entry None entry = entry
 next_entry (Some action) entry = sent_entry action entry
 
--- a zone of which so many more blocks are written
+-- a zone of which more blocks are written
 abbrev pub appended : Geometry → Entry → ℕ → Entry
 appended geometry entry blocks =
     let written = entry.written + blocks in

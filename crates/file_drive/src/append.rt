@@ -35,7 +35,7 @@ impl<F: FileBytes + Drop, S: System + Drop> FileZones<F, S> {
         Ok(())
     }
 
-    // Writes bytes after those of a zone. Nothing is known of them yet.
+    // Writes bytes behind the written ones of a zone. No table counts them yet.
     pub(crate) fn write_data(&mut self, index: usize, bytes: &[u8]) -> Result<(), Halt>
         requires in_range { index < length self.old.entries }
         requires clear { IsClear F.seen self.old index }

@@ -1,6 +1,7 @@
 ghost use Rattle.std.specs.Prelude.{◌≡◌};
 
-/// Tells one boot of a system from another: the two halves of its identifier. A boot whose second half is 0 is not known.
+/// Tells one boot of a system from another: the two halves of its identifier. A boot is not known where the second half
+/// is 0.
 #[derive(Clone, Copy, Debug, PartialEq, Eq)]
 pub struct Boot {
     pub first: u64,

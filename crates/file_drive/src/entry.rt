@@ -1,10 +1,10 @@
 ghost use Rattle.std.specs.Prelude.{◌≡◌, ◌+◌, ◌^◌, ◌<◌, map};
-ghost use Rattle.zone_states.specs.Zone.{opened_by_write};
 ghost use Rattle.drive_port.specs.Run.{restarted_state};
-ghost use Rattle.file_drive.specs.Tables.{acted, appended, entry_of, next_entry, sent_entry, state_from, table_code, word_of};
+ghost use Rattle.file_drive.specs.Tables.{acted, appended, entry_of, next_entry, sent_entry};
+ghost use Rattle.file_drive.specs.Tables.{state_from, table_code, word_of};
 
 use zone_drive::selects;
-use zone_states::{Action, Geometry, ZoneState, next_state};
+use zone_states::{Action, Geometry, ZoneState, next_state, opened_by_write};
 
 /// What a table says of a zone: its state, and how many of its blocks are written.
 #[derive(Clone, Copy, Debug, PartialEq, Eq)]
@@ -23,16 +23,6 @@ fn restarted(state: ZoneState) -> ZoneState
     }
 }
 
-/// A state after a write that does not fill the zone.
-fn opened(state: ZoneState) -> ZoneState
-    ensures { result ≡ opened_by_write state }
-{
-    match state {
-        ZoneState::Empty | ZoneState::Closed => ZoneState::ImplicitlyOpened,
-        state => state,
-    }
-}
-
 // The number of a state in a table: the standard's, but 0 for an empty zone, so that a table of zeros has only these.
 fn table_code(state: ZoneState) -> u8
     ensures { result ≡ table_code state }
@@ -43,7 +33,7 @@ fn table_code(state: ZoneState) -> u8
     state.code()
 }
 
-// The state with a number in a table. A number that is that of no state is taken for Offline.
+// The state with a number in a table. A number without a state is taken for Offline.
 fn state_from(code: u64) -> ZoneState
     ensures { result ≡ state_from code }
 {
@@ -99,7 +89,7 @@ impl Entry {
         }
     }
 
-    /// The zone once so many more of its blocks are written.
+    /// The zone once more of its blocks are written.
     pub fn appended(self, geometry: &Geometry, blocks: u32) -> Entry
         requires { self.written + blocks < 2 ^ 32 }
         ensures { result ≡ appended geometry.now self blocks }
@@ -108,7 +98,7 @@ impl Entry {
         let state = if written == geometry.capacity {
             ZoneState::Full
         } else {
-            opened(self.state)
+            opened_by_write(self.state)
         };
         Entry { state, written }
     }

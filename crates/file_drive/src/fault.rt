@@ -9,7 +9,7 @@ pub enum OpenFault {
     /// It does not begin with the eight bytes of a drive in a file.
     #[error("it is no drive in a file")]
     NotADrive,
-    /// It begins with those of another version.
+    /// It begins with the eight bytes of another version.
     #[error("a drive in a file of another version")]
     Version,
     /// The first part of the geometry that is out of range.

@@ -1,4 +1,4 @@
-ghost use Rattle.std.specs.Prelude.{◌≡◌, ◌<◌, ◌≤◌, ◌++◌, IfErr, IfSome, IsErrOf, IsTrue, None, OnErr, OnOk, count_by, drop, length, map, position, slice_set, true};
+ghost use Rattle.std.specs.Prelude.{◌≡◌, ◌<◌, ◌≤◌, IfErr, None, OnErr, OnOk, length, slice_set};
 ghost use Rattle.zone_states.specs.Checks.{first_failing};
 ghost use Rattle.zone_states.specs.Stored.{stored_write, zone_stored};
 ghost use Rattle.zone_states.specs.Writing.{append_bytes_checks};

@@ -14,25 +14,27 @@
 //!
 //! * Over every file that keeps the contract of `file_bytes`, the drive is a `Device`: what it reads is what its file
 //!   holds. Blocks above a zone's pointer are zeros, whatever the file holds there.
-//! * A kill between two calls of the file leaves a file that a system in the same boot opens. It finds the zones as they
-//!   were after the last command that was answered, or after the one under way (`FileZones::into_file`, `kill`).
-//! * After a Flush that was answered, whatever a loss of power leaves can be opened in another boot. It has the zones of
-//!   that flush or of a later one. Inside a flush it has those of this flush or of the last one (`flush`, `power`).
+//! * A kill between two calls of the file leaves a file that can be opened. A system that knows its boot, and is
+//!   still in it, finds the zones as the last answered command left them, or the one under way
+//!   (`FileZones::into_file`, `kill`).
+//! * After a Flush that was answered, whatever a loss of power leaves can be opened in another boot. It has the zones
+//!   of that flush or of a later one. A flush that is cut off leaves its own zones, or the zones of the last one
+//!   (`flush`, `power`).
 //! * A write or a sync that fails stops the drive. What was promised before stays.
-//! * To open a file changes nothing that another open could notice, whatever it answers (`open`, `unnoticed`). It tells
-//!   by name why a file is no drive.
+//! * An open that fails leaves the same zones for a system in this boot. A system in another boot finds the same, or
+//!   the zones of the last flush (`open`, `unnoticed`). It tells by name why a file is no drive.
 //!
 //! # How
 //!
-//! Each zone has a word in a table: its state, as a restart leaves it, and how many of its blocks are written. There are
-//! two live tables and two flushed ones. A word in the file picks one of each two (`specs/Layout.antt`).
+//! Each zone has a word in a table: its state, as a restart leaves it, and how many of its blocks are written. There
+//! are two live tables and two flushed ones. A word in the file picks one of each two (`specs/Layout.antt`).
 //!
 //! An append writes the blocks, and then the zone's word in the live table. A flush writes the flushed table that is
-//! not picked, syncs, picks it, and syncs. So a flush costs two syncs. Where the last flush counts more blocks of a zone than
-//! are written now, as after a Reset, a flush comes before the zone is written again.
+//! not picked, syncs, picks it, and syncs. So a flush costs two syncs. After a Reset the last flush still counts
+//! the old blocks of a zone. Then a flush comes before the zone is written again.
 //!
-//! The head names the boot of the system that served the file last. An open in the same boot takes the live table; else
-//! it takes the flushed one, and writes the live one anew before it names its own boot.
+//! The head names the boot of the system that served the file last. An open in the same boot takes the live table. In
+//! another boot it takes the flushed one. Then it writes the live one anew before it names its own boot.
 #![tactic(auto)]
 
 mod all;

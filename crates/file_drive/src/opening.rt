@@ -127,10 +127,10 @@ fn make_ready<F: FileBytes>(file: &mut F, found: &mut Found, boot: Boot) -> io::
 /// Opens a file as a drive: reads it, syncs it, and makes it ready for this boot of the system.
 ///
 /// Where the same boot served the file last, the zones are those after the last command: the system kept all that was
-/// written, though the program may have been killed. Else they are those of the last flush.
+/// written, though the program may have been killed. Else the zones are as the last flush left them.
 ///
-/// After an error the file is as it was before to each open: a system in this boot finds the same zones in it, and after
-/// a loss of power it shows no others.
+/// After an error a system in this boot finds the same zones as before. A system in another boot finds the same, or the
+/// zones of the last flush. What a loss of power leaves is what it might have left before, or that flush.
 pub fn open<F: FileBytes, S: System>(
     alloc: Global,
     file: &mut F,

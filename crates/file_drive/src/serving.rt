@@ -58,8 +58,8 @@ impl<F: FileBytes + Drop, S: System + Drop> FileZones<F, S> {
         }
     }
 
-    /// The file. It is what a kill at this moment leaves: a system in the same boot finds the zones as they are. After a
-    /// loss of power, in another boot, it finds those of the last flush.
+    /// The file. It is what a kill at this moment leaves. A system that is still in the same boot, and knows it, finds
+    /// the zones as they are. After a loss of power a system in another boot finds the zones of the last flush.
     pub fn into_file(self) -> F
         ensures file { result ≡ self.file }
         ensures kill { is_known S.boot ≡ true → AreZones self.shape (filed F.seen self)

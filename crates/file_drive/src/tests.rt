@@ -123,7 +123,7 @@ fn flush<D: Device>(alloc: Global, drive: &mut D) -> Option<()> {
     Some(())
 }
 
-// A drive with blocks in two zones is killed: whether it is found as it was.
+// A drive with blocks in two zones is killed: whether they are found.
 fn survives_a_kill(alloc: Global) -> Option<bool> {
     let mut drive = opened(alloc, formatted(alloc, &GEOMETRY)?, Before)?;
     let put_both = put(alloc, &mut drive, 0, 1, 2) && put(alloc, &mut drive, 8, 2, 1);

@@ -1,7 +1,7 @@
 -- Zones that a drive can have, and the tests of them.
 use Rattle.std.proofs.Common.{◌≡◌, ℕ, ◌/◌, ◌%◌, ◌≤◌, Bool, true, false, eqb, ◌&&◌, List, [], ◌∷◌, length, refl, inl, inr, arith}
 use Rattle.std.specs.List.{AllByRecursion, count_by, list_all}
-use Rattle.std.proofs.lemmas.Bool.{eq-eqb, eqb-false, eqb-true, leb-false, leb-true, ltb-false, ltb-true, and_parts}
+use Rattle.std.proofs.lemmas.Bool.{eq-eqb, eqb-false, eqb-true, le-leb, leb-false, leb-true, lt-ltb, ltb-false, ltb-true, and_parts}
 use Rattle.nvme_wire.specs.declared.zone_state.ZoneState.{ZoneState}
 use Rattle.nvme_wire.specs.declared.zone_state.ZoneState.TheVariants.{Empty, ImplicitlyOpened, ExplicitlyOpened, Closed, ReadOnly, Full, Offline}
 use Rattle.zone_states.specs.declared.geometry.Geometry.{Geometry}
@@ -23,6 +23,15 @@ may_hold-true Closed capacity written e = ltb-true _ _ e
 may_hold-true ReadOnly capacity written e = leb-true _ _ e
 may_hold-true Full capacity written e = leb-true _ _ e
 may_hold-true Offline capacity written e = leb-true _ _ e
+
+pub may_hold-is : (state : ZoneState) (capacity written : ℕ) → MayHold state capacity written → may_hold state capacity written ≡ true
+may_hold-is Empty capacity written h = eq-eqb written 0 h
+may_hold-is ImplicitlyOpened capacity written h = lt-ltb written capacity h
+may_hold-is ExplicitlyOpened capacity written h = lt-ltb written capacity h
+may_hold-is Closed capacity written h = lt-ltb written capacity h
+may_hold-is ReadOnly capacity written h = le-leb written capacity h
+may_hold-is Full capacity written h = le-leb written capacity h
+may_hold-is Offline capacity written h = le-leb written capacity h
 
 may_hold-false : (state : ZoneState) (capacity written : ℕ) → may_hold state capacity written ≡ false → ¬ MayHold state capacity written
 may_hold-false Empty capacity written e = eqb-false _ _ e

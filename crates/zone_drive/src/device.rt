@@ -1,4 +1,5 @@
-ghost use Rattle.std.specs.Prelude.{◌≡◌, ◌⊎◌, ◌<◌, ◌||◌, ◌^◌, [], false, true, IfErr, IfOk, IsErrOf, IsTrue, OnErr, OnOk, Ok, nat_le, List, ℕ};
+ghost use Rattle.std.specs.Prelude.{◌≡◌, ◌⊎◌, ◌<◌, ◌||◌, ◌^◌, [], false, true, IfErr, IfOk, IsErrOf, IsTrue};
+ghost use Rattle.std.specs.Prelude.{OnErr, OnOk, Ok, nat_le, List, ℕ};
 ghost use Rattle.nvme_wire.specs.Entry.{IsAdmitted, decode_of};
 ghost use Rattle.drive_port.specs.Drive.{IsLawful};
 ghost use Rattle.drive_port.specs.Halting.{Adds, SubmitAdds, SubmitGives};

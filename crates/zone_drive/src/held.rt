@@ -1,4 +1,5 @@
-ghost use Rattle.std.specs.Prelude.{◌≡◌, ◌<◌, ◌++◌, Bool, IfErr, IfSome, IsErrOf, IsTrue, List, None, OnErr, OnOk, count_by, drop, length, map, position, slice_set};
+ghost use Rattle.std.specs.Prelude.{◌≡◌, ◌<◌, ◌++◌, Bool, IfErr, IfSome, IsErrOf, IsTrue, List, None, OnErr};
+ghost use Rattle.std.specs.Prelude.{OnOk, count_by, drop, length, map, position, slice_set};
 ghost use Rattle.zone_states.specs.declared.geometry.Geometry.{Geometry};
 ghost use Rattle.zone_states.specs.Checks.{first_failing};
 ghost use Rattle.zone_states.specs.Stored.{StoredZone, stored_write, zone_stored};

@@ -1,4 +1,5 @@
-ghost use Rattle.std.specs.Prelude.{◌≡◌, ◌<◌, ◌≤◌, ◌++◌, [], IfErr, IfSome, IsErrOf, IsTrue, None, OnErr, OnOk, count_by, drop, false, length, map, position, slice_set};
+ghost use Rattle.std.specs.Prelude.{◌≡◌, ◌<◌, ◌≤◌, ◌++◌, [], IfErr, IfSome, IsErrOf, IsTrue, None, OnErr, OnOk};
+ghost use Rattle.std.specs.Prelude.{count_by, drop, false, length, map, position, slice_set};
 ghost use Rattle.zone_states.specs.Checks.{first_failing};
 ghost use Rattle.zone_states.specs.Stored.{stored_write, zone_stored};
 ghost use Rattle.zone_states.specs.Transition.{is_active, is_open};

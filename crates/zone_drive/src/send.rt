@@ -1,4 +1,5 @@
-ghost use Rattle.std.specs.Prelude.{◌≡◌, ◌≢◌, ◌/◌, ◌<◌, ◌≤◌, false, map, List, ℕ, [], Some, None, Ok, IfErr, IfOk, IsTrue, OnErr, OnOk};
+ghost use Rattle.std.specs.Prelude.{◌≡◌, ◌≢◌, ◌/◌, ◌<◌, ◌≤◌, false, map, List, ℕ, [], Some, None, Ok, IfErr};
+ghost use Rattle.std.specs.Prelude.{IfOk, IsTrue, OnErr, OnOk};
 ghost use Rattle.zone_states.specs.Checks.{first_failing};
 ghost use Rattle.drive_port.specs.Drive.{open_count};
 ghost use Rattle.drive_port.specs.Step.{sent_zone, zone_at};

@@ -1,4 +1,5 @@
-ghost use Rattle.std.specs.Prelude.{◌≡◌, ◌/◌, ◌<◌, ◌≤◌, [], Some, None, Ok, IfNone, IfOk, IsErrOf, IsTrue, OnErr, length};
+ghost use Rattle.std.specs.Prelude.{◌≡◌, ◌/◌, ◌<◌, ◌≤◌, [], Some, None, Ok, IfNone, IfOk, IsErrOf, IsTrue};
+ghost use Rattle.std.specs.Prelude.{OnErr, length};
 ghost use Rattle.zone_states.specs.Checks.{first_failing};
 ghost use Rattle.zone_states.specs.Writing.{append_bytes_checks, data_checks};
 ghost use Rattle.drive_port.specs.Drive.{open_count};

@@ -36,4 +36,4 @@ pub use geometry::{Geometry, GeometryFault};
 pub use nvme_wire::{Action, Status, ZoneState};
 pub use refusal::{append_refusal, write_refusal};
 pub use transition::{is_active, is_open, next_state};
-pub use zone::{Zone, ZoneFault};
+pub use zone::{Zone, ZoneFault, opened_by_write};

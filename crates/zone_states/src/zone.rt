@@ -77,8 +77,8 @@ fn block_count(geometry: &Geometry, bytes: &[u8]) -> Option<usize>
     Some(blocks)
 }
 
-// The state after a Write or an Append that does not reach the capacity, from a state that takes it.
-fn opened(state: ZoneState) -> ZoneState
+/// The state after a Write or an Append that does not reach the capacity, from a state that takes it.
+pub fn opened_by_write(state: ZoneState) -> ZoneState
     ensures { result ≡ opened_by_write state }
 {
     match state {
@@ -172,7 +172,7 @@ impl Zone {
         if self.blocks(geometry) == geometry.capacity as usize {
             self.state = ZoneState::Full;
         } else {
-            self.state = opened(self.state);
+            self.state = opened_by_write(self.state);
         }
         Ok(())
     }
