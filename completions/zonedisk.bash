@@ -7,7 +7,7 @@ _zonedisk_states="Empty ImplicitlyOpened ExplicitlyOpened Closed ReadOnly Full O
 # The options of a subcommand.
 _zonedisk_options() {
     case $1 in
-        format) echo "--image --device --force $_zonedisk_shape" ;;
+        format) echo "--image --device --force --in-place $_zonedisk_shape" ;;
         run) echo "--image --device --blocks --zones --statistics --sync --read-only --progress --habit --stop-after --tear" ;;
         nbd) echo "--image --device --blocks --statistics --idle --read-only --habit --stop-after --tear" ;;
         report) echo "--image --device --state --brief --json --svg" ;;

@@ -20,10 +20,11 @@ complete -c zonedisk -n __fish_use_subcommand -a fresh-raw -d 'Submits raw entri
 complete -c zonedisk -n __fish_use_subcommand -a help -d 'Shows the options of a subcommand'
 
 # The file of a drive, and its disk.
-complete -c zonedisk -n '__fish_seen_subcommand_from format run nbd report check plan info export import nvme' -l image -r -F -d 'The file with the image of the drive'
+complete -c zonedisk -n '__fish_seen_subcommand_from format run nbd report check plan info export import nvme' -l image -r -F -d 'The file with the drive or its image'
 complete -c zonedisk -n '__fish_seen_subcommand_from format run nbd report check info export import nvme' -l device -r -F -d 'A real drive, by its character device'
 complete -c zonedisk -n '__fish_seen_subcommand_from run nbd check plan import fresh' -l blocks -x -d 'Logical blocks'
 complete -c zonedisk -n '__fish_seen_subcommand_from format' -l force -d 'Replaces a file that is no image'
+complete -c zonedisk -n '__fish_seen_subcommand_from format' -l in-place -d 'Makes a new drive that stays in its file'
 
 # The shape of a drive.
 complete -c zonedisk -n '__fish_seen_subcommand_from format plan fresh fresh-raw' -l block -x -a '512 4096' -d 'Bytes in a block'

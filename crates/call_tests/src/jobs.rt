@@ -140,7 +140,7 @@ fn reads_the_words(rt: HostRuntime) -> Result<(), Fail> {
 }
 
 // Which other words are refused, and how.
-const OTHER_WORDS: [(&str, Option<ErrorKind>); 17] = [
+const OTHER_WORDS: [(&str, Option<ErrorKind>); 22] = [
     ("zonedisk run --zones --blocks=9 --image=a/b", None),
     (
         "zonedisk run --image b --blocks 9 --statistics --zones",
@@ -166,6 +166,28 @@ const OTHER_WORDS: [(&str, Option<ErrorKind>); 17] = [
     (
         "zonedisk run --image b --blocks +9",
         Some(ErrorKind::ValueValidation),
+    ),
+    (
+        "zonedisk format --image b --in-place --block 512 --zones 4 --size 8 --capacity 6 --transfer 4 \
+         --active 2 --open 2",
+        None,
+    ),
+    (
+        "zonedisk format --image b --in-place --force --block 512 --zones 4 --size 8 --capacity 6 --transfer 4 \
+         --active 2 --open 2",
+        Some(ErrorKind::ArgumentConflict),
+    ),
+    (
+        "zonedisk format --image b --in-place",
+        Some(ErrorKind::MissingRequiredArgument),
+    ),
+    (
+        "zonedisk format --device b --in-place",
+        Some(ErrorKind::ArgumentConflict),
+    ),
+    (
+        "zonedisk run --image b --blocks 9 --in-place",
+        Some(ErrorKind::UnknownArgument),
     ),
     ("zonedisk report", Some(ErrorKind::MissingRequiredArgument)),
     (

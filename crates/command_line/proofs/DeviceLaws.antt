@@ -16,9 +16,10 @@ use Rattle.command_line.specs.Words.{AsksFor, AsksForFile}
 -- a job on a device has the path of one
 has-device : (name : Text) (rows : List Row) (job : DeviceJob) → AsksForDevice name rows job → (path : Text) × HasDevice rows path
 has-device name rows (jobs.Format path force) asks = (_, asks.1)
+has-device name rows (jobs.Create path geometry) asks = absurd asks
 has-device name rows (jobs.Run job) asks = (_, asks.1.device)
 has-device name rows (jobs.Report path state) asks = (_, asks.1)
-has-device name rows (jobs.Nvme path explain) asks = (_, asks.1)
+has-device name rows (jobs.Nvme path explain habit) asks = (_, asks.1)
 has-device name rows (jobs.Nbd job) asks = (_, asks.1.path)
 has-device name rows (jobs.Check job) asks = (_, asks.1.path)
 has-device name rows (jobs.Info job) asks = (_, asks.1.path)
@@ -32,17 +33,18 @@ module _ (name : Text) (rows : List Row) (none : first_of (codes "device") rows 
   asked (tasks.Nbd job) asks = (none, asks)
   asked (tasks.Copy job) asks = (none, asks)
   asked (tasks.Tool job) asks = (none, asks)
-  asked (tasks.Device job) asks = absurd asks
+  asked (tasks.Device job) asks = inr (none, asks)
 
   without : (task : Task) → AsksFor name rows task → AsksForFile name rows task
   without (tasks.Lines job) asks = asks.1
   without (tasks.Nbd job) asks = asks.1
   without (tasks.Copy job) asks = asks.1
   without (tasks.Tool job) asks = asks.1
-  without (tasks.Device job) asks =
+  without (tasks.Device job) (inl asks) =
       let named = has-device name rows job asks in
       let is : None ≡ Some named.0 = sym none ∙ named.1.path_is in
       absurd (cc is)
+  without (tasks.Device job) (inr asks) = asks.1
 
   pub file-task : (answer : Result Task WordFault) → Finds (AsksForFile name rows) answer → Finds (AsksFor name rows) answer
   file-task (Ok task) found = record { value = asked task found.value; fault = tt }

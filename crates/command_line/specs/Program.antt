@@ -81,7 +81,7 @@ abbrev pub with_options : Text → List Rule → Shape
 with_options name rules = record (new_shape name) { rules = rules }
 
 abbrev pub format : Shape
-format = with_options (codes "format") (image ∷ device ∷ flag (codes "force") ∷ parts false)
+format = with_options (codes "format") (image ∷ device ∷ flag (codes "force") ∷ flag (codes "in-place") ∷ parts false)
 
 abbrev pub run : Bor (List (Bor Text)) → Shape
 run names = with_options (codes "run")

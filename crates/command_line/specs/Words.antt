@@ -1,5 +1,5 @@
 -- The task that words ask for.
-use Rattle.std.specs.Prelude.{◌≡◌, ◌⊎◌, List, [], None, IfErr, IfOk, IsSomeAnd, Some, Result, codes, string_bytes}
+use Rattle.std.specs.Prelude.{◌≡◌, ◌⊎◌, false, List, [], None, IfErr, IfOk, IsSomeAnd, Some, Result, codes, string_bytes}
 use Rattle.std.specs.Borrow.{Bor}
 use Rattle.clap.specs.Words.{Row, Text, fault_of, first_of, kind_of, subcommand_of}
 use Rattle.clap.specs.Walk.{texts}
@@ -14,16 +14,17 @@ use Rattle.command_line.specs.declared.place.Place.TheVariants as places
 use Rattle.command_line.specs.declared.task.Task.TheVariants.{Lines, Nbd, Copy, Tool}
 use Rattle.command_line.specs.declared.task.Task.TheVariants as tasks
 use Rattle.command_line.specs.Program.{habit_names, program}
-use Rattle.command_line.specs.DeviceWords.{AsksForDevice}
+use Rattle.command_line.specs.DeviceWords.{AsksForDevice, AsksForNew}
 use Rattle.command_line.specs.DriveWords.{AsksForCopy, AsksForNbd}
 use Rattle.command_line.specs.EntryWords.{AsksForEntry}
 use Rattle.command_line.specs.ToolWords.{AsksForCheck, AsksForFormat, AsksForInfo, AsksForPlan, HasZonesForm}
-use Rattle.command_line.specs.Values.{HasFlag, HasGeometry, HasHabit, HasImage, HasNumber, HasStop}
+use Rattle.command_line.specs.Values.{HasFlag, HasGeometry, HasHabit, HasImage, HasNumber, HasStop, is_set}
 
--- what the job of a subcommand holds is what its options were given
+-- What the job of a subcommand holds is what its options were given. The drive of a format is in an image, which is saved.
 abbrev pub AsksForJob : Text → List Row → Job → Type 0
 AsksForJob name rows (Format path geometry force) =
-    (name ≡ codes "format") × HasImage rows (string_bytes path) × HasGeometry rows geometry × HasFlag rows (codes "force") force
+    (name ≡ codes "format") × (is_set rows (codes "in-place") ≡ false) × HasImage rows (string_bytes path) × HasGeometry rows geometry
+    × HasFlag rows (codes "force") force
 AsksForJob name rows (Run path blocks zones statistics stop habit sync read_only progress) =
     (name ≡ codes "run") × HasImage rows (string_bytes path) × HasNumber 64 rows (codes "blocks") blocks
     × HasFlag rows (codes "zones") zones × HasFlag rows (codes "statistics") statistics × HasStop rows stop × HasHabit rows habit
@@ -47,17 +48,18 @@ AsksForTool name rows (tools.Format bytes) = (name ≡ codes "plan") × AsksForF
 AsksForTool name rows (tools.Zones job) = (name ≡ codes "report") × HasImage rows (string_bytes job.image) × HasZonesForm rows (Some job.form)
 AsksForTool name rows (tools.Entry words) = (name ≡ codes "entry") × AsksForEntry rows words
 
--- what the task of a subcommand holds that names no device is what its options were given
+-- What the task of a subcommand holds that names no device is what its options were given. A format may make a drive that stays in its file.
 abbrev pub AsksForFile : Text → List Row → Task → Type 0
 AsksForFile name rows (Lines job) = AsksForJob name rows job
 AsksForFile name rows (Nbd job) = (name ≡ codes "nbd") × AsksForNbd places.File rows job
 AsksForFile name rows (Copy job) = AsksForCopy places.File name rows job
 AsksForFile name rows (Tool job) = AsksForTool name rows job
-AsksForFile name rows (tasks.Device job) = ⊥
+AsksForFile name rows (tasks.Device job) = (name ≡ codes "format") × AsksForNew rows job
 
--- the same of each task; a job on a device is asked for exactly if one is named
+-- The same of each task. A job on a device is asked for exactly if one is named; a new drive in a file only if none is.
 abbrev pub AsksFor : Text → List Row → Task → Type 0
-AsksFor name rows (tasks.Device job) = AsksForDevice name rows job
+AsksFor name rows (tasks.Device job) =
+    AsksForDevice name rows job ⊎ ((first_of (codes "device") rows ≡ None) × AsksForFile name rows (tasks.Device job))
 AsksFor name rows task = (first_of (codes "device") rows ≡ None) × AsksForFile name rows task
 
 -- clap refuses none of these words, which name a subcommand of the program, and this is its task

@@ -16,8 +16,10 @@ const VERSION: &str = "0.1.0";
 
 const FORMAT_EXAMPLE: &str = "Examples:
   zonedisk format --image my.drive --block 512 --zones 4 --size 8 --capacity 6 --transfer 4 --active 2 --open 2
+  zonedisk format --image my.drive --in-place --block 4096 --zones 64 --size 8192 --capacity 8192 --transfer 128 --active 8 --open 8
   zonedisk format --device /dev/ng0n1
 
+A drive of --in-place is never read whole, and memory grows with its zones alone: ports/linux/out/zonedisk opens it.
 A real drive has its own shape. If it is not empty, it is refused; with --force all that it holds is destroyed.";
 
 const RUN_EXAMPLE: &str = "Examples:
@@ -177,7 +179,7 @@ fn image_option<'a>(alloc: Global) -> Arg<'a>
     ensures rule { rule_of result ≡ image }
     ensures local { result.global ≡ false }
 {
-    text_option(alloc, "image", "P", "The file with the image of the drive")
+    text_option(alloc, "image", "P", "The file with the drive or its image")
 }
 
 /// The path of a device, which takes the place of a file.
@@ -253,6 +255,7 @@ fn format_command<'a>(alloc: Global) -> Result<Command<'a>, AllocError>
     ensures { IfOk result (λ new. IsCommand format new) }
 {
     let force = "Replaces a file that is no image, or destroys what a device holds";
+    let in_place = "Makes a new drive that stays in its file: each change is written to its place";
     let command = Command::new(alloc, "format")
         .about(
             "Makes a drive in which nothing is written: a fresh one in a file, or that of a device",
@@ -260,7 +263,8 @@ fn format_command<'a>(alloc: Global) -> Result<Command<'a>, AllocError>
         .after_help(FORMAT_EXAMPLE)
         .arg(image_option(alloc))?
         .arg(device_option(alloc))?
-        .arg(flag(alloc, "force", force))?;
+        .arg(flag(alloc, "force", force))?
+        .arg(flag(alloc, "in-place", in_place))?;
     geometry_options(alloc, command, false)
 }
 

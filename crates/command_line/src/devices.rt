@@ -1,22 +1,42 @@
-// The jobs on a device.
+// The jobs on a device, and the new drive that stays in its file.
 
-ghost use Rattle.std.specs.Prelude.{codes};
+ghost use Rattle.std.specs.Prelude.{◌≡◌, codes, true};
 ghost use Rattle.clap.specs.Words.{found_of, rows_of};
-ghost use Rattle.command_line.specs.Values.{Finds};
-ghost use Rattle.command_line.specs.DeviceWords.{AsksForDevice};
+ghost use Rattle.command_line.specs.Values.{Finds, is_set};
+ghost use Rattle.command_line.specs.DeviceWords.{AsksForDevice, AsksForNew};
 
 use crate::place::{Place, drive_path};
-use crate::tools::{check_job, first_given, info_job, lacks_parts, zones_form};
-use crate::words::{WordFault, export_job, has_flag, import_job, nbd_job, number, stop_of};
+use crate::tools::{check_job, first_given, info_job, is_set, lacks_parts, zones_form};
+use crate::words::{
+    WordFault, export_job, geometry, habit_of, has_flag, image, import_job, nbd_job, number,
+    stop_of,
+};
 use clap::ArgMatches;
 use device_jobs::{DeviceJob, DeviceRun};
 use std::alloc::Global;
 use tool_jobs::ZonesForm;
 
-/// The job of `format`. A device has its shape.
+/// The new drive of `format --in-place`. It replaces nothing, so it is not forced.
+pub fn new_drive(alloc: Global, matches: &ArgMatches<'_>) -> Result<DeviceJob, WordFault>
+    requires { is_set (rows_of (found_of matches.now)) (codes "in-place") ≡ true }
+    ensures { Finds (AsksForNew (rows_of (found_of matches.now))) result }
+{
+    if is_set(matches, "force") {
+        return Err(WordFault::Both("in-place", "force"));
+    }
+    Ok(DeviceJob::Create {
+        image: image(alloc, matches)?,
+        geometry: geometry(matches)?,
+    })
+}
+
+/// The job of `format`. A device has its shape, and is there.
 fn format_job(alloc: Global, matches: &ArgMatches<'_>) -> Result<DeviceJob, WordFault>
     ensures { Finds (AsksForDevice (codes "format") (rows_of (found_of matches.now))) result }
 {
+    if is_set(matches, "in-place") {
+        return Err(WordFault::Both("device", "in-place"));
+    }
     if !lacks_parts(matches) {
         return Err(WordFault::Both("device", first_given(matches)));
     }
@@ -38,6 +58,7 @@ fn run_job(alloc: Global, matches: &ArgMatches<'_>) -> Result<DeviceJob, WordFau
         zones: has_flag(matches, "zones"),
         statistics: has_flag(matches, "statistics"),
         stop,
+        habit: habit_of(matches),
         progress: has_flag(matches, "progress"),
     }))
 }
@@ -70,6 +91,7 @@ fn nvme_job(alloc: Global, matches: &ArgMatches<'_>) -> Result<DeviceJob, WordFa
     Ok(DeviceJob::Nvme {
         device: drive_path(alloc, Place::Device, matches)?,
         explain: has_flag(matches, "explain"),
+        habit: habit_of(matches),
     })
 }
 

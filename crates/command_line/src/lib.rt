@@ -17,6 +17,8 @@
 //!   that the program takes, and `specs/Words.antt` the task that they ask for).
 //! * A job is one on a device exactly if `--device` is given. Then no file is named, and nothing is asked for that only
 //!   a drive in a file can have (`specs/DeviceWords.antt`).
+//! * A new drive that stays in its file is asked for by `format --in-place`, with a shape. Then no device is named, and
+//!   nothing is forced.
 //! * Words are refused only where clap refuses them, where they ask for no task in this sense, or where memory runs
 //!   out.
 //!

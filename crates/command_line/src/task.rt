@@ -15,6 +15,6 @@ pub enum Task {
     Copy(CopyJob),
     /// A tool that looks at a drive, or plans one.
     Tool(ToolJob),
-    /// A job on the drive of a device, and not on one in a file.
+    /// A job on the drive of a device, and not on one in a file. Or a new drive is made that stays in its file.
     Device(DeviceJob),
 }

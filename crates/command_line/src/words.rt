@@ -1,20 +1,20 @@
-ghost use Rattle.std.specs.Prelude.{◌≡◌, ◌≢◌, ℕ, IfNone, IfOk, IfSome, IsSomeAnd, codes, map, option_map, string_bytes};
+ghost use Rattle.std.specs.Prelude.{◌≡◌, ◌≢◌, ℕ, false, IfNone, IfOk, IfSome, IsSomeAnd, codes, map, option_map, string_bytes};
 ghost use Rattle.std.specs.List.{list_all};
 ghost use Rattle.std.specs.Char.{is_ascii_digit};
 ghost use Rattle.clap.specs.Words.{first_of, found_of, rows_of, subcommand_rows_of};
 ghost use Rattle.command_line.specs.Values.{Finds, HasFlag, HasGeometry, HasHabit, HasImage, HasNumber};
-ghost use Rattle.command_line.specs.Values.{HasNumberIf, HasNumberOr, HasStop, IsNumber, named_habit};
+ghost use Rattle.command_line.specs.Values.{HasNumberIf, HasNumberOr, HasStop, IsNumber, is_set, named_habit};
 ghost use Rattle.command_line.specs.DriveWords.{AsksForCopy, AsksForNbd};
 ghost use Rattle.command_line.specs.Words.{AsksFor, AsksForFile, AsksForJob, IsAnswerTo};
 ghost use Rattle.command_line.specs.declared.words.WordFault.TheVariants.{Memory};
 
 use crate::command::{HABITS, program};
-use crate::devices::device_job;
+use crate::devices::{device_job, new_drive};
 use crate::entries::entry_words;
 use crate::place::{Place, drive_path};
 use crate::refusal::refusal;
 use crate::task::Task;
-use crate::tools::{check_job, info_job, plan_tool, zones_form};
+use crate::tools::{check_job, info_job, is_set, plan_tool, zones_form};
 use clap::{ArgMatches, Error};
 use copy_jobs::{CopyJob, ExportJob, ImportJob};
 use disk_jobs::{Habit, Job, Stop};
@@ -166,7 +166,7 @@ fn named_habit(word: &str) -> Habit
 }
 
 /// The habit of the drive.
-fn habit_of(matches: &ArgMatches<'_>) -> Habit
+pub fn habit_of(matches: &ArgMatches<'_>) -> Habit
     ensures { HasHabit (rows_of (found_of matches.now)) result }
 {
     match given(matches, "habit") {
@@ -207,8 +207,9 @@ pub fn image(alloc: Global, matches: &ArgMatches<'_>) -> Result<String, WordFaul
     Ok(String::from_str(alloc, path)?)
 }
 
-/// The job of `format`.
+/// The job of `format` without `--in-place`: a drive whose image is saved.
 fn format_job(alloc: Global, matches: &ArgMatches<'_>) -> Result<Job, WordFault>
+    requires { is_set (rows_of (found_of matches.now)) (codes "in-place") ≡ false }
     ensures { Finds (AsksForJob (codes "format") (rows_of (found_of matches.now))) result }
 {
     Ok(Job::Format {
@@ -216,6 +217,16 @@ fn format_job(alloc: Global, matches: &ArgMatches<'_>) -> Result<Job, WordFault>
         geometry: geometry(matches)?,
         force: has_flag(matches, "force"),
     })
+}
+
+/// What `format` asks for: a drive whose image is saved, or one that stays in its file.
+fn format_task(alloc: Global, matches: &ArgMatches<'_>) -> Result<Task, WordFault>
+    ensures { Finds (AsksForFile (codes "format") (rows_of (found_of matches.now))) result }
+{
+    if is_set(matches, "in-place") {
+        return Ok(Task::Device(new_drive(alloc, matches)?));
+    }
+    Ok(Task::Lines(format_job(alloc, matches)?))
 }
 
 /// The job of `run`.
@@ -287,11 +298,11 @@ fn fresh_raw_job(matches: &ArgMatches<'_>) -> Result<Job, WordFault>
 
 /// The job of a subcommand that always has one, if this is one.
 fn subcommand_job(alloc: Global, name: &str, matches: &ArgMatches<'_>) -> Result<Job, WordFault>
-    requires { name.now ≢ codes "report" }
+    requires reported { name.now ≢ codes "report" }
+    requires formatted { name.now ≢ codes "format" }
     ensures { Finds (AsksForJob name.now (rows_of (found_of matches.now))) result }
 {
     match name {
-        "format" => format_job(alloc, matches),
         "run" => run_job(alloc, matches),
         "nvme" => nvme_job(alloc, matches),
         "fresh" => fresh_job(matches),
@@ -367,6 +378,7 @@ fn file_task(alloc: Global, name: &str, matches: &ArgMatches<'_>) -> Result<Task
         "info" => Ok(Task::Tool(ToolJob::Info(info_job(alloc, place, matches)?))),
         "plan" => Ok(Task::Tool(plan_tool(alloc, matches)?)),
         "report" => report_task(alloc, matches),
+        "format" => format_task(alloc, matches),
         "entry" => Ok(Task::Tool(ToolJob::Entry(entry_words(alloc, matches)?))),
         _ => Ok(Task::Lines(subcommand_job(alloc, name, matches)?)),
     }

@@ -4,3 +4,4 @@ pub mod Runs
 pub mod Looks
 pub mod Copies
 pub mod Formats
+pub mod Durable

@@ -1,4 +1,4 @@
-// The way of a program to the drives behind devices.
+// The way of a program to the drives behind devices, or to those that stay in their files.
 
 ghost use Rattle.std.specs.Prelude.{◌≡◌, Bool, false};
 ghost use Rattle.device_jobs.specs.Ways.{HasNoWay};
@@ -8,6 +8,8 @@ use drive_port::Device;
 use nbd_session::Medium;
 use std::alloc::Global;
 use thiserror::Error;
+use zone_drive::Habit;
+use zone_states::Geometry;
 
 /// What a drive says that it is.
 #[derive(Debug, PartialEq, Eq, Drop)]
@@ -55,8 +57,8 @@ pub trait RawDrive {
     ) -> Result<[u8; 16], RawFault>;
 }
 
-/// How a program comes to the drives behind devices. No contract says which drive is opened, nor that one is: a way to
-/// real drives has its premise elsewhere.
+/// How a program comes to the drives behind devices, or to those that stay in their files. No contract says which drive
+/// is opened, nor that one is: a way to real drives has its premise elsewhere.
 pub trait Devices {
     /// The drive of an open device.
     type Drive: Device + Drop;
@@ -70,15 +72,22 @@ pub trait Devices {
     /// Whether the program has a way to any device.
     ghost has_way: { Self → Bool };
 
-    /// Opens the device of this path, and makes its drive ready.
+    /// Opens the device of this path, and makes its drive ready. The habit says which zones the drive closes by itself.
+    /// A real drive has its own, so a way to such drives ignores it.
     fn open(
         &self,
         alloc: Global,
         path: &str,
+        habit: Habit,
     ) -> Result<OpenDevice<Self::Drive, Self::Medium>, DeviceFault>
         ensures { has_way self.now ≡ false → HasNoWay result };
 
-    /// Opens the device of this path to send entries to it as they are.
-    fn open_raw(&self, alloc: Global, path: &str) -> Result<Self::Raw, DeviceFault>
+    /// Opens the device of this path to send entries to it as they are. The habit is that of [`Devices::open`].
+    fn open_raw(&self, alloc: Global, path: &str, habit: Habit) -> Result<Self::Raw, DeviceFault>
+        ensures { has_way self.now ≡ false → HasNoWay result };
+
+    /// Makes a new drive of this shape, in which nothing is written. It stays in the file of this path, and is refused
+    /// where something is there. A way to real drives makes none.
+    fn create(&self, path: &str, geometry: &Geometry) -> Result<(), DeviceFault>
         ensures { has_way self.now ≡ false → HasNoWay result };
 }

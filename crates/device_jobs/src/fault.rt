@@ -7,12 +7,13 @@ use drive_store::SystemError;
 use nvme_identify::IdentifyFault;
 use std::io::Write;
 use thiserror::Error;
+use zone_states::GeometryFault;
 
-/// Why the device of a path is not used. Its text follows the path.
+/// Why the device of a path is not used, or the drive that stays in the file of a path. Its text follows the path.
 #[derive(Clone, Copy, Debug, PartialEq, Eq, Error)]
 pub enum DeviceFault {
-    /// This program has no way to a device.
-    #[error("cannot be reached by this program: ports/linux/out/zonedisk can, and ports/linux/build builds it")]
+    /// This program has no way to a device, or to a drive that stays in its file.
+    #[error("cannot be opened by this program: ports/linux/out/zonedisk can, and ports/linux/build builds it")]
     NoWay,
     /// The system does not open it.
     #[error("cannot be opened: {0}")]
@@ -41,6 +42,33 @@ pub enum DeviceFault {
     /// The drive did not do a command of the start.
     #[error("is refused: the drive did not do {0}")]
     NotDone(StartCommand),
+    /// It does not begin as a drive that stays in its file does.
+    #[error("is no drive that stays in its file")]
+    NoDrive,
+    /// It is such a drive, of a version that is not known.
+    #[error("is a drive that stays in its file, of a version that is not known")]
+    Version,
+    /// The shape of such a drive is out of range.
+    #[error("is refused: {0}")]
+    Shape(GeometryFault),
+    /// Its file is shorter than its head says.
+    #[error("is refused: the file is shorter than its head says")]
+    Short,
+    /// Its file is longer than its head says.
+    #[error("is refused: the file is longer than its head says")]
+    Long,
+    /// Its table says of the zone with this number what no drive leaves.
+    #[error("is refused: it has a table that no drive leaves, at zone {0}")]
+    Table(u32),
+    /// More of its zones are active or open than may be.
+    #[error("is refused: more zones are active or open than may be")]
+    Limits,
+    /// It is a folder, a device or a pipe.
+    #[error("is not a regular file")]
+    NotRegular,
+    /// A new drive was asked for, and something is there.
+    #[error("exists already")]
+    Exists,
     /// An allocation failed.
     #[error("is not used: out of memory")]
     Memory,

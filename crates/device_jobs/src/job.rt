@@ -3,6 +3,8 @@ use disk_jobs::Stop;
 use nbd_jobs::NbdJob;
 use nvme_wire::ZoneState;
 use tool_jobs::{CheckJob, InfoJob};
+use zone_drive::Habit;
+use zone_states::Geometry;
 
 /// A trace that is answered over the drive behind a device. `device` is the path of the device, here and below.
 #[derive(Debug, PartialEq, Eq, Drop)]
@@ -16,18 +18,25 @@ pub struct DeviceRun {
     pub statistics: bool,
     /// When no more commands are sent to the drive.
     pub stop: Stop,
+    /// Which zones the drive closes by itself. A real drive has its own habit.
+    pub habit: Habit,
     /// Whether people are told how many lines were read.
     pub progress: bool,
 }
 
-/// What is asked of the drive behind a device. A job that is also one of a file has the path of the device as its
-/// `image`.
+/// What is asked of the drive behind a device, or of one that stays in its file. A job that is also one of an image has
+/// the path of the device as its `image`.
 #[derive(Debug, PartialEq, Eq, Drop)]
 pub enum DeviceJob {
     /// Makes a drive in which nothing is written. Only with `force` what the drive holds is destroyed.
     Format {
         device: String,
         force: bool,
+    },
+    /// Makes a new drive of this shape that stays in the file of this path. It is refused where something is there.
+    Create {
+        image: String,
+        geometry: Geometry,
     },
     /// Mounts the drive, and answers the lines of a trace.
     Run(DeviceRun),
@@ -41,9 +50,10 @@ pub enum DeviceJob {
     Nvme {
         device: String,
         explain: bool,
+        habit: Habit,
     },
-    /// Serves the drive by the Network Block Device protocol. `habit` is always `Lazy`, and `read_only` false: neither
-    /// can be chosen for a device.
+    /// Serves the drive by the Network Block Device protocol. `read_only` is always false: it cannot be chosen for a
+    /// device.
     Nbd(NbdJob),
     /// Shows all faults of the drive.
     Check(CheckJob),
@@ -60,6 +70,7 @@ impl DeviceJob {
             DeviceJob::Format { device, .. }
             | DeviceJob::Report { device, .. }
             | DeviceJob::Nvme { device, .. } => device.as_str(),
+            DeviceJob::Create { image, .. } => image.as_str(),
             DeviceJob::Run(job) => job.device.as_str(),
             DeviceJob::Nbd(job) => job.image.as_str(),
             DeviceJob::Check(job) => job.image.as_str(),

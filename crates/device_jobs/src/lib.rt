@@ -10,6 +10,9 @@
 //! the drives; a program that has none has [`NoDevices`]. What is done with an open drive is generic: each job works
 //! over every `Device` of `drive_port`, and so over a drive in memory.
 //!
+//! A drive that stays in its file is opened by such a way, too. It alone can be made: [`DeviceJob::Create`] is done by
+//! the way itself.
+//!
 //! No drive is restarted before a job, and none is saved after it: the drive itself keeps what is done.
 //!
 //! # What is promised
@@ -18,7 +21,8 @@
 //!
 //! * [`run_device`] mounts the drive, and answers the lines of a trace as `disk_runs` promises (`specs/Runs.antt`).
 //!   Then the zones of the drive are shown by a report of it, if they are asked for.
-//! * [`serve_device`] serves the drive as `nbd_session` promises. Each sync of the session is one of the medium.
+//! * [`serve_device`] serves the drive as `nbd_session` promises. Each sync of the session is one of the medium, or a
+//!   Flush of the drive that the medium counts. [`serve_flushed`] also flushes such a drive at the end.
 //! * [`export_device`] exports the blocks of the disk (`specs/Copies.antt`). The array stays. `import_mounted` of
 //!   `copy_jobs` imports them.
 //! * [`check_device`] finds all faults of the drive, and [`inform_device`] what it holds (`specs/Looks.antt`).
@@ -27,10 +31,11 @@
 //! * [`format_device`] leaves a drive whose zones are all Empty, if it answers `Ok`. Without `force` it changes no
 //!   zone, nor where a zone is Read Only or Offline. Whatever it answers, each zone holds what it held, or is Empty
 //!   (`specs/Formats.antt`). No contract says what it tells on standard error.
-//! * Each device is refused by [`DeviceFault::NoWay`] in a program that has [`NoDevices`].
+//! * [`harden`] flushes the drive where a sync of its medium is that, and syncs the medium (`specs/Durable.antt`).
+//! * Each device is refused by [`DeviceFault::NoWay`] in a program that has [`NoDevices`], and so is a new drive.
 //!
 //! Nothing is promised of [`send_lines`], which sends entries as they are and believes no answer, nor of
-//! [`serve_client`], which is [`serve_device`] between buffers.
+//! [`serve_client`], which is [`serve_flushed`] between buffers.
 //!
 //! Tests: the rows of `device_rows`.
 #![tactic(auto)]
@@ -41,6 +46,7 @@ mod explanation;
 mod fault;
 mod format_fault;
 mod formatting;
+mod hardening;
 mod job;
 mod looking;
 mod no_devices;
@@ -55,10 +61,11 @@ pub use explanation::{explain_run, explain_sent};
 pub use fault::{DeviceFault, StartCommand, write_device_fault};
 pub use format_fault::{FormatFault, Holding, NamedDrive, Written};
 pub use formatting::format_device;
+pub use hardening::{HardenFault, harden};
 pub use job::{DeviceJob, DeviceRun};
 pub use looking::{check_device, inform_device};
 pub use no_devices::{NoDevices, NoRawDrive};
 pub use raw::{SendFault, send_lines};
 pub use reporting::answer_report;
 pub use running::{run_device, run_fault};
-pub use serving::{Served, serve_client, serve_device};
+pub use serving::{Flushed, Served, serve_client, serve_device, serve_flushed};

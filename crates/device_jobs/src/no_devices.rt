@@ -4,9 +4,10 @@ use crate::devices::{Devices, OpenDevice, RawDrive, RawFault};
 use crate::fault::DeviceFault;
 use nbd_session::WriteThrough;
 use std::alloc::Global;
-use zone_drive::Drive;
+use zone_drive::{Drive, Habit};
+use zone_states::Geometry;
 
-/// The devices of a program that has no way to any. Each is refused by [`DeviceFault::NoWay`].
+/// The devices of a program that has no way to any. Each is refused by [`DeviceFault::NoWay`], and none is made.
 #[derive(Clone, Copy, Debug)]
 pub struct NoDevices;
 
@@ -41,11 +42,21 @@ impl Devices for NoDevices {
         &self,
         _alloc: Global,
         _path: &str,
+        _habit: Habit,
     ) -> Result<OpenDevice<Drive, WriteThrough>, DeviceFault> {
         Err(DeviceFault::NoWay)
     }
 
-    fn open_raw(&self, _alloc: Global, _path: &str) -> Result<NoRawDrive, DeviceFault> {
+    fn open_raw(
+        &self,
+        _alloc: Global,
+        _path: &str,
+        _habit: Habit,
+    ) -> Result<NoRawDrive, DeviceFault> {
+        Err(DeviceFault::NoWay)
+    }
+
+    fn create(&self, _path: &str, _geometry: &Geometry) -> Result<(), DeviceFault> {
         Err(DeviceFault::NoWay)
     }
 }

@@ -5,9 +5,11 @@ ghost use Rattle.drive_port.specs.Stop.{drive_of};
 ghost use Rattle.nbd_session.specs.Streams.{streams};
 ghost use Rattle.disk_jobs.specs.Saved.{stopping};
 ghost use Rattle.nbd_jobs.specs.Serving.{ServesStopping, TellsSession};
+ghost use Rattle.device_jobs.specs.Durable.{ServesAndFlushes};
 
+use crate::hardening::flush_if;
 use disk_jobs::DiskSize;
-use drive_port::Device;
+use drive_port::{Device, PortFault};
 use nbd_jobs::{BUFFER, Ended, Kept, NbdFault, NbdJob, are_sent, sent_end, serve_stopping};
 use nbd_session::{Client, Medium};
 use std::alloc::Global;
@@ -22,6 +24,8 @@ pub struct Served {
     pub statistics: Option<String>,
     /// The disk that was served, if it was mounted.
     pub disk: Option<DiskSize>,
+    /// Whether the drive was flushed at the end, if that is what a sync of its medium is.
+    pub flushed: Result<(), PortFault>,
 }
 
 /// Mounts the drive behind a device, and serves it to a client. Each sync is one of the medium. The disk can be
@@ -36,7 +40,11 @@ pub fn serve_device<D: Device + Drop, M: Medium + Drop, R: Client, W: Write>(
 ) -> Ended<D, M>
     ensures serves { ServesStopping false job.now
         (streams (R.remaining reader.old) (R.remaining reader.new) (W.contents writer.old) (W.contents writer.new))
-        (record { before = M.syncs medium; after = M.syncs result.medium })
+        (record {
+          before = M.syncs medium;
+          after = M.syncs result.medium;
+          flushes = M.flushes medium;
+        })
         (stopping job.now.stop (D.drive device)) result.result (D.drive result.device) }
     ensures tells { TellsSession job.now (drive_of (stopping job.now.stop (D.drive device))) result.result
         (is_some result.statistics) result.disk }
@@ -47,6 +55,40 @@ pub fn serve_device<D: Device + Drop, M: Medium + Drop, R: Client, W: Write>(
         read_only: false,
     };
     serve_stopping(alloc, job, kept, reader, writer)
+}
+
+/// A session over the drive behind a device, and the Flush of the drive after it.
+#[derive(Drop)]
+pub struct Flushed<D: Device + Drop, M: Medium + Drop> {
+    pub ended: Ended<D, M>,
+    /// Whether the drive was flushed, if that is what a sync of its medium is.
+    pub flushed: Result<(), PortFault>,
+}
+
+/// The same, and flushes the drive at the end where a sync of its medium is that, also after a fault.
+pub fn serve_flushed<D: Device + Drop, M: Medium + Drop, R: Client, W: Write>(
+    alloc: Global,
+    job: &NbdJob,
+    device: D,
+    medium: M,
+    reader: &mut R,
+    writer: &mut W,
+) -> Flushed<D, M>
+    ensures serves { ServesAndFlushes job.now
+        (streams (R.remaining reader.old) (R.remaining reader.new) (W.contents writer.old) (W.contents writer.new))
+        (record {
+          before = M.syncs medium;
+          after = M.syncs result.ended.medium;
+          flushes = M.flushes medium;
+        })
+        (D.drive device) result.ended.result result.flushed (D.drive result.ended.device) }
+    ensures tells { TellsSession job.now (drive_of (stopping job.now.stop (D.drive device))) result.ended.result
+        (is_some result.ended.statistics) result.ended.disk }
+{
+    let flushes = medium.flushes();
+    let mut ended = serve_device(alloc, job, device, medium, reader, writer);
+    let flushed = flush_if(alloc, flushes, &mut ended.device);
+    Flushed { ended, flushed }
 }
 
 /// The same for a client that sends to `input` and gets what `output` takes, both through buffers.
@@ -66,13 +108,22 @@ pub fn serve_client<D: Device + Drop, M: Medium + Drop, R: Read + Drop, W: Write
             session: Err(NbdFault::Memory),
             statistics: None,
             disk: None,
+            flushed: Ok(()),
         };
     };
-    let ended = serve_device(alloc, job, device, medium, &mut reader, &mut writer);
+    let Flushed { ended, flushed } = serve_flushed(
+        alloc,
+        job,
+        device,
+        medium,
+        &mut reader,
+        &mut writer,
+    );
     let sent = are_sent(writer.flush());
     Served {
         session: sent_end(ended.result, sent),
         statistics: ended.statistics,
         disk: ended.disk,
+        flushed,
     }
 }

@@ -6,6 +6,7 @@ use std::alloc::Global;
 use std::io;
 use std::process::ExitCode;
 use std::test::Fail;
+use zone_states::GeometryFault;
 use zonedisk_program::do_device;
 
 // A format of a device, in a program that has no way to any.
@@ -33,6 +34,15 @@ pub fn show_faults<R: Eprint + Input + Print>(rt: &R, alloc: Global) -> Result<(
         DeviceFault::NotDone(StartCommand::SetWriteCache),
         DeviceFault::Unshown(3),
         DeviceFault::Untransferred,
+        DeviceFault::NoDrive,
+        DeviceFault::Version,
+        DeviceFault::Shape(GeometryFault::Capacity),
+        DeviceFault::Short,
+        DeviceFault::Long,
+        DeviceFault::Table(3),
+        DeviceFault::Limits,
+        DeviceFault::NotRegular,
+        DeviceFault::Exists,
         DeviceFault::Memory,
     ] {
         println!(rt; "{fault}")?;

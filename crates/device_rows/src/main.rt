@@ -2,17 +2,22 @@
 //!
 //! A line that begins with `zonedisk` is words of the program. Of lines that a job takes those before it are given to
 //! it: a trace, raw lines, what a client sends, or blocks to import. Shown are the words, what the job writes, and how
-//! it ended; of words that are refused the first line of the reason. At the end the reasons why a device is not used
-//! are shown, and what a program without a way to devices does. `stdout` has what is to be printed.
+//! it ended; of words that are refused the first line of the reason. Then the reasons why a device is not used are
+//! shown, and what a program without a way to devices does. At the end are tasks on files that begin as a drive does
+//! which stays in its file: without a way to such drives, and with one. `stdout` has what is to be printed.
 #![tactic(auto)]
 
 mod faults;
+mod in_file;
 mod memory;
 mod streams;
+mod words;
 
 use crate::faults::show_faults;
+use crate::in_file::show_in_place;
 use crate::memory::MemoryDevices;
 use crate::streams::show_streams;
+use crate::words::words_of;
 use command_line::{Task, task_of};
 use device_jobs::DeviceJob;
 use std::alloc::Global;
@@ -20,15 +25,6 @@ use std::io;
 use std::process::ExitCode;
 use std::test::Fail;
 use zonedisk_program::do_device;
-
-// The words of a line, which have one space between them.
-fn words_of(alloc: Global, line: &str) -> Result<Vec<String>, Fail> {
-    let mut words = Vec::new(alloc);
-    for word in line.split(' ') {
-        words.push(String::from_str(alloc, word)?)?;
-    }
-    Ok(words)
-}
 
 // Does a job on a device, with the lines that it takes.
 fn show_job<R: Eprint + Input + Print>(
@@ -97,5 +93,6 @@ fn main(rt: HostRuntime) -> Result<(), Fail> {
             lines.push(b'\n')?;
         }
     }
-    show_faults(&rt, alloc)
+    show_faults(&rt, alloc)?;
+    show_in_place(&rt, alloc)
 }

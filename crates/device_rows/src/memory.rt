@@ -5,12 +5,12 @@ use device_jobs::{
     run_device,
 };
 use disk_files::LineReader;
-use disk_jobs::Stop;
+use disk_jobs::{Habit, Stop};
 use drive_port::{Device, Geometry, Halt};
 use nbd_session::WriteThrough;
 use std::alloc::{AllocError, Global};
 use zone_drive::Drive;
-use zone_states::{Zone, ZoneState};
+use zone_states::{GeometryFault, Zone, ZoneState};
 
 /// Zones of 6 blocks in 8, two of which may be active and open; 9 logical blocks are served.
 const GEOMETRY: Geometry = Geometry {
@@ -58,6 +58,7 @@ fn with_disk(alloc: Global) -> Result<Drive, DeviceFault> {
         zones: false,
         statistics: false,
         stop: Stop::NEVER,
+        habit: Habit::Lazy,
         progress: false,
     };
     let mut lines = LineReader::new(alloc, b"fill 0 3 61\n".as_slice());
@@ -137,8 +138,10 @@ impl Devices for MemoryDevices {
         &self,
         alloc: Global,
         path: &str,
+        habit: Habit,
     ) -> Result<OpenDevice<Drive, WriteThrough>, DeviceFault> {
-        let drive = drive_of(alloc, path)?;
+        let mut drive = drive_of(alloc, path)?;
+        drive.set_habit(habit);
         let name = name(alloc).or(Err(DeviceFault::Memory))?;
         Ok(OpenDevice {
             drive,
@@ -147,11 +150,23 @@ impl Devices for MemoryDevices {
         })
     }
 
-    fn open_raw(&self, alloc: Global, path: &str) -> Result<RawMemory, DeviceFault> {
-        let drive = drive_of(alloc, path)?;
+    fn open_raw(&self, alloc: Global, path: &str, habit: Habit) -> Result<RawMemory, DeviceFault> {
+        let mut drive = drive_of(alloc, path)?;
+        drive.set_habit(habit);
         Ok(RawMemory {
             drive,
             answered: false,
         })
+    }
+
+    // Drives of one shape can be made, by one name. None is kept.
+    fn create(&self, path: &str, geometry: &Geometry) -> Result<(), DeviceFault> {
+        if *geometry != GEOMETRY {
+            return Err(DeviceFault::Shape(GeometryFault::Block));
+        }
+        match path {
+            "new" => Ok(()),
+            _ => Err(DeviceFault::Exists),
+        }
     }
 }

@@ -6,6 +6,7 @@ use device_jobs::{
     DeviceJob, DeviceRun, Devices, export_device, run_device, send_lines, serve_client,
 };
 use disk_files::LineReader;
+use disk_jobs::Habit;
 use nbd_jobs::NbdJob;
 use nbd_session::WriteThrough;
 use std::alloc::Global;
@@ -29,7 +30,7 @@ fn show_run<R: Print>(rt: &R, alloc: Global, job: &DeviceRun, lines: &[u8]) -> R
 fn show_sent<R: Print>(rt: &R, alloc: Global, path: &str, lines: &[u8]) -> Result<(), Fail> {
     let mut written = Vec::new(alloc);
     let mut reader = LineReader::new(alloc, lines);
-    let mut raw = MemoryDevices.open_raw(alloc, path)?;
+    let mut raw = MemoryDevices.open_raw(alloc, path, Habit::Lazy)?;
     let sent = send_lines(alloc, &mut raw, &mut reader, &mut written);
     print!(rt; "{}", std::str::from_utf8(&written)?)?;
     println!(rt; "{sent:?}")?;

@@ -126,6 +126,7 @@ pub record RunsTrace (only_reads : Bool) (blocks : ℕ) (device : Stopping) (byt
   pub leaves : RunLeaves (disk_lines only_reads) blocks bytes (drive_of device) ended seen
   pub geometry : new.geometry ≡ seen.geometry
   pub zones : new.zones ≡ seen.zones
+  pub durable : new.durable ≡ seen.durable
 
 -- After a run that was done some text is written; what it says is not promised.
 abbrev pub ThenTells : Result (Unit {0}) RunFault → Known → Result (Unit {0}) RunFault → Known → Type 0

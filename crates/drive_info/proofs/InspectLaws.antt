@@ -114,5 +114,6 @@ keeps-uncounted old new k = record {
   };
   closing = k.closing;
   refused = k.refused;
+  durable = k.durable;
   appended = k.appended;
 }

@@ -18,7 +18,7 @@ use Rattle.drive_port.specs.declared.device.Halt.TheVariants.{Memory, Stopped}
 use Rattle.drive_port.proofs.CallLaws.{adds-also, adds-nothing}
 use Rattle.drive_port.proofs.ClosingLaws.{IsClosing-refl}
 use Rattle.drive_port.proofs.HaltLaws.{success_or}
-use Rattle.drive_port.proofs.StopLaws.{stops-already}
+use Rattle.drive_port.proofs.StopLaws.{may_harden-same, stops-already}
 use Rattle.zone_drive.specs.Foreseen.{CanGive}
 use Rattle.drive_journal.specs.Change.{Sum, beside_bytes, change_bytes, change_of, changes, next_sum, start, sum_for, written_for}
 use Rattle.drive_journal.specs.File.{IsStored, IsStoredWhole}
@@ -212,6 +212,7 @@ module _ (inner : DriveState) (contents before : Option (List ℕ)) (sum from : 
         geometry = refl;
         counts = record { completed = refl; refused = refl; appended = refl };
         left = inl (IsClosing-refl inner.zones);
+        hardens = may_harden-same inner (given_up inner inner.zones now from).drive (decode_of entry) refl;
       },
     );
     was_lawful = was;
@@ -253,6 +254,7 @@ module _ (inner : DriveState) (contents before : Option (List ℕ)) (sum from : 
           geometry = refl;
           counts = record { completed = refl; refused = refl; appended = refl };
           left = inr (inl (record { status = given.status; value = given.value; returned = given.returned; effect = can.effect }));
+          hardens = may_harden-same inner (given_up inner given.zones now next).drive (decode_of entry) refl;
         },
       )) gives;
       was_lawful = was;

@@ -130,14 +130,26 @@ saved-lawful image drive is = record {
   stopped = λ e. absurd (omega (arith, e));
 }
 
+-- a lawful drive is lawful also if it says nothing of a loss of power
+lawful-silent : (drive : DriveState) → IsLawful drive → IsLawful (record drive { durable = [] })
+lawful-silent drive lawful = record {
+  geometry = lawful.geometry;
+  count = lawful.count;
+  zones = lawful.zones;
+  active = lawful.active;
+  open_zones = lawful.open_zones;
+  completed = lawful.completed;
+  stopped = lawful.stopped;
+}
+
 read-lawful : (bytes : List ℕ) (drive : DriveState) → (stored : IsStored bytes drive) → IsLawful drive → IsLawful (drive_read stored.parts)
 read-lawful bytes drive stored lawful = by stored.parts.changes refl
   where
     by : (changes : List Change) → stored.parts.changes ≡ changes → IsLawful (unused stored.parts.saved.geometry (zones_read stored.parts.saved.geometry stored.parts.saved.zones stored.parts.changes))
     by [] e = rw e (saved-lawful stored.parts.image stored.parts.saved stored.has.is_image)
     by (change ∷ changes) e =
-        let rest = lawful-restarted drive lawful in
-        let same : restarted drive ≡ unused stored.parts.saved.geometry (at_rest (remade stored.parts)) = rw (stored.geometry, stored.zones) refl in
+        let rest = lawful-silent (restarted drive) (lawful-restarted drive lawful) in
+        let same : record (restarted drive) { durable = [] } ≡ unused stored.parts.saved.geometry (at_rest (remade stored.parts)) = rw (stored.geometry, stored.zones) refl in
         rw e (rw e at (subst (λ (d : DriveState). IsLawful d) same rest))
 
 -- ---- the law

@@ -1,6 +1,6 @@
 //! What holds of all files of drives. Each function carries one law as its contract, and changes nothing.
 
-ghost use Rattle.std.specs.Prelude.{◌≡◌, ◌++◌, ◌≤◌, false, List, Some, take, true, ℕ};
+ghost use Rattle.std.specs.Prelude.{◌≡◌, ◌++◌, ◌≤◌, [], false, List, Some, take, true, ℕ};
 ghost use Rattle.std.specs.List.{AllByRecursion};
 ghost use Rattle.zone_states.specs.declared.geometry.Geometry.{Geometry};
 ghost use Rattle.drive_port.specs.Drive.{DriveState, IsLawful};
@@ -78,11 +78,12 @@ pub fn opened_is_stored()
         IsDriveFile bytes drive whole sum → IsStoredWhole (take whole bytes) drive sum }
 {}
 
-/// What a file stores is read in it: the drive that is read is the stored one, up to a restart of both, and no byte
-/// after the whole ones is taken for a change.
+/// What a file stores is read in it: the drive that is read is the stored one, up to a restart of both, and says nothing
+/// of a loss of power. No byte after the whole ones is taken for a change.
 pub fn stored_is_read()
     ensures drive { (bytes : List ℕ) (drive opened : DriveState) (whole : ℕ) (sum : Sum) →
-        IsStored bytes drive → IsDriveFile bytes opened whole sum → restarted opened ≡ restarted drive }
+        IsStored bytes drive → IsDriveFile bytes opened whole sum →
+        restarted opened ≡ record (restarted drive) { durable = [] } }
     ensures whole { (bytes : List ℕ) (drive opened : DriveState) (whole : ℕ) (sum : Sum) →
         (stored : IsStored bytes drive) → IsDriveFile bytes opened whole sum → whole ≡ whole_length stored.parts }
 {}

@@ -1,13 +1,15 @@
 -- What a call answers by what its submit answers, and what a buffer holds after what it held.
-use Rattle.std.proofs.Common.{◌≡◌, ℕ, List, [], ◌++◌, Result, Ok, Err, refl, sym, ap, ◌∙◌, inl, inr, arith}
+use Rattle.std.proofs.Common.{◌≡◌, ℕ, false, List, [], ◌++◌, Result, Ok, Err, refl, sym, ap, ◌∙◌, inl, inr, arith}
 use Rattle.std.proofs.lemmas.List.{append-nil}
 use Rattle.nvme_wire.specs.Completion.{IsEncodable, completion_bytes}
 use Rattle.nvme_wire.specs.Entry.{decode_of, id_of}
 use Rattle.nvme_wire.specs.declared.command.Command.{Command}
+use Rattle.nvme_wire.specs.declared.command.Command.TheVariants.{Flush, Read, Write, Append, Send, Receive}
 use Rattle.nvme_wire.specs.declared.completion.Completion.{Completion}
 use Rattle.drive_port.specs.declared.calls.PortFault.{PortFault}
 use Rattle.drive_port.specs.declared.calls.PortFault.TheVariants.{Refused, Memory, Stopped}
 use Rattle.drive_port.specs.Drive.{DriveState, IsLawful}
+use Rattle.drive_port.specs.Durable.{Hardens, MayHarden, is_flush}
 use Rattle.drive_port.specs.Step.{Completes}
 use Rattle.drive_port.specs.Halting.{Adds, SubmitGives}
 use Rattle.drive_port.specs.Calls.{CallGives, IsCompletion, Obeys, answer_of}
@@ -53,40 +55,62 @@ call-completed old new entry command bytes completion returned result id decoded
       | inr bad ↦ rw (is, bad.1) (gives.0, bad.0, done.value, rw decoded at done.performs)
     ]
 
--- whatever a call answers, it keeps what every call keeps
-pub call-obeys : (old new : DriveState) (command : Command) (bytes returned : List ℕ) (result : Result ℕ PortFault) → IsLawful old → IsLawful new
+-- a command that is no Flush changes nothing of what is durable
+pub hardens-none : (old new : DriveState) (command : Command) → is_flush command ≡ false → Hardens (Ok command) old new → new.durable ≡ old.durable
+hardens-none old new Flush other is = absurd (cc other)
+hardens-none old new (Read slba blocks) other is = is
+hardens-none old new (Write slba blocks) other is = is
+hardens-none old new (Append zslba blocks) other is = is
+hardens-none old new (Send slba action all) other is = is
+hardens-none old new (Receive slba dwords options partial) other is = is
+
+-- nor where the device stops inside it
+pub may_harden-none : (old new : DriveState) (command : Command) → is_flush command ≡ false → MayHarden (Ok command) old new → new.durable ≡ old.durable
+may_harden-none old new Flush other is = absurd (cc other)
+may_harden-none old new (Read slba blocks) other is = is
+may_harden-none old new (Write slba blocks) other is = is
+may_harden-none old new (Append zslba blocks) other is = is
+may_harden-none old new (Send slba action all) other is = is
+may_harden-none old new (Receive slba dwords options partial) other is = is
+
+-- whatever a call answers that is no Flush, it keeps what every such call keeps
+pub call-obeys : (old new : DriveState) (command : Command) (bytes returned : List ℕ) (result : Result ℕ PortFault) → is_flush command ≡ false → IsLawful old → IsLawful new
     → CallGives old command bytes result returned new → Obeys old result new
-call-obeys old new command bytes returned (Ok value) was lawful gives = record {
+call-obeys old new command bytes returned (Ok value) other was lawful gives = record {
   was_lawful = was;
   lawful = lawful;
   geometry = gives.1.geometry;
+  durable = hardens-none old new command other gives.1.hardens;
   already = λ e. absurd (cc (e, gives.0));
   stops = λ e. absurd (cc e);
   counts = λ e. absurd (cc e);
   completed = omega (arith, gives.1.completed);
 }
-call-obeys old new command bytes returned (Err (Refused status)) was lawful gives = record {
+call-obeys old new command bytes returned (Err (Refused status)) other was lawful gives = record {
   was_lawful = was;
   lawful = lawful;
   geometry = gives.3.geometry;
+  durable = hardens-none old new command other gives.3.hardens;
   already = λ e. absurd (cc (e, gives.0));
   stops = λ e. absurd (cc e);
   counts = λ e. absurd (cc e);
   completed = omega (arith, gives.3.completed);
 }
-call-obeys old new command bytes returned (Err Memory) was lawful gives = record {
+call-obeys old new command bytes returned (Err Memory) other was lawful gives = record {
   was_lawful = was;
   lawful = lawful;
   geometry = ap (λ (d : DriveState). d.geometry) gives.1.1;
+  durable = ap (λ (d : DriveState). d.durable) gives.1.1;
   already = λ e. absurd (cc (e, gives.1.0));
   stops = λ e. absurd (cc e);
   counts = λ e. absurd (cc e);
   completed = rw gives.1.1 (omega arith);
 }
-call-obeys old new command bytes returned (Err Stopped) was lawful gives = record {
+call-obeys old new command bytes returned (Err Stopped) other was lawful gives = record {
   was_lawful = was;
   lawful = lawful;
   geometry = gives.1.geometry;
+  durable = may_harden-none old new command other gives.1.hardens;
   already = λ e. (refl, gives.1.already e);
   stops = λ e. gives.1.stopped;
   counts = λ e. gives.1.counts;

@@ -3,6 +3,7 @@ pub mod CheckLaws
 pub mod StepLaws
 pub mod HaltLaws
 pub mod CallLaws
+pub mod FlushLaws
 pub mod StopLaws
 pub mod AppendLaws
 pub mod ReadLaws

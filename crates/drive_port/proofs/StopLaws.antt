@@ -1,10 +1,10 @@
 -- What a device that stops leaves, by what the device within did.
-use Rattle.std.proofs.Common.{◌≡◌, ◌≢◌, ℕ, ◌+◌, ◌-◌, ◌*◌, ◌≤◌, Bool, true, false, not, ◌||◌, ◌&&◌, ltb, leb, cond, List, take, Some, None, Result, Ok, Err, refl, ap, ◌∙◌, inl, inr, arith}
+use Rattle.std.proofs.Common.{◌≡◌, ◌≢◌, ℕ, ◌+◌, ◌-◌, ◌*◌, ◌≤◌, Bool, true, false, not, ◌||◌, ◌&&◌, ltb, leb, cond, List, take, Some, None, Result, Ok, Err, refl, sym, ap, ◌∙◌, inl, inr, arith}
 use Rattle.std.specs.Prelude.{IfOk, nat_eq, nat_le}
 use Rattle.std.proofs.lemmas.Bool.{leb-true}
 use Rattle.std.proofs.lemmas.List.{take-take}
 use Rattle.std.proofs.Math.Nat.{mul-le-mul_right}
-use Rattle.nvme_wire.specs.Entry.{IsAdmitted}
+use Rattle.nvme_wire.specs.Entry.{IsAdmitted, decode_of}
 use Rattle.nvme_wire.specs.declared.command.Command.{Command}
 use Rattle.nvme_wire.specs.declared.command.Command.TheVariants.{Flush, Read, Write, Append, Send, Receive}
 use Rattle.nvme_wire.specs.declared.command.DecodeFault.{DecodeFault}
@@ -18,6 +18,7 @@ use Rattle.drive_port.specs.declared.device.Halt.TheVariants as halts
 use Rattle.drive_port.specs.declared.progress.Progress.{Progress}
 use Rattle.drive_port.specs.declared.progress.Progress.TheVariants.{Going, Over, OverAppended, OverRefused}
 use Rattle.drive_port.specs.Drive.{DriveState}
+use Rattle.drive_port.specs.Durable.{Hardens, MayHarden}
 use Rattle.drive_port.specs.Step.{is_success, one_if}
 use Rattle.drive_port.specs.Halting.{LeftBy, Stops, SubmitGives}
 use Rattle.drive_port.specs.Calls.{CallGives}
@@ -25,6 +26,39 @@ use Rattle.drive_port.specs.Stop.{Stopping, appended_here, drive_of, is_over, re
 use Rattle.drive_port.proofs.ClosingLaws.{IsClosing-refl}
 use Rattle.drive_port.proofs.StepLaws.{effect-refused, refused-closing}
 use Rattle.drive_port.proofs.HaltLaws.{success_or}
+
+-- ---- what is durable
+
+-- where the same is durable, no command changed it, nor a Flush inside which the device stopped
+pub may_harden-same : (old new : DriveState) (command : Result Command DecodeFault) → new.durable ≡ old.durable → MayHarden command old new
+may_harden-same old new (Err fault) same = same
+may_harden-same old new (Ok Flush) same = λ zones is. inl (rw same at is)
+may_harden-same old new (Ok (Read slba blocks)) same = same
+may_harden-same old new (Ok (Write slba blocks)) same = same
+may_harden-same old new (Ok (Append zslba blocks)) same = same
+may_harden-same old new (Ok (Send slba action all)) same = same
+may_harden-same old new (Ok (Receive slba dwords options partial)) same = same
+
+-- a drive with the same zones, of which the same is durable, was hardened as the other
+hardens-by : (command : Result Command DecodeFault) (old new old_in new_in : DriveState) → old_in.durable ≡ old.durable → new_in.durable ≡ new.durable → new_in.zones ≡ new.zones
+    → Hardens command old new → Hardens command old_in new_in
+hardens-by (Err fault) old new old_in new_in was is zones hardens = is ∙ hardens ∙ sym was
+hardens-by (Ok Flush) old new old_in new_in was is zones hardens = λ found left. rw zones (hardens found (rw is at left))
+hardens-by (Ok (Read slba blocks)) old new old_in new_in was is zones hardens = is ∙ hardens ∙ sym was
+hardens-by (Ok (Write slba blocks)) old new old_in new_in was is zones hardens = is ∙ hardens ∙ sym was
+hardens-by (Ok (Append zslba blocks)) old new old_in new_in was is zones hardens = is ∙ hardens ∙ sym was
+hardens-by (Ok (Send slba action all)) old new old_in new_in was is zones hardens = is ∙ hardens ∙ sym was
+hardens-by (Ok (Receive slba dwords options partial)) old new old_in new_in was is zones hardens = is ∙ hardens ∙ sym was
+
+may_harden-by : (command : Result Command DecodeFault) (old new old_in new_in : DriveState) → old_in.durable ≡ old.durable → new_in.durable ≡ new.durable → new_in.zones ≡ new.zones
+    → MayHarden command old new → MayHarden command old_in new_in
+may_harden-by (Err fault) old new old_in new_in was is zones hardens = is ∙ hardens ∙ sym was
+may_harden-by (Ok Flush) old new old_in new_in was is zones hardens = λ found left. rw (was, zones) (hardens found (rw is at left))
+may_harden-by (Ok (Read slba blocks)) old new old_in new_in was is zones hardens = is ∙ hardens ∙ sym was
+may_harden-by (Ok (Write slba blocks)) old new old_in new_in was is zones hardens = is ∙ hardens ∙ sym was
+may_harden-by (Ok (Append zslba blocks)) old new old_in new_in was is zones hardens = is ∙ hardens ∙ sym was
+may_harden-by (Ok (Send slba action all)) old new old_in new_in was is zones hardens = is ∙ hardens ∙ sym was
+may_harden-by (Ok (Receive slba dwords options partial)) old new old_in new_in was is zones hardens = is ∙ hardens ∙ sym was
 
 -- a device that had stopped
 pub stops-already : (old : DriveState) (command : Result Command DecodeFault) (bytes : List ℕ) → old.stopped ≡ true → Stops old command bytes old
@@ -34,6 +68,7 @@ stops-already old command bytes stopped = record {
   geometry = refl;
   counts = record { completed = refl; refused = refl; appended = refl };
   left = inl (IsClosing-refl old.zones);
+  hardens = may_harden-same old old command refl;
 }
 
 going-if : (b : Bool) (p : Progress) (c : Bool) → (b || (is_over p || c)) ≡ false → p ≡ Going
@@ -51,9 +86,9 @@ or_true false c = refl
 pub stops-here : (old new : Stopping) (command : Result Command DecodeFault) (bytes : List ℕ)
     → (drive_of old).stopped ≡ false → is_over new.progress ≡ true → new.inner.geometry ≡ old.inner.geometry → new.completed ≡ old.completed
     → refused_here new.progress new.inner.refused ≡ old.inner.refused → appended_here new.progress new.inner.appended ≡ old.inner.appended
-    → LeftBy old.inner.geometry old.inner.zones command bytes new.inner.zones
+    → LeftBy old.inner.geometry old.inner.zones command bytes new.inner.zones → new.inner.durable ≡ old.inner.durable
     → Stops (drive_of old) command bytes (drive_of new)
-stops-here old new command bytes running over geometry completed refused appended left =
+stops-here old new command bytes running over geometry completed refused appended left durable =
     let is = going-if old.inner.stopped old.progress (nat_eq old.tear 0 && nat_le old.limit old.completed) running in
     record {
       already = λ e. absurd (cc (e, running));
@@ -61,6 +96,7 @@ stops-here old new command bytes running over geometry completed refused appende
       geometry = geometry;
       counts = record { completed = completed; refused = rw is refused; appended = rw is appended };
       left = left;
+      hardens = may_harden-same (drive_of old) (drive_of new) command durable;
     }
 
 -- ---- a command that is passed on
@@ -88,6 +124,7 @@ passed-on old new limit tear uncounted progress entry bytes (Ok completion) retu
           completed = omega (arith, p.completed, low);
           refused = rw is p.refused;
           appended = rw is p.appended;
+          hardens = hardens-by (decode_of entry) old new (drive_of (stopping old limit tear uncounted progress)) (drive_of (stopping new limit tear uncounted progress)) refl refl refl p.hardens;
         };
       },
     )
@@ -102,6 +139,7 @@ passed-on old new limit tear uncounted progress entry bytes (Err halts.Stopped) 
         geometry = s.geometry;
         counts = record { completed = omega (arith, s.counts.completed); refused = rw is s.counts.refused; appended = rw is s.counts.appended };
         left = s.left;
+        hardens = may_harden-by (decode_of entry) old new (drive_of (stopping old limit tear uncounted progress)) (drive_of (stopping new limit tear uncounted progress)) refl refl refl s.hardens;
       },
     )
 
@@ -169,7 +207,7 @@ stops-appended old inner uncounted command start block bytes returned value coun
     let p = gives.1 in
     stops-here old (record old { inner = inner; completed = inner.completed - (uncounted + 1); progress = OverAppended }) command bytes running refl p.geometry
     (omega (arith, p.completed, counted)) (omega (arith, p.refused)) (omega (arith, p.appended))
-    (rw torn.command_is (inr (inr (record { j = old.tear; some = torn.some; few = torn.few; value = value; returned = returned; effect = rw block_is at p.effect }))))
+    (rw torn.command_is (inr (inr (record { j = old.tear; some = torn.some; few = torn.few; value = value; returned = returned; effect = rw block_is at p.effect })))) p.hardens
 
 -- or its front was refused
 pub stops-refused : (old : Stopping) (inner : DriveState) (uncounted : ℕ) (command : Result Command DecodeFault) (start block : ℕ) (bytes returned : List ℕ) (status : Status)
@@ -182,7 +220,7 @@ stops-refused old inner uncounted command start block bytes returned status coun
     let appended = p.appended ∙ ap (λ (b : Bool). old.inner.appended + one_if b) (bad_is status gives.1) in
     let closing = refused-closing old.inner inner (Append start old.tear) (take (old.tear * block) bytes) returned status gives in
     stops-here old (record old { inner = inner; completed = inner.completed - (uncounted + 1); progress = OverRefused }) command bytes running refl p.geometry
-    (omega (arith, p.completed, counted)) (omega (arith, refused)) (omega (arith, appended)) (inl closing)
+    (omega (arith, p.completed, counted)) (omega (arith, refused)) (omega (arith, appended)) (inl closing) p.hardens
 
 -- or the drive within stopped by itself
 pub stops-stopped : (old : Stopping) (inner : DriveState) (uncounted : ℕ) (command : Result Command DecodeFault) (start block : ℕ) (bytes returned : List ℕ)
@@ -193,4 +231,4 @@ stops-stopped old inner uncounted command start block bytes returned counted run
     let s = gives.1 in
     stops-here old (record old { inner = inner; completed = inner.completed - uncounted; progress = Over }) command bytes running refl s.geometry
     (omega (arith, s.counts.completed, counted)) s.counts.refused s.counts.appended
-    (rw torn.command_is (left-torn old.inner.geometry old.inner.zones inner.zones start old.tear torn.blocks bytes torn.some torn.few (rw block_is at s.left)))
+    (rw torn.command_is (left-torn old.inner.geometry old.inner.zones inner.zones start old.tear torn.blocks bytes torn.some torn.few (rw block_is at s.left))) s.hardens

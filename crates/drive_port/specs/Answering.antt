@@ -1,17 +1,19 @@
 -- What each typed call promises, whatever it answers: which submit it is, what it shows where it succeeded, what it
 -- leaves, when a drive must not refuse it, and that it obeys what binds every call.
-use Rattle.std.specs.Prelude.{◌≡◌, ℕ, ◌<◌, ◌↔◌, Bool, false, List, [], Result, IfOk, OnOk, OnErr}
+use Rattle.std.specs.Prelude.{◌≡◌, ℕ, ◌+◌, ◌<◌, ◌≤◌, ◌↔◌, Bool, true, false, List, [], Result, Err, IfOk, OnOk, OnErr}
 use Rattle.nvme_wire.specs.declared.command.ReportingOptions.{ReportingOptions}
 use Rattle.nvme_wire.specs.declared.command.ReportingOptions.TheVariants.{InState}
 use Rattle.nvme_wire.specs.declared.zone_state.ZoneState.TheVariants.{Empty}
 use Rattle.drive_port.specs.declared.calls.PortFault.{PortFault}
-use Rattle.drive_port.specs.Drive.{DriveState}
+use Rattle.drive_port.specs.declared.calls.PortFault.TheVariants.{Stopped}
+use Rattle.drive_port.specs.Drive.{DriveState, IsLawful}
 use Rattle.drive_port.specs.Step.{end_of}
 use Rattle.drive_port.specs.Halting.{Adds}
-use Rattle.drive_port.specs.Contents.{AreEmpty, SameContents, contents}
+use Rattle.drive_port.specs.Contents.{AreEmpty, SameContents, SameCounts, contents}
 use Rattle.drive_port.specs.Calls.{AppendGives, AppendKeeps, AppendLeaves, Appended, CanAppend, block_count}
 use Rattle.drive_port.specs.Calls.{CanClose, CanFinish, CanRead, CanReset, CloseGives, CloseLeaves, ClosedZone}
-use Rattle.drive_port.specs.Calls.{Counted, FinishGives, FinishKeeps, FinishLeaves, Finished, IsNotRefused, Obeys}
+use Rattle.drive_port.specs.Calls.{Counted, FinishGives, FinishKeeps, FinishLeaves, Finished, FlushGives, FlushKeeps, Flushed}
+use Rattle.drive_port.specs.Calls.{IsNotRefused, Obeys}
 use Rattle.drive_port.specs.Calls.{OnlyCloses, ReadGives, ReadShows, ReportGives, Reported}
 use Rattle.drive_port.specs.Calls.{ResetGives, ResetKeeps, ResetLeaves, ResetZone}
 
@@ -66,6 +68,23 @@ pub record ResetAnswers {V : Type 0} (old : DriveState) (start : ℕ) (result : 
   pub leaves : ResetLeaves old start result new
   pub taken : CanReset old start → IsNotRefused result
   pub obeys : Obeys old result new
+
+-- ---- a Flush: no zone changes, up to closings
+
+-- A Flush. No drive refuses it.
+pub record FlushAnswers {V : Type 0} (old : DriveState) (result : Result V PortFault) (new : DriveState) : Type 0 where
+  pub gives : FlushGives old result new
+  -- where it succeeded, a loss of power leaves the zones as they are
+  pub flushed : OnOk result (Flushed old new)
+  -- where it did not, it leaves what it might have left before, or where the device stopped the zones as they are
+  pub durable : FlushKeeps old result new
+  pub kept : OnlyCloses old new
+  pub taken : IsNotRefused result
+  -- a drive that had stopped answers just that and does not change; one that answers so has stopped, and counts nothing
+  pub lawful : IsLawful new
+  pub already : old.stopped ≡ true → (result ≡ Err Stopped) × (new ≡ old)
+  pub stops : result ≡ Err Stopped → (new.stopped ≡ true) × SameCounts old new
+  pub completed : new.completed ≤ old.completed + 1
 
 -- ---- calls that only ask: no zone changes, up to closings
 

@@ -7,7 +7,7 @@ use Rattle.nvme_wire.specs.declared.command.Action.{Action}
 use Rattle.nvme_wire.specs.declared.command.Action.TheVariants.{Close, Finish, Reset}
 use Rattle.nvme_wire.specs.declared.command.ReportingOptions.{ReportingOptions}
 use Rattle.nvme_wire.specs.declared.command.Command.{Command}
-use Rattle.nvme_wire.specs.declared.command.Command.TheVariants.{Append, Read, Receive, Send}
+use Rattle.nvme_wire.specs.declared.command.Command.TheVariants.{Append, Flush, Read, Receive, Send}
 use Rattle.nvme_wire.specs.declared.completion.Completion.{Completion}
 use Rattle.nvme_wire.specs.declared.status.Status.TheVariants.{Success}
 use Rattle.nvme_wire.specs.declared.zone_state.ZoneState.TheVariants.{Closed, Empty, Full, Offline}
@@ -20,6 +20,7 @@ use Rattle.drive_port.specs.declared.calls.PortFault.TheVariants.{Refused, Memor
 use Rattle.drive_port.specs.declared.device.Halt.{Halt}
 use Rattle.drive_port.specs.declared.device.Halt.TheVariants as halts
 use Rattle.drive_port.specs.Drive.{DriveState, IsClosing, IsLawful, active_count, open_count}
+use Rattle.drive_port.specs.Durable.{IsDurable, MayBeDurable}
 use Rattle.drive_port.specs.Step.{Performs, end_of, is_state, is_success, zone_at}
 use Rattle.drive_port.specs.Halting.{Halts}
 use Rattle.drive_port.specs.Contents.{Appends, Counts, Finishes, Resets, SameContents, SameCounts, bytes_at}
@@ -48,13 +49,14 @@ abbrev pub fault_of : Halt → PortFault
 fault_of halts.Memory = Memory
 fault_of halts.Stopped = Stopped
 
--- What each call keeps, whatever it answers: the drive stays lawful and has its geometry; a drive that had stopped
--- answers just that and does not change; a drive that answers `Stopped` has stopped, and its counts are the same; and
--- no more than one command is completed.
+-- What each call but a Flush keeps, whatever it answers: the drive stays lawful, has its geometry, and what is durable
+-- is the same; a drive that had stopped answers just that and does not change; a drive that answers `Stopped` has
+-- stopped, and its counts are the same; and no more than one command is completed.
 pub record Obeys {V : Type 0} (old : DriveState) (result : Result V PortFault) (new : DriveState) : Type 0 where
   pub was_lawful : IsLawful old
   pub lawful : IsLawful new
   pub geometry : new.geometry ≡ old.geometry
+  pub durable : new.durable ≡ old.durable
   pub already : old.stopped ≡ true → (result ≡ Err Stopped) × (new ≡ old)
   pub stops : result ≡ Err Stopped → new.stopped ≡ true
   pub counts : result ≡ Err Stopped → SameCounts old new
@@ -110,6 +112,10 @@ CloseGives old start result new = SendGives old start Close result new
 abbrev pub ResetGives : {V : Type 0} → DriveState → ℕ → Result V PortFault → DriveState → Type 0
 ResetGives old start result new = SendGives old start Reset result new
 
+-- one Flush
+abbrev pub FlushGives : {V : Type 0} → DriveState → Result V PortFault → DriveState → Type 0
+FlushGives old result new = (returned : List ℕ) × CallGives old Flush [] (with_zero result) returned new
+
 -- one report
 abbrev pub ReportGives : {V : Type 0} → DriveState → ℕ → ReportingOptions → Bool → ℕ → Result V PortFault → List ℕ → DriveState → Type 0
 ReportGives old address options partial dwords result returned new = CallGives old (Receive address dwords options partial) [] (with_zero result) returned new
@@ -139,6 +145,11 @@ pub record ResetZone (old new : DriveState) (start : ℕ) : Type 0 where
   pub geometry : new.geometry ≡ old.geometry
   pub counts : Counts old new 0
   pub contents : Resets (contents old.zones) (contents new.zones) (start / old.geometry.size)
+
+-- What the drive holds is durable.
+pub record Flushed (old new : DriveState) : Type 0 where
+  pub counts : Counts old new 0
+  pub durable : IsDurable new
 
 -- ---- what a call shows that only asks
 
@@ -291,6 +302,12 @@ abbrev pub ResetKeeps : {V : Type 0} → DriveState → ℕ → Result V PortFau
 ResetKeeps old start (Ok value) new = Unit {0}
 ResetKeeps old start (Err Stopped) new = SameContents old new ⊎ ResetContents old new start
 ResetKeeps old start (Err fault) new = SameContents old new
+
+-- a Flush that did not succeed leaves durable what was; or, where the device stopped, it may have succeeded
+abbrev pub FlushKeeps : {V : Type 0} → DriveState → Result V PortFault → DriveState → Type 0
+FlushKeeps old (Ok value) new = Unit {0}
+FlushKeeps old (Err Stopped) new = MayBeDurable old new
+FlushKeeps old (Err fault) new = new.durable ≡ old.durable
 
 -- ---- refusals
 

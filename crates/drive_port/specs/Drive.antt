@@ -8,10 +8,12 @@ use Rattle.zone_states.specs.Zone.{Zone, IsLawfulZone}
 
 -- The state of a drive: its zones, and what the proofs count. `completed` counts the commands completed since the drive
 -- was made or restarted, `refused` those of them with a status other than Success, and `appended` the Appends that
--- succeeded.
+-- succeeded. `durable` has the zones that a loss of power may leave: those of a restarted drive, one list for each way
+-- that it may end. A drive that says nothing of a loss of power has no list.
 pub record DriveState : Type 0 where
   pub geometry : Geometry
   pub zones : List Zone
+  pub durable : List (List Zone)
   pub completed : ℕ
   pub refused : ℕ
   pub appended : ℕ

@@ -11,6 +11,7 @@ use Rattle.zone_states.specs.Zone.{Zone}
 use Rattle.drive_port.specs.declared.device.Halt.{Halt}
 use Rattle.drive_port.specs.declared.device.Halt.TheVariants.{Memory, Stopped}
 use Rattle.drive_port.specs.Drive.{DriveState, IsClosing}
+use Rattle.drive_port.specs.Durable.{MayHarden}
 use Rattle.drive_port.specs.Step.{Completes, Effect}
 use Rattle.drive_port.specs.Contents.{SameCounts}
 
@@ -48,6 +49,7 @@ pub record Stops (old : DriveState) (command : Result Command DecodeFault) (byte
   pub geometry : new.geometry ≡ old.geometry
   pub counts : SameCounts old new
   pub left : LeftBy old.geometry old.zones command bytes new.zones
+  pub hardens : MayHarden command old new
 
 -- ---- halts
 

@@ -1,6 +1,7 @@
 pub mod Drive
 pub mod Step
 pub mod Run
+pub mod Durable
 pub mod Contents
 pub mod Halting
 pub mod Calls

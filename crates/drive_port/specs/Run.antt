@@ -14,6 +14,6 @@ restarted_state state = state
 abbrev pub restarted_zone : Zone → Zone
 restarted_zone zone = record zone { state = restarted_state zone.state }
 
--- nothing else of the zones changes; the counts begin again, and the drive continues
+-- nothing else of the zones changes, nor what is durable of them; the counts begin again, and the drive continues
 abbrev pub restarted : DriveState → DriveState
-restarted drive = record { geometry = drive.geometry; zones = map restarted_zone drive.zones; completed = 0; refused = 0; appended = 0; stopped = false }
+restarted drive = record { geometry = drive.geometry; zones = map restarted_zone drive.zones; durable = drive.durable; completed = 0; refused = 0; appended = 0; stopped = false }

@@ -24,6 +24,7 @@ pub use Rattle.zone_states.specs.Writing.{data_checks, state_checks}
 pub use Rattle.zone_states.specs.Sending.{blocks_after, zone_after}
 use Rattle.zone_report.specs.Report.{report}
 use Rattle.drive_port.specs.Drive.{DriveState, IsClosing, active_count, open_count}
+use Rattle.drive_port.specs.Durable.{Hardens}
 
 -- what a command gives: its status and result, the bytes that it returns, and the zones that it leaves
 pub record Outcome : Type 0 where
@@ -194,7 +195,7 @@ pub record Effect (geometry : Geometry) (old : List Zone) (command : Result Comm
   pub returned_is : returned ≡ (outcome geometry middle command bytes).returned
   pub after : IsClosing (outcome geometry middle command bytes).zones new
 
--- A command that was completed: its effect on the zones, and one more in the counts.
+-- A command that was completed: its effect on the zones and on what is durable, and one more in the counts.
 pub record Performs (old : DriveState) (command : Result Command DecodeFault) (bytes : List ℕ) (status : Status) (value : ℕ)
     (returned : List ℕ) (new : DriveState) : Type 0 where
   pub effect : Effect old.geometry old.zones command bytes status value returned new.zones
@@ -202,6 +203,7 @@ pub record Performs (old : DriveState) (command : Result Command DecodeFault) (b
   pub completed : new.completed ≡ old.completed + 1
   pub refused : new.refused ≡ old.refused + one_if (not (is_success status))
   pub appended : new.appended ≡ old.appended + one_if (is_append command && is_success status)
+  pub hardens : Hardens command old new
 
 -- the step of an entry, whose completion has these bytes
 pub record Completes (old : DriveState) (entry bytes completion returned : List ℕ) (new : DriveState) : Type 0 where

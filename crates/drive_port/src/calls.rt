@@ -1,9 +1,12 @@
 ghost use Rattle.std.specs.Prelude.{◌≡◌, ◌≤◌, ◌^◌, false, []};
 ghost use Rattle.nvme_wire.specs.Completion.{IsEncodable, completion_bytes};
 ghost use Rattle.nvme_wire.specs.Entry.{IsAdmitted};
+ghost use Rattle.drive_port.specs.Drive.{IsLawful};
+ghost use Rattle.drive_port.specs.Durable.{is_flush};
 ghost use Rattle.drive_port.specs.Halting.{Adds};
-ghost use Rattle.drive_port.specs.Calls.{CallGives, IsCompletion, IsWholeBlocks, Obeys, SendGives, answer_of, fault_of};
-ghost use Rattle.drive_port.specs.Answering.{AppendAnswers, CloseAnswers, CountAnswers, FinishAnswers};
+ghost use Rattle.drive_port.specs.Calls.{CallGives, FlushGives, IsCompletion, IsWholeBlocks, Obeys};
+ghost use Rattle.drive_port.specs.Calls.{SendGives, answer_of, fault_of};
+ghost use Rattle.drive_port.specs.Answering.{AppendAnswers, CloseAnswers, CountAnswers, FinishAnswers, FlushAnswers};
 ghost use Rattle.drive_port.specs.Answering.{ReadAnswers, ReadExtends, ReportAnswers, ResetAnswers};
 
 use crate::device::{Device, Halt};
@@ -53,7 +56,8 @@ fn answer_of(completion: &[u8; 16]) -> Result<u64, PortFault>
 }
 
 // One submit of this command, with command identifier 0.
-pub(crate) fn call<D: Device>(
+#[inline(always)]
+fn submit<D: Device>(
     device: &mut D,
     command: &Command,
     bytes: &[u8],
@@ -62,11 +66,28 @@ pub(crate) fn call<D: Device>(
     requires { IsAdmitted command.now }
     ensures gives { CallGives (D.drive device.old) command.now bytes.now result into.new.items
         (D.drive device.new) }
-    ensures obeys { Obeys (D.drive device.old) result (D.drive device.new) }
+    ensures was_lawful { IsLawful (D.drive device.old) }
+    ensures lawful { IsLawful (D.drive device.new) }
 {
     let entry = command.encode(0);
     let completion = device.submit(&entry, bytes, into)?;
     answer_of(&completion)
+}
+
+// One submit of a command that is no Flush.
+pub(crate) fn call<D: Device>(
+    device: &mut D,
+    command: &Command,
+    bytes: &[u8],
+    into: &mut Vec<u8>,
+) -> Result<u64, PortFault>
+    requires admitted { IsAdmitted command.now }
+    requires other { is_flush command.now ≡ false }
+    ensures gives { CallGives (D.drive device.old) command.now bytes.now result into.new.items
+        (D.drive device.new) }
+    ensures obeys { Obeys (D.drive device.old) result (D.drive device.new) }
+{
+    submit(device, command, bytes, into)
 }
 
 // The same without data, with what is returned after what `into` holds.
@@ -76,7 +97,8 @@ fn call_extending<D: Device>(
     command: &Command,
     into: &mut Vec<u8>,
 ) -> Result<u64, PortFault>
-    requires { IsAdmitted command.now }
+    requires admitted { IsAdmitted command.now }
+    requires other { is_flush command.now ≡ false }
     ensures gives { Adds into.old.items (λ returned. CallGives
         (D.drive device.old) command.now [] result returned (D.drive device.new)) into.new.items }
     ensures obeys { Obeys (D.drive device.old) result (D.drive device.new) }
@@ -183,6 +205,24 @@ pub fn reset<D: Device>(alloc: Global, device: &mut D, zone_start: u64) -> Resul
     ensures { ResetAnswers (D.drive device.old) zone_start result (D.drive device.new) }
 {
     send(alloc, device, zone_start, Action::Reset)
+}
+
+// One Flush.
+fn send_flush<D: Device>(alloc: Global, device: &mut D) -> Result<(), PortFault>
+    ensures gives { FlushGives (D.drive device.old) result (D.drive device.new) }
+    ensures lawful { IsLawful (D.drive device.new) }
+{
+    let mut into = Vec::new(alloc);
+    submit(device, &Command::Flush, &[], &mut into)?;
+    Ok(())
+}
+
+/// Makes what the drive holds durable, as far as the drive says what a loss of power leaves (Base Specification 2.0,
+/// section 7.1).
+pub fn flush<D: Device>(alloc: Global, device: &mut D) -> Result<(), PortFault>
+    ensures { FlushAnswers (D.drive device.old) result (D.drive device.new) }
+{
+    send_flush(alloc, device)
 }
 
 /// Reports the chosen zones from the one that holds the address `slba` on, in a buffer of `dwords`

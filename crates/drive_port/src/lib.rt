@@ -26,6 +26,8 @@
 //!   (`Leaves`), and of their contents (`AppendKeeps` and its kin), also where the device stopped; when a
 //!   drive has to take it (`CanAppend` and its kin); and what every call keeps (`Obeys`). All of these
 //!   are in `specs/Calls.antt`; a record of each call has them together (`specs/Answering.antt`).
+//! * Only a Flush changes what of the drive is durable: done, a loss of power leaves the zones as they are, and nothing
+//!   else (`specs/Durable.antt`). That is said of a drive that says what a loss of power leaves; of others nothing is.
 //! * `submit_extending` and `read_extending` keep what a buffer holds, and put after it what the command
 //!   returned (`Adds` in `specs/Halting.antt`); after a fault the buffer is unchanged.
 //! * `StopAfter` stops a device after a number of commands, or inside the Append that follows them
@@ -43,7 +45,7 @@ mod recorder;
 mod stop;
 
 pub use calls::{
-    PortFault, append, close, count_zones, finish, read, read_extending, report, reset,
+    PortFault, append, close, count_zones, finish, flush, read, read_extending, report, reset,
 };
 pub use device::{Device, Halt};
 pub use laws::{

@@ -4,24 +4,21 @@ use Rattle.std.specs.Prelude.{IfErr, IfOk, OnOk}
 use Rattle.std.specs.Result.{IsErrAnd}
 use Rattle.std.proofs.lemmas.Bool.{lt-ltb}
 use Rattle.std.proofs.lemmas.List.{drop_more, drop_all, length-append, length-drop, length-map}
-use Rattle.std.specs.List.{list_all}
 use Rattle.zone_states.specs.declared.geometry.Geometry.{Geometry}
 use Rattle.drive_port.specs.Contents.{Content, content_at, contents, is_full, usage_of}
 use Rattle.drive_port.specs.Drive.{DriveState}
-use Rattle.batch_log.specs.declared.fault.LogFault.{LogFault}
 use Rattle.batch_log.specs.declared.fault.LogFault.TheVariants.{Torn}
-use Rattle.batch_log.specs.Causes.{header_fault, is_zero}
-use Rattle.batch_log.specs.Header.{Heading, IsHeaderBlock, IsNoHeader}
-use Rattle.batch_log.specs.Ending.{Ending, failed, ending_of, foreign_ending}
+use Rattle.batch_log.specs.Causes.{header_fault}
+use Rattle.batch_log.specs.Header.{Heading, IsHeaderBlock}
+use Rattle.batch_log.specs.Ending.{Ending, failed, ending_of}
 use Rattle.batch_log.specs.Log.{BeginsWithNoBatch, IsTail, data_count}
 use Rattle.drive_survey.specs.declared.fault.MountFault.{MountFault}
-use Rattle.drive_survey.specs.declared.fault.MountFault.TheVariants.{Log}
 use Rattle.drive_survey.specs.declared.reported.ReportedZone.{ReportedZone}
 use Rattle.drive_survey.specs.Heads.{HeadsView, kept_entry, with_heading}
 use Rattle.drive_survey.specs.Reported.{IsKnown, KeepsZones}
 use Rattle.drive_survey.specs.Scan.{EndsZone, FailsBy, FailsIn, MeetsHeader, Scans, Takes, TakesNext, block_of, readable_at, ending_fault}
 use Rattle.drive_survey.proofs.ReadLaws.{kept-blocks, kept-contents, known-few}
-use Rattle.drive_survey.proofs.TakeLaws.{none-begins, short-begins, takes-all, takes-bad, takes-fault, takes-more}
+use Rattle.drive_survey.proofs.TakeLaws.{short-begins, takes-all, takes-bad, takes-fault, takes-more}
 
 -- ---- faults
 

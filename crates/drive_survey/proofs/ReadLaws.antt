@@ -22,7 +22,7 @@ use Rattle.drive_survey.specs.Scan.{FailsBy, block_of, readable_at, mount_fault}
 
 -- without a command the zones of a lawful drive are kept
 pub keeps-none : (drive : DriveState) → IsLawful drive → KeepsZones drive drive
-keeps-none drive lawful = record { geometry = refl; lawful = lawful; closing = IsClosing-refl drive.zones; refused = refl; appended = refl }
+keeps-none drive lawful = record { geometry = refl; lawful = lawful; closing = IsClosing-refl drive.zones; refused = refl; durable = refl; appended = refl }
 
 -- if each of two looks keeps the zones, both together do
 pub keeps-both : (a b c : DriveState) → KeepsZones a b → KeepsZones b c → KeepsZones a c
@@ -31,6 +31,7 @@ keeps-both a b c k l = record {
   lawful = l.lawful;
   closing = IsClosing-trans a.zones b.zones c.zones k.closing l.closing;
   refused = l.refused ∙ k.refused;
+  durable = l.durable ∙ k.durable;
   appended = l.appended ∙ k.appended;
 }
 
@@ -105,7 +106,7 @@ read-shown drive zone offset address reported bytes known lt is shown =
 
 -- a Read that succeeds keeps the zones, though the controller may close some
 pub read-keeps : (old new : DriveState) → Obeys {V = Unit {0}} old (Ok tt) new → IsClosing old.zones new.zones → Counts old new 0 → KeepsZones old new
-read-keeps old new obeys closing counts = record { geometry = obeys.geometry; lawful = obeys.lawful; closing = closing; refused = counts.refused; appended = omega (arith, counts.appended) }
+read-keeps old new obeys closing counts = record { geometry = obeys.geometry; lawful = obeys.lawful; closing = closing; refused = counts.refused; durable = obeys.durable; appended = omega (arith, counts.appended) }
 
 -- and one that halted
 pub record Halts (old new : DriveState) (fault : PortFault) : Type 0 where
@@ -120,6 +121,6 @@ read-halts old new zone offset address reported returned (port.Refused status) k
 read-halts old new zone offset address reported returned port.Memory known lt is gives closing obeys passed = record { halt = tt; kept = rw gives.1.1 (keeps-none old known.lawful); cause = inl refl }
 read-halts old new zone offset address reported returned port.Stopped known lt is gives closing obeys passed = record {
   halt = tt;
-  kept = record { geometry = obeys.geometry; lawful = obeys.lawful; closing = closing; refused = (obeys.counts refl).refused; appended = (obeys.counts refl).appended };
+  kept = record { geometry = obeys.geometry; lawful = obeys.lawful; closing = closing; refused = (obeys.counts refl).refused; durable = obeys.durable; appended = (obeys.counts refl).appended };
   cause = inr (inl (refl, obeys.stops refl));
 }

@@ -1,5 +1,5 @@
 -- What a report of all zones tells.
-use Rattle.std.proofs.Common.{◌≡◌, ℕ, zero, suc, ◌+◌, ◌-◌, ◌*◌, ◌/◌, ◌<◌, ◌≤◌, ◌^◌, inl, inr, false, List, [], ◌∷◌, ◌++◌, length, take, drop, Some, Err, ◌⊎◌, refl, sym, ap, ◌∙◌, arith, append_assoc, append-nil}
+use Rattle.std.proofs.Common.{◌≡◌, ℕ, zero, suc, ◌+◌, ◌-◌, ◌*◌, ◌/◌, ◌<◌, ◌≤◌, ◌^◌, inl, inr, false, List, [], ◌∷◌, ◌++◌, length, take, drop, Some, ◌⊎◌, refl, sym, ap, ◌∙◌, arith, append_assoc, append-nil}
 use Rattle.std.specs.List.{AllByRecursion, flat_map}
 use Rattle.std.proofs.lemmas.List.{length-append, take_all}
 use Rattle.std.proofs.lemmas.Nat.{mul-le}
@@ -13,15 +13,12 @@ use Rattle.zone_states.specs.Geometry.{IsInRange}
 use Rattle.zone_states.specs.Zone.{IsLawfulZone, MayHold, Zone}
 use Rattle.zone_report.specs.Report.{descriptor_of, descriptor_room, matching, pointer_of, report, zone_status}
 use Rattle.zone_report.proofs.ReportLaws.{length-descriptors}
-use Rattle.drive_port.specs.Calls.{IsNotRefused, Obeys, ReportGives, Reported}
+use Rattle.drive_port.specs.Calls.{Reported}
 use Rattle.drive_port.specs.Drive.{ClosesOne, DriveState, IsClosing, IsLawful}
 use Rattle.drive_port.specs.Step.{end_of}
-use Rattle.drive_port.specs.declared.calls.PortFault.{PortFault}
-use Rattle.drive_port.specs.declared.calls.PortFault.TheVariants as port
 use Rattle.drive_port.proofs.ClosingLaws.{length-closing}
 use Rattle.drive_survey.specs.declared.reported.ReportedZone.{ReportedZone}
 use Rattle.drive_survey.specs.Reported.{AreReported, DescribesZone, IsReported, ReportsZones, TellsZones}
-use Rattle.drive_survey.proofs.ReadLaws.{Halts, keeps-none}
 
 -- ---- one zone
 

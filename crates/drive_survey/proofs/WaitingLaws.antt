@@ -1,12 +1,10 @@
 -- Which zones have to be looked at again once a half clean zone is forgotten.
-use Rattle.std.proofs.Common.{◌≡◌, ◌≢◌, ◌⊎◌, inl, inr, ℕ, suc, ◌<◌, ◌≤◌, Bool, true, false, cond, List, [], length, map, drop, get_or, Option, Some, None, Result, Ok, Err, refl, sym, ap, subst, ◌∙◌, arith}
+use Rattle.std.proofs.Common.{◌≡◌, ◌≢◌, ◌⊎◌, inl, inr, ℕ, suc, ◌<◌, ◌≤◌, Bool, true, false, List, [], length, map, drop, get_or, Option, Some, None, Result, Ok, Err, refl, sym, ap, subst, ◌∙◌, arith}
 use Rattle.std.specs.Prelude.{IsSome, IsTrue, OnOk, slice_get}
-use Rattle.std.specs.Option.{option_map}
-use Rattle.std.specs.BTreeSet.{BTreeSet, IsSubset, Updates, contains}
-use Rattle.std.specs.BTreeMap.{is_at}
+use Rattle.std.specs.BTreeSet.{BTreeSet, IsSubset, contains}
 use Rattle.std.specs.List.{AllByRecursion, count_by}
 use Rattle.std.specs.Ordering.{nat_cmp}
-use Rattle.std.proofs.lemmas.Bool.{cases_eq, cases_lt, eq-eqb}
+use Rattle.std.proofs.lemmas.Bool.{cases_eq}
 use Rattle.std.proofs.lemmas.List.{drop_all, get_or-set_other, length-set, set_comm}
 use Rattle.std.proofs.Math.Seq.{drop-cons}
 use Rattle.drive_port.specs.Drive.{DriveState}
@@ -29,15 +27,15 @@ use Rattle.drive_survey.specs.declared.survey.Survey.{Survey}
 use Rattle.drive_survey.specs.BlockRecords.{HoldsEach, HoldsMore, HoldsRecords, held_of, own_of}
 use Rattle.drive_survey.specs.Clearing.{AreOf, CoversHeads, CoversMoved, Tells, without_heads}
 use Rattle.drive_survey.specs.Heads.{HeadsView, heads_of}
-use Rattle.drive_survey.specs.KeptRecords.{kept_of_zone, kept_record}
+use Rattle.drive_survey.specs.KeptRecords.{kept_of_zone}
 use Rattle.drive_survey.specs.NewestRecords.{AreNewest}
 use Rattle.drive_survey.specs.Scan.{heads_in}
-use Rattle.drive_survey.specs.SizeCounts.{IsSized, says_some, size_counts}
+use Rattle.drive_survey.specs.SizeCounts.{says_some, size_counts}
 use Rattle.drive_survey.specs.Survey.{greatest_in}
 use Rattle.drive_survey.specs.Waiting.{AllWait, AreCandidates, HolderWaits, HoldersWait, IsNeeded, LastWaits, LosesZone, OthersWait}
 use Rattle.drive_survey.proofs.ClearLaws.{Forgets, knows-less}
 use Rattle.drive_survey.proofs.FindLaws.{half-moved}
-use Rattle.drive_survey.proofs.MovedLaws.{forgotten-are, found-heads, moved-batch, not-found, not-there, size-forgotten, none-before}
+use Rattle.drive_survey.proofs.MovedLaws.{forgotten-are, found-heads, moved-batch, not-found, size-forgotten, none-before}
 use Rattle.drive_survey.proofs.OutsideLaws.{none-outside, outside, outside-is, stays-outside}
 use Rattle.drive_survey.proofs.SizeCountLaws.{size-needs}
 use Rattle.drive_survey.proofs.SurveyLaws.{greatest-heads}
@@ -45,7 +43,6 @@ use Rattle.drive_survey.proofs.OwnLaws.{own-named}
 use Rattle.drive_survey.proofs.SpareLaws.{knows-small, same-none, same-other}
 use Rattle.drive_survey.proofs.ShowLaws.{outside-stands}
 use Rattle.drive_survey.proofs.RecordHoldLaws.{each-more, heads-more}
-use Rattle.drive_survey.proofs.RecordTableLaws.{at-is}
 
 -- ---- sets of zones
 

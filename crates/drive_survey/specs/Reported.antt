@@ -21,6 +21,7 @@ pub record KeepsZones (old new : DriveState) : Type 0 where
   pub lawful : IsLawful new
   pub closing : IsClosing old.zones new.zones
   pub refused : new.refused ≡ old.refused
+  pub durable : new.durable ≡ old.durable
   pub appended : new.appended ≡ old.appended
 
 -- A zone was reported: in its state of that moment, and with the number of its readable blocks, if it can be used.

@@ -2,15 +2,14 @@
 use Rattle.std.proofs.Common.{◌≡◌, ◌⊎◌, ℕ, zero, suc, ◌+◌, ◌/◌, ◌%◌, ◌<◌, ◌≤◌, ◌^◌, Bool, true, false, cond, eqb, List, [], ◌∷◌, length, map, get_or, slice_index, drop, None, refl, sym, ap, ◌∙◌, subst, inl, inr, arith}
 use Rattle.std.specs.List.{AllByRecursion, count_by}
 use Rattle.std.proofs.Math.Nat.{mul-div_cancel}
-use Rattle.std.proofs.lemmas.Bool.{eq-eqb, le-leb, le-ltb, lt-ltb}
+use Rattle.std.proofs.lemmas.Bool.{eq-eqb, le-ltb}
 use Rattle.std.proofs.lemmas.List.{length-map}
 use Rattle.nvme_wire.specs.declared.zone_state.ZoneState.{ZoneState}
-use Rattle.nvme_wire.specs.declared.zone_state.ZoneState.TheVariants.{Empty, ImplicitlyOpened, ExplicitlyOpened, Closed, ReadOnly, Full, Offline}
 use Rattle.zone_states.specs.declared.geometry.Geometry.{Geometry}
 use Rattle.zone_states.specs.Checks.{first_failing}
 use Rattle.zone_states.specs.Geometry.{IsInRange, geometry_checks, is_outside}
 use Rattle.zone_states.specs.Transition.{is_active, is_open}
-use Rattle.zone_states.specs.Zone.{IsLawfulZone, MayHold}
+use Rattle.zone_states.specs.Zone.{IsLawfulZone}
 use Rattle.zone_states.proofs.Cutting.{length-cut}
 use Rattle.drive_port.specs.Run.{restarted_state}
 use Rattle.zone_drive.specs.Stored.{AreZones, may_hold, zones_of}
@@ -18,10 +17,10 @@ use Rattle.zone_drive.specs.Held.{restarted_stored}
 use Rattle.zone_drive.proofs.CountLaws.{count-cons}
 use Rattle.drive_port.proofs.ClosingLaws.{active-restarted, may_hold-restarted, open-restarted}
 use Rattle.zone_drive.proofs.ZonesLaws.{block-some, may_hold-is, may_hold-true}
-use Rattle.file_drive.specs.Faults.{AreTableFaults, IsHeadFault, IsOpenFault, IsReadFault, IsTableFault, narrow, shape_in}
+use Rattle.file_drive.specs.Faults.{IsApartFault, AreTableFaults, IsHeadFault, IsOpenFault, IsReadFault, IsTableFault, narrow, shape_in}
 use Rattle.file_drive.specs.Finds.{Finds}
 use Rattle.file_drive.specs.Head.{boot_in, is_known, is_of_boot, magic, shape_words}
-use Rattle.file_drive.specs.InFile.{AreWithin, AreWords, CanOpen, IsServed, Words}
+use Rattle.file_drive.specs.InFile.{AreApart, AreWithin, AreWords, CanOpen, IsServed, Words}
 use Rattle.file_drive.specs.Layout.{at_table, file_length, word_in}
 use Rattle.file_drive.specs.Opening.{AreFew, Holds, IsTable, IsWord, opened_table, opened_zones}
 use Rattle.file_drive.specs.Tables.{entry_of, flushed_table, flushed_zones, live_table, word_of, words_in, zone_in, zones_by, zones_in}
@@ -29,6 +28,7 @@ use Rattle.file_drive.specs.declared.boot.Boot.{Boot}
 use Rattle.file_drive.specs.declared.entry.Entry.{Entry}
 use Rattle.file_drive.specs.declared.fault.OpenFault.{OpenFault}
 use Rattle.file_drive.specs.declared.fault.OpenFault.TheVariants as faults
+use Rattle.file_drive.proofs.ApartLaws.{apart-again, apart-self}
 use Rattle.file_drive.proofs.OpenLaws.{zones-few}
 use Rattle.file_drive.proofs.PartLaws.{length-words}
 use Rattle.file_drive.proofs.ServedLaws.{are-words, small-capacity, word-says, words-say}
@@ -85,7 +85,7 @@ every-hold : (g : Geometry) (file : List ℕ) (number : ℕ) (entries : List Ent
 every-hold g file number [] some long few within lawful = tt
 every-hold g file number (entry ∷ entries) some long few within lawful =
     let zone = zone_in g file number entry in
-    let written = length-written g file number entry.written long (omega (arith, few)) within.0 in
+    let written = length-written g file number entry long (omega (arith, few)) within.0 in
     let blocks = length-cut g.block (length zone.bytes / g.block) zone.bytes ∙ ap (λ (n : ℕ). n / g.block) written ∙ mul-div_cancel entry.written {n = g.block} (omega (arith, some)) in (
       may_hold-is entry.state g.capacity entry.written (rw blocks at lawful.0.written),
       every-hold g file (number + 1) entries some long (omega (arith, few)) within.1 lawful.1,
@@ -189,7 +189,7 @@ module _ (g : Geometry) (boot : Boot) (file : List ℕ) (in_range : IsInRange g)
   no-head-fault (faults.Input error) is = tt
   no-head-fault faults.OutOfMemory is = tt
 
-  module _ (last : IsTable g flushed) (now : IsTable g opened) where
+  module _ (last : IsTable g flushed) (now : IsTable g opened) (apart : AreApart flushed (map entry_of opened)) where
     no-table : (words : List ℕ) → IsTable g words → (fault : OpenFault) → IsTableFault g words fault → IsReadFault fault
     no-table words table faults.NotADrive none = none
     no-table words table faults.Version none = none
@@ -204,12 +204,25 @@ module _ (g : Geometry) (boot : Boot) (file : List ℕ) (in_range : IsInRange g)
     no-table words table (faults.Input error) none = tt
     no-table words table faults.OutOfMemory none = tt
 
+    no-apart : (fault : OpenFault) → IsApartFault flushed (map entry_of opened) fault → IsReadFault fault
+    no-apart faults.NotADrive none = none
+    no-apart faults.Version none = none
+    no-apart (faults.Geometry part) none = none
+    no-apart faults.Short none = none
+    no-apart faults.Long none = none
+    no-apart (faults.Table number) past = absurd (past.1 (apart number past.0))
+    no-apart faults.Limits none = none
+    no-apart (faults.Input error) none = tt
+    no-apart faults.OutOfMemory none = tt
+
     no-tables : (fault : OpenFault) → AreTableFaults boot file fault → IsReadFault fault
     no-tables fault (other, is, past) =
-        elim (subst (λ (s : Geometry). IsTableFault s (words_in file (at_table s (flushed_table file)) s.zones) fault ⊎ IsTableFault s (words_in file (at_table s (opened_table boot file)) s.zones) fault)
+        elim (subst (λ (s : Geometry). IsTableFault s (words_in file (at_table s (flushed_table file)) s.zones) fault
+        ⊎ IsTableFault s (words_in file (at_table s (opened_table boot file)) s.zones) fault
+        ⊎ IsApartFault (words_in file (at_table s (flushed_table file)) s.zones) (map entry_of (words_in file (at_table s (opened_table boot file)) s.zones)) fault)
         (shape-is other g (sym is ∙ head)) past) [
           | inl flush ↦ no-table flushed last fault flush
-          | inr counts ↦ no-table opened now fault counts
+          | inr rest ↦ elim rest [ inl counts ↦ no-table opened now fault counts | inr near ↦ no-apart fault near ]
         ]
 
     opens : (fault : OpenFault) → IsOpenFault boot file fault → IsReadFault fault
@@ -245,9 +258,9 @@ of-boot boot file is known =
 
 -- a file that is served, in the same boot
 pub kill-finds : (g : Geometry) (boot : Boot) (file : List ℕ) (entries : List Entry) (live flushed : ℕ) (words : Words) → IsServed g boot file entries live flushed words
-    → IsInRange g → length entries ≡ g.zones → AreWithin g entries → AreWords g words.safe → is_known boot ≡ true → AreZones g (zones_in g file 0 entries) → AreZones g (flushed_zones g file)
+    → IsInRange g → length entries ≡ g.zones → AreWithin g entries → AreWords g words.safe → AreApart words.safe entries → is_known boot ≡ true → AreZones g (zones_in g file 0 entries) → AreZones g (flushed_zones g file)
     → Finds g boot file (map restarted_stored (zones_in g file 0 entries))
-kill-finds g boot file entries live flushed words served in_range count within safe known zones promised =
+kill-finds g boot file entries live flushed words served in_range count within safe apart known zones promised =
     let small = small-capacity g in_range in
     let counts : opened_table boot file ≡ live = ap (λ (b : Bool). cond b (live_table file) (flushed_table file)) (of-boot boot file served.boot_is known) ∙ served.live_is in
     let now : words_in file (at_table g (opened_table boot file)) g.zones ≡ map word_of entries = ap (λ (t : ℕ). words_in file (at_table g t) g.zones) counts ∙ served.live_words in
@@ -261,7 +274,7 @@ kill-finds g boot file entries live flushed words served in_range count within s
     } in
     let flush = zones-table g file (words_in file (at_table g (flushed_table file)) g.zones) in_range served.long (length-words file (at_table g (flushed_table file)) g.zones)
     (subst (λ (ws : List ℕ). AreWords g ws) (sym last) safe) promised in
-    let found = finds g boot file in_range served.long served.head flush (subst (λ (ws : List ℕ). IsTable g ws) (sym now) table) in
+    let found = finds g boot file in_range served.long served.head flush (subst (λ (ws : List ℕ). IsTable g ws) (sym now) table) (rw (last, now) (apart-again g words.safe entries small within apart)) in
     record { opens = found.opens; shape = found.shape; zones_are = ap (λ (ws : List ℕ). zones_in g file 0 (map entry_of ws)) now ∙ words-say g file 0 entries small within }
 
 -- what a loss of power left, in another boot
@@ -271,5 +284,6 @@ power-finds g boot bytes in_range can another zones =
     let which : opened_table boot bytes ≡ flushed_table bytes = ap (λ (b : Bool). cond b (live_table bytes) (flushed_table bytes)) another in
     let words = words_in bytes (at_table g (flushed_table bytes)) g.zones in
     let table = zones-table g bytes words in_range can.long (length-words bytes (at_table g (flushed_table bytes)) g.zones) can.words zones in
-    let found = finds g boot bytes in_range can.long can.head table (subst (λ (t : ℕ). IsTable g (words_in bytes (at_table g t) g.zones)) (sym which) table) in
+    let found = finds g boot bytes in_range can.long can.head table (subst (λ (t : ℕ). IsTable g (words_in bytes (at_table g t) g.zones)) (sym which) table)
+    (subst (λ (t : ℕ). AreApart words (map entry_of (words_in bytes (at_table g t) g.zones))) (sym which) (apart-self words)) in
     record { opens = found.opens; shape = found.shape; zones_are = ap (λ (t : ℕ). zones_by g bytes t) which }

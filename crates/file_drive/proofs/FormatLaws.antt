@@ -17,6 +17,7 @@ use Rattle.file_drive.specs.Opening.{AreFew, Holds, IsTable, opened_table}
 use Rattle.file_drive.specs.Tables.{entry_of, flushed_table, live_table, word_of, words_in, zones_in}
 use Rattle.file_drive.specs.declared.boot.Boot.{Boot}
 use Rattle.file_drive.specs.declared.entry.Entry.{Entry}
+use Rattle.file_drive.proofs.ApartLaws.{apart-self}
 use Rattle.file_drive.proofs.FindsLaws.{every-word, finds}
 use Rattle.file_drive.proofs.PartLaws.{word-beside, words-beside, words-next}
 use Rattle.file_drive.proofs.PlaceLaws.{zones-after}
@@ -96,7 +97,7 @@ fresh-finds g boot file in_range beside head =
     let low : opened_table boot file < 4 = by (is_of_boot boot file) live flushed in
     let last : words_in file (at_table g (flushed_table file)) g.zones ≡ zeros g.zones = table (flushed_table file) (omega (arith, flushed)) in
     let now = table (opened_table boot file) low in
-    let found = finds g boot file in_range long head (subst (λ (ws : List ℕ). IsTable g ws) (sym last) (zero-table g g.zones)) (subst (λ (ws : List ℕ). IsTable g ws) (sym now) (zero-table g g.zones)) in
+    let found = finds g boot file in_range long head (subst (λ (ws : List ℕ). IsTable g ws) (sym last) (zero-table g g.zones)) (subst (λ (ws : List ℕ). IsTable g ws) (sym now) (zero-table g g.zones)) (rw (last, now) (apart-self (zeros g.zones))) in
     record { opens = found.opens; shape = found.shape; zones_are = ap (λ (ws : List ℕ). zones_in g file 0 (map entry_of ws)) now ∙ zero-zones g file 0 g.zones }
   where
     by : (same : Bool) → live_table file ≡ 0 → flushed_table file ≡ 2 → cond same (live_table file) (flushed_table file) < 4

@@ -3,6 +3,7 @@ pub mod PlaceLaws
 pub mod ServedLaws
 pub mod DataLaws
 pub mod StoreLaws
+pub mod ApartLaws
 pub mod ReadLaws
 mod FaultLaws
 mod OpenLaws

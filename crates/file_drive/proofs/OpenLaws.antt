@@ -10,7 +10,7 @@ use Rattle.zone_states.specs.Transition.{is_active, is_open}
 use Rattle.zone_drive.specs.Stored.{AreZones, is_lawful}
 use Rattle.zone_drive.proofs.CountLaws.{count-stored}
 use Rattle.zone_drive.proofs.ZonesLaws.{are-zones, block-some}
-use Rattle.file_drive.specs.Faults.{AreTableFaults, IsOpenFault, IsTableFault}
+use Rattle.file_drive.specs.Faults.{AreTableFaults, IsApartFault, IsOpenFault, IsTableFault}
 use Rattle.file_drive.specs.Found.{AreTables, IsHead}
 use Rattle.file_drive.specs.Head.{is_known, is_of_boot}
 use Rattle.file_drive.specs.InFile.{AreWithin, AreWords}
@@ -45,7 +45,7 @@ lawful-zones : (g : Geometry) (file : List ℕ) (number : ℕ) (entries : List E
 lawful-zones g file number [] some long few within hold = refl
 lawful-zones g file number (entry ∷ entries) some long few within hold =
     let zone = zone_in g file number entry in
-    let written = length-written g file number entry.written long (omega (arith, few)) within.0 in
+    let written = length-written g file number entry long (omega (arith, few)) within.0 in
     let rest : length zone.bytes % g.block ≡ 0 = ap (λ (n : ℕ). n % g.block) written ∙ mul-mod_left entry.written g.block in
     let blocks : length zone.bytes / g.block ≡ entry.written = ap (λ (n : ℕ). n / g.block) written ∙ mul-div_cancel entry.written {n = g.block} (omega (arith, some)) in
     rw (rest, blocks, hold.0, lawful-zones g file (number + 1) entries some long (omega (arith, few)) within.1 hold.1) refl
@@ -100,7 +100,7 @@ module _ (boot : Boot) (file : List ℕ) (head : Head) (tables : Tables) (is : I
     is.words,
     elim which [
       | inl last ↦ inl (subst (λ (ws : List ℕ). IsTableFault g ws fault) (last ∙ flushed-is) past)
-      | inr now ↦ inr (subst (λ (ws : List ℕ). IsTableFault g ws fault) (now ∙ opened-is) past)
+      | inr now ↦ inr (inl (subst (λ (ws : List ℕ). IsTableFault g ws fault) (now ∙ opened-is) past))
     ],
   )
 
@@ -120,3 +120,16 @@ module _ (boot : Boot) (file : List ℕ) (head : Head) (tables : Tables) (is : I
 
   pub opened-fault : (words : List ℕ) → words ≡ words_in file (at_table g (opened_table boot file)) g.zones → (fault : OpenFault) → IsTableFault g words fault → IsOpenFault boot file fault
   opened-fault words now = open-fault words (λ fault past. table-fault words _ words (inr refl) refl now fault past)
+
+  -- a zone that is where the last flush has more blocks of it
+  pub apart-fault : (words : List ℕ) (entries : List Entry) → words ≡ words_in file (at_table g (flushed_table file)) g.zones
+      → entries ≡ map entry_of (words_in file (at_table g (opened_table boot file)) g.zones) → (fault : OpenFault) → IsApartFault words entries fault → IsOpenFault boot file fault
+  apart-fault words entries last now faults.NotADrive none = absurd none
+  apart-fault words entries last now faults.Version none = absurd none
+  apart-fault words entries last now (faults.Geometry part) none = absurd none
+  apart-fault words entries last now faults.Short none = absurd none
+  apart-fault words entries last now faults.Long none = absurd none
+  apart-fault words entries last now (faults.Table number) past = (g, is.words, inr (inr (rw (← last, ← now) past)))
+  apart-fault words entries last now faults.Limits none = absurd none
+  apart-fault words entries last now (faults.Input error) none = absurd none
+  apart-fault words entries last now faults.OutOfMemory none = absurd none

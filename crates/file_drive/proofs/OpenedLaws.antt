@@ -132,6 +132,7 @@ module _ (boot : Boot) {F : Type 0} (seen : F → List ℕ) (may_leave : F → L
         within = within;
         served = served-of-read boot (seen old) found (record { head = is.head; tables = is.tables }) (same-boot boot found.head.boot e) current;
         safe = safe-words;
+        apart = is.apart;
         usable = usable;
         promise = λ bytes may. rw (synced bytes may) shown;
         zones = found-zones;
@@ -167,6 +168,7 @@ module _ (boot : Boot) {F : Type 0} (seen : F → List ℕ) (may_leave : F → L
         within = rw (geometry, entries) within;
         served = served-of-read boot (seen new) taken read is_boot live;
         safe = rw (geometry, safe) safe-words;
+        apart = rw (safe, entries) is.apart;
         usable = usable;
         promise = rw (geometry, flushed, safe) (λ bytes may. keeps-promised g found.tables.flushed found.tables.safe.items safe-count safe-words (seen old) (seen new) bytes keeps (left-keeps new follows bytes may) shown);
         zones = rw (geometry, entries, kept (seen new) keeps) found-zones;

@@ -1,9 +1,9 @@
 -- What is true of a file while a drive is served from it, after a change.
-use Rattle.std.proofs.Common.{◌≡◌, ◌⊎◌, ℕ, zero, suc, ◌+◌, ◌-◌, ◌*◌, ◌/◌, ◌%◌, ◌<◌, ◌≤◌, ◌^◌, List, [], ◌∷◌, length, map, set, get_or, slice_index, refl, sym, ap, ◌∙◌, inl, inr, arith}
+use Rattle.std.proofs.Common.{◌≡◌, ◌⊎◌, ℕ, zero, suc, ◌+◌, ◌-◌, ◌*◌, ◌/◌, ◌%◌, ◌<◌, ◌≤◌, ◌^◌, Bool, true, false, eqb, List, [], ◌∷◌, length, map, set, get_or, slice_index, refl, sym, subst, ap, ◌∙◌, inl, inr, arith}
+use Rattle.std.specs.List.{Contains}
 use Rattle.std.proofs.lemmas.Bool.{cases_eq}
 use Rattle.std.proofs.lemmas.List.{get_or-map, length-map, map-set, set-get_or}
 use Rattle.sqlite_disk.specs.Disk.{Follows, Only}
-use Rattle.nvme_wire.specs.declared.command.Action.{Action}
 use Rattle.nvme_wire.specs.declared.command.Action.TheVariants.{Close}
 use Rattle.nvme_wire.specs.declared.zone_state.ZoneState.{ZoneState}
 use Rattle.nvme_wire.specs.declared.zone_state.ZoneState.TheVariants.{Empty, ImplicitlyOpened, ExplicitlyOpened, Closed, ReadOnly, Full, Offline}
@@ -11,17 +11,38 @@ use Rattle.zone_states.specs.declared.geometry.Geometry.{Geometry}
 use Rattle.zone_states.specs.Geometry.{IsInRange}
 use Rattle.zone_states.specs.Stored.{StoredZone}
 use Rattle.drive_port.specs.Run.{restarted_state}
+use Rattle.drive_port.specs.Step.{one_if}
 use Rattle.drive_port.proofs.ClosingLaws.{restarted-twice}
 use Rattle.zone_drive.specs.Held.{restarted_stored}
 use Rattle.file_bytes.specs.Changes.{SameBeside}
 use Rattle.file_drive.specs.Head.{at_boot, boot_in}
-use Rattle.file_drive.specs.Layout.{SameZones, at_flushed, at_live, at_table, at_zones, word_in}
-use Rattle.file_drive.specs.Tables.{acted, sent_entry, entry_of, flushed_table, flushed_zones, live_table, state_from, table_code, word_of, words_in, zones_in}
-use Rattle.file_drive.specs.InFile.{AllCanOpen, AreWithin, AreWords, FiledZones, IsPromised, IsServed, KeepsPromise, Words, filed, other_table, promised_zones, spare_table}
+use Rattle.file_drive.specs.Layout.{SamePlaces, at_flushed, at_live, at_table, at_zones, word_in}
+use Rattle.file_drive.specs.Tables.{acted, entry_of, flushed_table, flushed_zones, live_table, place_of, state_from, table_code, word_of, words_in, zones_in}
+use Rattle.file_drive.specs.InFile.{AllDurable, AreWithin, AreWords, CanOpen, FiledZones, IsPromised, IsServed, KeepsPromise, Words, durable_zones, filed, other_table, promised_zones, spare_table}
 use Rattle.file_drive.specs.declared.boot.Boot.{Boot}
 use Rattle.file_drive.specs.declared.entry.Entry.{Entry}
 use Rattle.file_drive.proofs.PartLaws.{Apart, length-words, word-beside, words-at, words-beside, words-put}
-use Rattle.file_drive.proofs.PlaceLaws.{tables-apart, whole-apart, zones-after, zones-beside}
+use Rattle.file_drive.proofs.PlaceLaws.{one-few, place-low, tables-apart, whole-apart, zones-after, zones-beside}
+
+-- ---- lists
+
+-- one of two is among them
+pub contains-two : {X : Type 0} (a b x : X) → (x ≡ a) ⊎ (x ≡ b) → Contains (a ∷ b ∷ []) x
+contains-two a b x (inl is) = (0, omega arith, sym is)
+contains-two a b x (inr is) = (1, omega arith, sym is)
+
+pub contains-first : {X : Type 0} (a x : X) (xs : List X) → x ≡ a → Contains (a ∷ xs) x
+contains-first a x xs is = (0, omega arith, sym is)
+
+-- and what is among them is one of them
+pub of-one : {X : Type 0} (a x : X) → Contains (a ∷ []) x → x ≡ a
+of-one a x (zero, low, is) = sym is
+of-one a x (suc k, low, is) = absurd (omega (arith, low))
+
+pub of-two : {X : Type 0} (a b x : X) → Contains (a ∷ b ∷ []) x → (x ≡ a) ⊎ (x ≡ b)
+of-two a b x (zero, low, is) = inl (sym is)
+of-two a b x (suc zero, low, is) = inr (sym is)
+of-two a b x (suc (suc k), low, is) = absurd (omega (arith, low))
 
 -- ---- the head
 
@@ -35,11 +56,11 @@ boot-beside at n old new beside after =
 
 module _ (g : Geometry) where
   -- the zones of these entries
-  pub zones-kept : (old new : List ℕ) (number : ℕ) (entries : List Entry) → SameZones g old new → number + length entries ≤ g.zones → AreWithin g entries
+  pub zones-kept : (old new : List ℕ) (number : ℕ) (entries : List Entry) → SamePlaces g old new → number + length entries ≤ g.zones → AreWithin g entries
       → zones_in g new number entries ≡ zones_in g old number entries
   zones-kept old new number [] same few within = refl
   zones-kept old new number (entry ∷ entries) same few within =
-      rw (same number entry.written (omega (arith, few)) within.0, zones-kept old new (number + 1) entries same (omega (arith, few)) within.1) refl
+      rw (same (place_of number entry) entry.written (place-low number g.zones entry (omega (arith, few))) within.0, zones-kept old new (number + 1) entries same (omega (arith, few)) within.1) refl
 
   -- a file after a change that meets none of the words that are known
   pub served-beside : {boot : Boot} (at n : ℕ) (old new : List ℕ) (entries : List Entry) (live flushed : ℕ) (words : Words) → SameBeside at n old new
@@ -74,7 +95,7 @@ module _ (g : Geometry) where
 
   -- what is promised can be opened
   pub promised-opens : {F : Type 0} (seen : F → List ℕ) (may_leave : F → List ℕ → Type 0) (file : F) (flushed : ℕ) (safe : List ℕ) → AreWords g safe
-      → KeepsPromise seen may_leave g file flushed safe → AllCanOpen may_leave g file
+      → KeepsPromise seen may_leave g file flushed safe → (bytes : List ℕ) → may_leave file bytes → CanOpen g bytes
   promised-opens seen may_leave file flushed safe words keeps bytes may =
       let promised = keeps bytes may in
       record { long = promised.long; head = promised.head; words = rw (promised.flushed_is, promised.safe_words) words }
@@ -135,13 +156,13 @@ module _ (g : Geometry) where
       }
 
   -- that keeps all blocks
-  pub put-keeps : (old new : List ℕ) (live index : ℕ) → live < 4 → index < g.zones → SameBeside (at_table g live + 8 * index) 8 old new → SameZones g old new
+  pub put-keeps : (old new : List ℕ) (live index : ℕ) → live < 4 → index < g.zones → SameBeside (at_table g live + 8 * index) 8 old new → SamePlaces g old new
   put-keeps old new live index few low beside =
       zones-beside g (at_table g live + 8 * index) 8 old new beside (omega (arith, zones-after g live few, low))
 
   -- ---- what a loss of power leaves
 
-  promised-same : (old new safe : List ℕ) → SameZones g old new → length safe ≡ g.zones → AreWithin g (map entry_of safe) → promised_zones g new safe ≡ promised_zones g old safe
+  pub promised-same : (old new safe : List ℕ) → SamePlaces g old new → length safe ≡ g.zones → AreWithin g (map entry_of safe) → promised_zones g new safe ≡ promised_zones g old safe
   promised-same old new safe same count within =
       zones-kept old new 0 (map entry_of safe) same (omega (arith, length-map safe entry_of, count)) within
 
@@ -149,36 +170,13 @@ module _ (g : Geometry) where
   pub keeps-promise : {F : Type 0} (seen : F → List ℕ) (may_leave : F → List ℕ → Type 0) (old new : F) (at n flushed : ℕ) (safe : List ℕ)
       → KeepsPromise seen may_leave g old flushed safe → Follows (SameBeside at n) (may_leave old) (may_leave new) → at_live ≤ at → at + n ≤ at_zones g
       → Apart at n at_flushed 8 → Apart at n (at_table g flushed) (8 * g.zones)
-      → SameZones g (seen old) (seen new) → length safe ≡ g.zones → AreWithin g (map entry_of safe)
+      → SamePlaces g (seen old) (seen new) → length safe ≡ g.zones → AreWithin g (map entry_of safe)
       → KeepsPromise seen may_leave g new flushed safe
   keeps-promise seen may_leave old new at n flushed safe was follows h before b d same count within bytes may =
       let (earlier, might, beside) = follows bytes may in
       let zones = promised-same earlier bytes safe (zones-beside g at n earlier bytes beside before) count within in
       rw (promised-same (seen old) (seen new) safe same count within)
       (promised-beside at n earlier bytes flushed safe (promised_zones g (seen old) safe) beside h b d zones (was earlier might))
-
-  -- An open finds what it might have found before.
-  pub leaves-by : {F : Type 0} (seen : F → List ℕ) (may_leave : F → List ℕ → Type 0) (old new : F) (flushed : ℕ) (safe : List ℕ) (found : List StoredZone)
-      → may_leave old (seen old) → IsPromised g flushed safe (promised_zones g (seen old) safe) (seen old)
-      → promised_zones g (seen new) safe ≡ promised_zones g (seen old) safe
-      → KeepsPromise seen may_leave g new flushed safe
-      → (bytes : List ℕ) × may_leave new bytes × (found ≡ flushed_zones g bytes)
-      → (bytes : List ℕ) × may_leave old bytes × (found ≡ flushed_zones g bytes)
-  leaves-by seen may_leave old new flushed safe found stays shown same keeps (bytes, may, is) = (
-    seen old,
-    stays,
-    is ∙ promised-found flushed safe (promised_zones g (seen new) safe) bytes (keeps bytes may)
-        ∙ same ∙ sym (promised-found flushed safe (promised_zones g (seen old) safe) (seen old) shown),
-  )
-
-  pub leaves-same : {F : Type 0} (seen : F → List ℕ) (may_leave : F → List ℕ → Type 0) (old new : F) (flushed : ℕ) (safe : List ℕ) (found : List StoredZone)
-      → may_leave old (seen old) → IsPromised g flushed safe (promised_zones g (seen old) safe) (seen old)
-      → SameZones g (seen old) (seen new) → length safe ≡ g.zones → AreWithin g (map entry_of safe)
-      → KeepsPromise seen may_leave g new flushed safe
-      → (bytes : List ℕ) × may_leave new bytes × (found ≡ flushed_zones g bytes)
-      → (bytes : List ℕ) × may_leave old bytes × (found ≡ flushed_zones g bytes)
-  leaves-same seen may_leave old new flushed safe found stays shown same count within keeps left =
-      leaves-by seen may_leave old new flushed safe found stays shown (promised-same (seen old) (seen new) safe same count within) keeps left
 
   -- ---- a zone's word is put in the live table
 
@@ -193,7 +191,7 @@ module _ (g : Geometry) where
     below : index < g.zones
     below = omega (arith, low, count)
 
-    pub put-same : SameZones g (seen old) (seen new)
+    pub put-same : SamePlaces g (seen old) (seen new)
     put-same = put-keeps (seen old) (seen new) live index (omega (arith, few)) below beside
 
     safe-count : length words.safe ≡ g.zones
@@ -207,10 +205,8 @@ module _ (g : Geometry) where
         (tables-apart g live flushed index (λ e. absurd (omega (arith, e, few, most.0))) below)
         put-same safe-count within
 
-    pub put-leaves : may_leave old (seen old) → (found : List StoredZone) → (bytes : List ℕ) × may_leave new bytes × (found ≡ flushed_zones g bytes)
-        → (bytes : List ℕ) × may_leave old bytes × (found ≡ flushed_zones g bytes)
-    put-leaves stays found =
-        leaves-same seen may_leave old new flushed words.safe found stays (served-promises (seen old) entries live flushed words was) put-same safe-count within put-promise
+    pub put-promises : promised_zones g (seen new) words.safe ≡ promised_zones g (seen old) words.safe
+    put-promises = promised-same (seen old) (seen new) words.safe put-same safe-count within
 
 module _ (g : Geometry) where
   -- ---- the words of the flushed table that is not picked are written
@@ -223,7 +219,7 @@ module _ (g : Geometry) where
     most : (2 ≤ flushed) × (flushed < 4)
     most = flushed-few g (seen old) flushed was.flushed_is
 
-    pub other-same : SameZones g (seen old) (seen new)
+    pub other-same : SamePlaces g (seen old) (seen new)
     other-same = zones-beside g (at_table g (other_table flushed)) (8 * g.zones) (seen old) (seen new) beside (zones-after g (other_table flushed) (omega (arith, most.0)))
 
     pub other-promise : KeepsPromise seen may_leave g new flushed words.safe
@@ -233,11 +229,8 @@ module _ (g : Geometry) where
         (whole-apart g (other_table flushed) flushed (λ e. absurd (omega (arith, e))))
         other-same (length-safe g (seen old) entries live flushed words was) within
 
-    pub other-leaves : may_leave old (seen old) → (found : List StoredZone) → (bytes : List ℕ) × may_leave new bytes × (found ≡ flushed_zones g bytes)
-        → (bytes : List ℕ) × may_leave old bytes × (found ≡ flushed_zones g bytes)
-    other-leaves stays found =
-        leaves-same g seen may_leave old new flushed words.safe found stays (served-promises g (seen old) entries live flushed words was)
-        other-same (length-safe g (seen old) entries live flushed words was) within other-promise
+    pub other-promises : promised_zones g (seen new) words.safe ≡ promised_zones g (seen old) words.safe
+    other-promises = promised-same g (seen old) (seen new) words.safe other-same (length-safe g (seen old) entries live flushed words was) within
 
     pub served-other : (other : List ℕ) → words_in (seen new) (at_table g (other_table flushed)) g.zones ≡ other → IsServed g boot (seen new) entries live flushed (record words { other = other })
     served-other other is =
@@ -269,7 +262,7 @@ module _ (g : Geometry) where
     little : live < 2
     little = live-few g (seen old) live was.live_is
 
-    pub spare-same : SameZones g (seen old) (seen new)
+    pub spare-same : SamePlaces g (seen old) (seen new)
     spare-same = zones-beside g (at_table g (spare_table live)) (8 * g.zones) (seen old) (seen new) beside (zones-after g (spare_table live) (omega arith))
 
     pub spare-promise : KeepsPromise seen may_leave g new flushed words.safe
@@ -279,11 +272,8 @@ module _ (g : Geometry) where
         (whole-apart g (spare_table live) flushed (λ e. absurd (omega (arith, e, bounds.0))))
         spare-same (length-safe g (seen old) entries live flushed words was) within
 
-    pub spare-leaves : may_leave old (seen old) → (found : List StoredZone) → (bytes : List ℕ) × may_leave new bytes × (found ≡ flushed_zones g bytes)
-        → (bytes : List ℕ) × may_leave old bytes × (found ≡ flushed_zones g bytes)
-    spare-leaves stays found =
-        leaves-same g seen may_leave old new flushed words.safe found stays (served-promises g (seen old) entries live flushed words was)
-        spare-same (length-safe g (seen old) entries live flushed words was) within spare-promise
+    pub spare-promises : promised_zones g (seen new) words.safe ≡ promised_zones g (seen old) words.safe
+    spare-promises = promised-same g (seen old) (seen new) words.safe spare-same (length-safe g (seen old) entries live flushed words was) within
 
     pub served-spare : (spare : List ℕ) → words_in (seen new) (at_table g (spare_table live)) g.zones ≡ spare → IsServed g boot (seen new) entries live flushed (record words { spare = spare })
     served-spare spare is =
@@ -308,7 +298,7 @@ module _ (g : Geometry) where
       (keeps : KeepsPromise seen may_leave g old flushed words.safe)
       (beside : SameBeside at_live 8 (seen old) (seen new))
       (follows : Follows (SameBeside at_live 8) (may_leave old) (may_leave new)) where
-    pub switch-same : SameZones g (seen old) (seen new)
+    pub switch-same : SamePlaces g (seen old) (seen new)
     switch-same = zones-beside g at_live 8 (seen old) (seen new) beside (omega arith)
 
     pub switch-promise : KeepsPromise seen may_leave g new flushed words.safe
@@ -316,11 +306,8 @@ module _ (g : Geometry) where
         keeps-promise g seen may_leave old new at_live 8 flushed words.safe keeps follows (omega arith) (omega arith) (inr (omega arith)) (inr (omega arith))
         switch-same (length-safe g (seen old) entries live flushed words was) within
 
-    pub switch-leaves : may_leave old (seen old) → (found : List StoredZone) → (bytes : List ℕ) × may_leave new bytes × (found ≡ flushed_zones g bytes)
-        → (bytes : List ℕ) × may_leave old bytes × (found ≡ flushed_zones g bytes)
-    switch-leaves stays found =
-        leaves-same g seen may_leave old new flushed words.safe found stays (served-promises g (seen old) entries live flushed words was)
-        switch-same (length-safe g (seen old) entries live flushed words was) within switch-promise
+    pub switch-promises : promised_zones g (seen new) words.safe ≡ promised_zones g (seen old) words.safe
+    switch-promises = promised-same g (seen old) (seen new) words.safe switch-same (length-safe g (seen old) entries live flushed words was) within
 
     pub served-switch : (next : List Entry) → words.spare ≡ map word_of next → word_in (seen new) at_live ≡ spare_table live
         → IsServed g boot (seen new) next (spare_table live) flushed (record words { spare = map word_of entries })
@@ -358,13 +345,20 @@ code-state ReadOnly = refl
 code-state Full = refl
 code-state Offline = refl
 
+second-is : (b : Bool) → eqb (one_if b) 1 ≡ b
+second-is true = refl
+second-is false = refl
+
 -- the word of a zone says what a restart leaves of it
-pub word-says : (entry : Entry) → entry.written < 2 ^ 32 → ((entry_of (word_of entry)).state ≡ restarted_state entry.state) × ((entry_of (word_of entry)).written ≡ entry.written)
+pub word-says : (entry : Entry) → entry.written < 2 ^ 32
+    → ((entry_of (word_of entry)).state ≡ restarted_state entry.state) × ((entry_of (word_of entry)).written ≡ entry.written) × ((entry_of (word_of entry)).second ≡ entry.second)
 word-says entry small =
     let code = table_code (restarted_state entry.state) in
-    let high : word_of entry / 2 ^ 32 ≡ code = omega (arith, small) in
-    let low : word_of entry % 2 ^ 32 ≡ entry.written = omega (arith, small) in
-    (ap state_from high ∙ code-state (restarted_state entry.state), low)
+    let few = one-few entry.second in
+    let high : word_of entry / 2 ^ 33 ≡ code = omega (arith, small, few) in
+    let low : word_of entry % 2 ^ 32 ≡ entry.written = omega (arith, small, few) in
+    let middle : word_of entry / 2 ^ 32 % 2 ≡ one_if entry.second = omega (arith, small, few) in
+    (ap state_from high ∙ code-state (restarted_state entry.state), low, ap (λ (n : ℕ). eqb n 1) middle ∙ second-is entry.second)
 
 -- zones as the words say are those that a restart leaves
 pub words-say : (g : Geometry) (file : List ℕ) (number : ℕ) (entries : List Entry) → g.capacity < 2 ^ 32 → AreWithin g entries
@@ -372,7 +366,7 @@ pub words-say : (g : Geometry) (file : List ℕ) (number : ℕ) (entries : List 
 words-say g file number [] small within = refl
 words-say g file number (entry ∷ entries) small within =
     let says = word-says entry (omega (arith, small, within.0)) in
-    rw (says.0, says.1, words-say g file (number + 1) entries small within.1) refl
+    rw (says.0, says.1, says.2, words-say g file (number + 1) entries small within.1) refl
 
 pub words-within : (g : Geometry) (entries : List Entry) → g.capacity < 2 ^ 32 → AreWithin g entries → AreWithin g (map entry_of (map word_of entries))
 words-within g [] small within = tt
@@ -384,7 +378,7 @@ words-within g (entry ∷ entries) small within =
 word-again : (entry : Entry) → entry.written < 2 ^ 32 → word_of (entry_of (word_of entry)) ≡ word_of entry
 word-again entry small =
     let says = word-says entry small in
-    rw (says.0, says.1, restarted-twice entry.state) refl
+    rw (says.0, says.1, says.2, restarted-twice entry.state) refl
 
 words-again : (g : Geometry) (entries : List Entry) → g.capacity < 2 ^ 32 → AreWithin g entries → map word_of (map entry_of (map word_of entries)) ≡ map word_of entries
 words-again g [] small within = refl
@@ -409,7 +403,7 @@ module _ (g : Geometry) {boot : Boot} (old new : List ℕ) (entries : List Entry
   table-kept : (table : ℕ) → words_in new (at_table g table) g.zones ≡ words_in old (at_table g table) g.zones
   table-kept table = words-beside at_flushed 8 (at_table g table) g.zones old new beside (inr (omega arith))
 
-  pub pick-same : SameZones g old new
+  pub pick-same : SamePlaces g old new
   pick-same = zones-beside g at_flushed 8 old new beside (omega arith)
 
   -- An open finds what was promised, or the zones that are there.
@@ -439,21 +433,24 @@ module _ (g : Geometry) {F : Type 0} {boot : Boot} (seen : F → List ℕ) (may_
     (was : IsServed g boot (seen old) entries live flushed words) (count : length entries ≡ g.zones) (within : AreWithin g entries) (safe : AreWithin g (map entry_of words.safe))
     (small : g.capacity < 2 ^ 32) (now : words.other ≡ map word_of entries)
     (beside : SameBeside at_flushed 8 (seen old) (seen new)) where
-  -- an open finds what it might have found before, or the zones that are there
-  pub pick-leaves : Only (seen old) (may_leave old) → may_leave old (seen old) → Follows (SameBeside at_flushed 8) (may_leave old) (may_leave new)
-      → (found : List StoredZone) → (bytes : List ℕ) × may_leave new bytes × (found ≡ flushed_zones g bytes)
-      → ((bytes : List ℕ) × may_leave old bytes × (found ≡ flushed_zones g bytes)) ⊎ (found ≡ map restarted_stored (zones_in g (seen old) 0 entries))
-  pick-leaves synced stays follows found (bytes, may, is) =
+  -- the words of the other table say the zones that are there
+  pub other-now : promised_zones g (seen old) words.other ≡ map restarted_stored (zones_in g (seen old) 0 entries)
+  other-now = rw now (words-say g (seen old) 0 entries small within)
+
+  -- an open finds what was promised, or the zones that are there
+  pub pick-left : Only (seen old) (may_leave old) → Follows (SameBeside at_flushed 8) (may_leave old) (may_leave new) → (bytes : List ℕ) → may_leave new bytes
+      → (flushed_zones g bytes ≡ promised_zones g (seen old) words.safe) ⊎ (flushed_zones g bytes ≡ promised_zones g (seen old) words.other)
+  pick-left synced follows bytes may =
       let (earlier, might, torn) = follows bytes may in
       let torn' : SameBeside at_flushed 8 (seen old) bytes = rw (synced earlier might) at torn in
       elim (pick-finds g (seen old) bytes entries live flushed words was torn' now small count within safe) [
-        | inl promised ↦ inl (seen old, stays, is ∙ promised ∙ sym (promised-found g flushed words.safe (promised_zones g (seen old) words.safe) (seen old) (served-promises g (seen old) entries live flushed words was)))
-        | inr there ↦ inr (is ∙ there)
+        | inl promised ↦ inl promised
+        | inr there ↦ inr (there ∙ sym other-now)
       ]
 
   -- whatever a loss of power leaves can be opened
   pub pick-opens : Only (seen old) (may_leave old) → Follows (SameBeside at_flushed 8) (may_leave old) (may_leave new) → AreWords g words.safe
-      → AllCanOpen may_leave g new
+      → (bytes : List ℕ) → may_leave new bytes → CanOpen g bytes
   pick-opens synced follows safe-words bytes may =
       let (earlier, might, torn) = follows bytes may in
       let torn' : SameBeside at_flushed 8 (seen old) bytes = rw (synced earlier might) at torn in
@@ -481,15 +478,52 @@ module _ (g : Geometry) {F : Type 0} {boot : Boot} (seen : F → List ℕ) (may_
         other_words = rw back (words-beside at_flushed 8 (at_table g flushed) g.zones (seen old) (seen new) beside (inr (omega arith)) ∙ was.safe_words);
       }
 
-  -- then an open finds the zones that are there
-  pub picked-finds : word_in (seen new) at_flushed ≡ other_table flushed - 2 → flushed_zones g (seen new) ≡ map restarted_stored (zones_in g (seen old) 0 entries)
-  picked-finds is =
-      let next = picked-served is in
-      rw (next.flushed_is, next.safe_words, now)
-      (words-say g (seen new) 0 entries small within ∙ ap (map restarted_stored) (zones-kept g (seen old) (seen new) 0 entries (pick-same g (seen old) (seen new) entries live flushed words was beside) (omega (arith, count)) within))
+  -- the table that is picked says the same zones
+  other-later : promised_zones g (seen new) words.other ≡ map restarted_stored (zones_in g (seen old) 0 entries)
+  other-later =
+      rw now (words-say g (seen new) 0 entries small within
+      ∙ ap (map restarted_stored) (zones-kept g (seen old) (seen new) 0 entries (pick-same g (seen old) (seen new) entries live flushed words was beside) (omega (arith, count)) within))
+
+  safe-later : promised_zones g (seen new) words.safe ≡ promised_zones g (seen old) words.safe
+  safe-later =
+      promised-same g (seen old) (seen new) words.safe (pick-same g (seen old) (seen new) entries live flushed words was beside) (length-safe g (seen old) entries live flushed words was) safe
+
+  -- an open finds one of the two, whichever is picked
+  pub pick-either : Only (seen old) (may_leave old) → Follows (SameBeside at_flushed 8) (may_leave old) (may_leave new) → (bytes : List ℕ) → may_leave new bytes
+      → Contains (durable_zones g (seen old) words.safe words.other true) (flushed_zones g bytes)
+  pick-either synced follows bytes may =
+      contains-two (promised_zones g (seen old) words.safe) (promised_zones g (seen old) words.other) (flushed_zones g bytes) (pick-left synced follows bytes may)
+
+  pub picked-either : Only (seen old) (may_leave old) → Follows (SameBeside at_flushed 8) (may_leave old) (may_leave new) → (bytes : List ℕ) → may_leave new bytes
+      → Contains (durable_zones g (seen new) words.other words.safe true) (flushed_zones g bytes)
+  picked-either synced follows bytes may =
+      contains-two (promised_zones g (seen new) words.other) (promised_zones g (seen new) words.safe) (flushed_zones g bytes) (elim (pick-left synced follows bytes may) [
+        | inl last ↦ inr (last ∙ sym safe-later)
+        | inr there ↦ inl (there ∙ other-now ∙ sym other-later)
+      ])
+
+  -- what is durable then was durable before, or is the zones that are there
+  pub pick-or-now : (unsure : Bool) (found : List StoredZone) → Contains (durable_zones g (seen old) words.safe words.other true) found
+      → Contains (durable_zones g (seen old) words.safe words.other unsure) found ⊎ (found ≡ map restarted_stored (zones_in g (seen old) 0 entries))
+  pick-or-now unsure found left = elim (of-two (promised_zones g (seen old) words.safe) (promised_zones g (seen old) words.other) found left) [
+    | inl last ↦ inl (contains-first (promised_zones g (seen old) words.safe) found _ last)
+    | inr there ↦ inr (there ∙ other-now)
+  ]
+
+  pub picked-or-now : (unsure : Bool) (found : List StoredZone) → Contains (durable_zones g (seen new) words.other words.safe true) found
+      → Contains (durable_zones g (seen old) words.safe words.other unsure) found ⊎ (found ≡ map restarted_stored (zones_in g (seen old) 0 entries))
+  picked-or-now unsure found left = elim (of-two (promised_zones g (seen new) words.other) (promised_zones g (seen new) words.safe) found left) [
+    | inl there ↦ inr (there ∙ other-later)
+    | inr last ↦ inl (contains-first (promised_zones g (seen old) words.safe) found _ (last ∙ safe-later))
+  ]
+
+  -- where the flush is done these zones alone are durable
+  pub picked-just : (unsure : Bool) → unsure ≡ false → (found : List StoredZone) → Contains (durable_zones g (seen new) words.other words.safe unsure) found
+      → found ≡ map restarted_stored (zones_in g (seen old) 0 entries)
+  picked-just unsure certain found left = of-one (promised_zones g (seen new) words.other) found (subst (λ (b : Bool). Contains (durable_zones g (seen new) words.other words.safe b) found) certain left) ∙ other-later
 
 -- the zones after a change that keeps all blocks
-pub filed-same : {F : Type 0} (seen : F → List ℕ) (old new : FiledZones F) → new.shape ≡ old.shape → new.entries ≡ old.entries → SameZones old.shape (seen old.file) (seen new.file)
+pub filed-same : {F : Type 0} (seen : F → List ℕ) (old new : FiledZones F) → new.shape ≡ old.shape → new.entries ≡ old.entries → SamePlaces old.shape (seen old.file) (seen new.file)
     → length old.entries ≡ old.shape.zones → AreWithin old.shape old.entries → filed seen new ≡ filed seen old
 filed-same seen old new shape entries same count within =
     rw (shape, entries) (zones-kept old.shape (seen old.file) (seen new.file) 0 old.entries same (omega (arith, count)) within)
@@ -497,10 +531,11 @@ filed-same seen old new shape entries same count within =
 -- ---- a zone that is closed
 
 -- a Close keeps the word of a zone
-pub close-word : (entry : Entry) → word_of (acted Close entry) ≡ word_of entry
-close-word entry = by entry.state
+pub close-word : (last entry : Entry) → word_of (acted Close last entry) ≡ word_of entry
+close-word last entry = by entry.state
   where
-    by : (state : ZoneState) → word_of (acted Close (record { state = state; written = entry.written })) ≡ word_of (record { state = state; written = entry.written })
+    by : (state : ZoneState) → word_of (acted Close last (record { state = state; written = entry.written; second = entry.second }))
+        ≡ word_of (record { state = state; written = entry.written; second = entry.second })
     by Empty = refl
     by ImplicitlyOpened = refl
     by ExplicitlyOpened = refl
@@ -510,12 +545,12 @@ close-word entry = by entry.state
     by Offline = refl
 
 -- so the file is served as before
-pub served-closed : (g : Geometry) {boot : Boot} (file : List ℕ) (entries : List Entry) (live flushed : ℕ) (words : Words) (index : ℕ) (d : Entry) → IsServed g boot file entries live flushed words
-    → IsServed g boot file (set entries index (acted Close (get_or entries index d))) live flushed words
-served-closed g file entries live flushed words index d was =
-    let same : map word_of (set entries index (acted Close (get_or entries index d))) ≡ map word_of entries =
-    map-set word_of entries index (acted Close (get_or entries index d))
-    ∙ ap (set (map word_of entries) index) (close-word (get_or entries index d))
+pub served-closed : (g : Geometry) {boot : Boot} (file : List ℕ) (entries : List Entry) (live flushed : ℕ) (words : Words) (index : ℕ) (d last : Entry) → IsServed g boot file entries live flushed words
+    → IsServed g boot file (set entries index (acted Close last (get_or entries index d))) live flushed words
+served-closed g file entries live flushed words index d last was =
+    let same : map word_of (set entries index (acted Close last (get_or entries index d))) ≡ map word_of entries =
+    map-set word_of entries index (acted Close last (get_or entries index d))
+    ∙ ap (set (map word_of entries) index) (close-word last (get_or entries index d))
     ∙ sym (map-set word_of entries index (get_or entries index d))
     ∙ ap (map word_of) (set-get_or entries index d) in
     record {
@@ -530,11 +565,22 @@ served-closed g file entries live flushed words index d was =
       other_words = was.other_words;
     }
 
--- entries after an action on all of them
-pub within-sent : (g : Geometry) (action : Action) (entries : List Entry) → ((entry : Entry) → entry.written ≤ g.capacity → (sent_entry action entry).written ≤ g.capacity) → AreWithin g entries → AreWithin g (map (sent_entry action) entries)
-within-sent g action [] keeps within = tt
-within-sent g action (entry ∷ entries) keeps within = (keeps entry within.0, within-sent g action entries keeps within.1)
+-- ---- what is durable
 
-pub map-both : (f : Entry → Entry) (entries : List Entry) → map (λ (entry : Entry). word_of (f entry)) entries ≡ map word_of (map f entries)
-map-both f [] = refl
-map-both f (entry ∷ entries) = ap (λ (words : List ℕ). word_of (f entry) ∷ words) (map-both f entries)
+-- what the last flush promised is durable, if no flush failed while it picked its table
+pub promised-durable : (g : Geometry) {F : Type 0} (seen : F → List ℕ) (may_leave : F → List ℕ → Type 0) (file : F) (flushed : ℕ) (safe other : List ℕ) (unsure : Bool) → AreWords g safe
+    → KeepsPromise seen may_leave g file flushed safe → AllDurable may_leave g file (durable_zones g (seen file) safe other unsure)
+promised-durable g seen may_leave file flushed safe other unsure words keeps bytes may = (
+  promised-opens g seen may_leave file flushed safe words keeps bytes may,
+  (0, omega arith, sym (promised-found g flushed safe (promised_zones g (seen file) safe) bytes (keeps bytes may))),
+)
+
+-- it is the same of the same words in the same file
+pub durable-by : (g : Geometry) (file file' safe safe' other other' : List ℕ) (unsure : Bool) → file ≡ file' → safe ≡ safe' → other ≡ other'
+    → durable_zones g file safe other unsure ≡ durable_zones g file' safe' other' unsure
+durable-by g file file' safe safe' other other' unsure a b c i = durable_zones g (a i) (b i) (c i) unsure
+
+-- it is the same where the last flush has the same blocks
+pub durable-same : (g : Geometry) (old new safe other after : List ℕ) (unsure : Bool) → unsure ≡ false → promised_zones g new safe ≡ promised_zones g old safe
+    → durable_zones g new safe after unsure ≡ durable_zones g old safe other unsure
+durable-same g old new safe other after unsure certain same = rw (certain, same) refl

@@ -1,5 +1,5 @@
 -- The zones that are stored in a file, zone by zone.
-use Rattle.std.proofs.Common.{◌≡◌, ◌≢◌, ◌⊎◌, ℕ, zero, suc, ◌+◌, ◌*◌, ◌/◌, ◌<◌, ◌≤◌, ◌++◌, Bool, true, false, cond, not, List, [], ◌∷◌, length, map, set, get_or, take, drop, count_by, None, Result, Ok, Err, refl, sym, ap, ◌∙◌, inl, inr, arith}
+use Rattle.std.proofs.Common.{◌≡◌, ◌≢◌, ◌⊎◌, ℕ, zero, suc, ◌+◌, ◌*◌, ◌/◌, ◌<◌, ◌≤◌, ◌++◌, Bool, true, false, cond, not, List, [], ◌∷◌, length, map, set, get_or, take, drop, count_by, None, Some, Result, Ok, Err, refl, sym, ap, ◌∙◌, inl, inr, arith}
 use Rattle.std.specs.List.{position, position_or_len}
 use Rattle.std.proofs.Math.Seq.{take-add}
 use Rattle.std.proofs.Math.Nat.{mul-div_cancel}
@@ -21,15 +21,18 @@ use Rattle.zone_drive.specs.Table.{sent_in, sent_stored, stored_at}
 use Rattle.drive_port.specs.Step.{is_selected}
 use Rattle.zone_drive.proofs.CountLaws.{count-cons}
 use Rattle.zone_drive.proofs.WriteLaws.{all-passed, whole-checked}
-use Rattle.file_drive.specs.Layout.{SameZones, at_zone, file_length, part}
-use Rattle.file_drive.specs.Tables.{acted, appended, entry_after, sent_entry, zone_in, zones_in}
+use Rattle.file_drive.specs.Layout.{SamePlaces, at_place, file_length, part}
+use Rattle.file_drive.specs.Tables.{acted, appended, entry_after, entry_of, next_entries, place_of, zone_in, zones_in}
 use Rattle.file_drive.specs.InFile.{AreWithin, FiledZones, KeepsOthers, entry_at, filed}
 use Rattle.file_drive.specs.declared.entry.Entry.{Entry}
-use Rattle.file_drive.proofs.PlaceLaws.{zone-ends}
+use Rattle.file_drive.proofs.PlaceLaws.{place-low, places-apart, zone-ends}
 use Rattle.file_drive.proofs.DataLaws.{within-at, zones-by-parts}
 use Rattle.file_drive.proofs.ServedLaws.{zones-kept}
 
 -- ---- lists
+
+abbrev pub no_entry : Entry
+no_entry = record { state = Offline; written = 0; second = false }
 
 pub length-zones : (g : Geometry) (file : List ℕ) (number : ℕ) (entries : List Entry) → length (zones_in g file number entries) ≡ length entries
 length-zones g file number [] = refl
@@ -62,11 +65,12 @@ zones-count g file number (entry ∷ entries) counts =
 
 -- ---- parts
 
-pub length-written : (g : Geometry) (file : List ℕ) (number written : ℕ) → length file ≡ file_length g → number < g.zones → written ≤ g.capacity
-    → length (part file (at_zone g number) (written * g.block)) ≡ written * g.block
-length-written g file number written long low few =
-    let end = zone-ends g number g.zones written low few in
-    length-take-le (written * g.block) (drop (at_zone g number) file) (omega (arith, length-drop (at_zone g number) file, end, long))
+pub length-written : (g : Geometry) (file : List ℕ) (number : ℕ) (entry : Entry) → length file ≡ file_length g → number < g.zones → entry.written ≤ g.capacity
+    → length (part file (at_place g (place_of number entry)) (entry.written * g.block)) ≡ entry.written * g.block
+length-written g file number entry long low few =
+    let place = place_of number entry in
+    let end = zone-ends g place (2 * g.zones) entry.written (place-low number g.zones entry low) few in
+    length-take-le (entry.written * g.block) (drop (at_place g place) file) (omega (arith, length-drop (at_place g place) file, end, long))
 
 part-nil : (file : List ℕ) (at : ℕ) → part file at 0 ≡ []
 part-nil file at = refl
@@ -77,26 +81,26 @@ part-join file at a b =
     take-add a b (drop at file) ∙ ap (λ (xs : List ℕ). part file at a ++ take b xs) (drop-drop a at file ∙ ap (λ (n : ℕ). drop n file) (omega arith))
 
 -- zones after a change of one of them past its blocks
-pub others-kept : (g : Geometry) (old new : List ℕ) (entries : List Entry) (index : ℕ) → KeepsOthers g index (entry_at entries index).written old new
+pub others-kept : (g : Geometry) (old new : List ℕ) (entries : List Entry) (index : ℕ) → KeepsOthers g (place_of index (entry_at entries index)) (entry_at entries index).written old new
     → length entries ≡ g.zones → AreWithin g entries → index < length entries → zones_in g new 0 entries ≡ zones_in g old 0 entries
 others-kept g old new entries index keeps count within low = zones-by-parts g old new 0 entries (λ i d less.
     let here : 0 + i ≡ i = omega arith in
-    let other : (i ≢ index) ⊎ ((get_or entries i d).written ≤ (entry_at entries index).written) = elim (cases_eq i index) [
-      | inl is ↦ inr (rw is (omega (arith, ap (λ (e : Entry). e.written) (get_or_default entries index d (record { state = Offline; written = 0 }) low))))
-      | inr away ↦ inl away
+    let other : (place_of i (get_or entries i d) ≢ place_of index (entry_at entries index)) ⊎ ((get_or entries i d).written ≤ (entry_at entries index).written) = elim (cases_eq i index) [
+      | inl is ↦ inr (rw is (omega (arith, ap (λ (e : Entry). e.written) (get_or_default entries index d no_entry low))))
+      | inr away ↦ inl (places-apart i index (get_or entries i d) (entry_at entries index) away)
     ] in
-    rw here (keeps i (get_or entries i d).written (omega (arith, less, count)) (within-at g entries i d within less) other))
+    rw here (keeps (place_of i (get_or entries i d)) (get_or entries i d).written (place-low i g.zones (get_or entries i d) (omega (arith, less, count))) (within-at g entries i d within less) other))
 
 -- ---- an append
 
 module _ (g : Geometry) (old middle new : List ℕ) (entries : List Entry) (index : ℕ) (bytes : List ℕ) (blocks : ℕ)
     (count : length entries ≡ g.zones) (within : AreWithin g entries) (low : index < length entries) (long : length old ≡ file_length g) (some : 1 ≤ g.block)
     (whole : length bytes ≡ blocks * g.block) (room : (entry_at entries index).written + blocks ≤ g.capacity)
-    (keeps : KeepsOthers g index (entry_at entries index).written old middle)
-    (put : part middle (at_zone g index + (entry_at entries index).written * g.block) (length bytes) ≡ bytes)
-    (same : SameZones g middle new) where
-  abbrev none : Entry
-  none = record { state = Offline; written = 0 }
+    (keeps : KeepsOthers g (place_of index (entry_at entries index)) (entry_at entries index).written old middle)
+    (put : part middle (at_place g (place_of index (entry_at entries index)) + (entry_at entries index).written * g.block) (length bytes) ≡ bytes)
+    (same : SamePlaces g middle new) where
+  abbrev place : ℕ
+  place = place_of index (entry_at entries index)
 
   abbrev first : ℕ
   first = (entry_at entries index).written
@@ -104,52 +108,55 @@ module _ (g : Geometry) (old middle new : List ℕ) (entries : List Entry) (inde
   below : index < g.zones
   below = omega (arith, low, count)
 
+  here : place < 2 * g.zones
+  here = place-low index g.zones (entry_at entries index) below
+
   append-others : zones_in g new 0 entries ≡ zones_in g old 0 entries
   append-others = zones-kept g middle new 0 entries same (omega (arith, count)) within ∙ others-kept g old middle entries index keeps count within low
 
-  append-bytes : part new (at_zone g index) ((first + blocks) * g.block) ≡ part old (at_zone g index) (first * g.block) ++ bytes
+  append-bytes : part new (at_place g place) ((first + blocks) * g.block) ≡ part old (at_place g place) (first * g.block) ++ bytes
   append-bytes =
       let spread : (first + blocks) * g.block ≡ first * g.block + length bytes = omega (arith, whole) in
-      same index (first + blocks) below room
-      ∙ ap (part middle (at_zone g index)) spread
-      ∙ part-join middle (at_zone g index) (first * g.block) (length bytes)
-      ∙ rw (keeps index first below (omega (arith, room)) (inr (omega arith)), put) refl
+      same place (first + blocks) here room
+      ∙ ap (part middle (at_place g place)) spread
+      ∙ part-join middle (at_place g place) (first * g.block) (length bytes)
+      ∙ rw (keeps place first here (omega (arith, room)) (inr (omega arith)), put) refl
 
-  append-count : length (part old (at_zone g index) (first * g.block) ++ bytes) / g.block ≡ first + blocks
+  append-count : length (part old (at_place g place) (first * g.block) ++ bytes) / g.block ≡ first + blocks
   append-count =
-      let a = length-written g old index first long below (omega (arith, room)) in
-      let all : length (part old (at_zone g index) (first * g.block) ++ bytes) ≡ (first + blocks) * g.block =
-      omega (arith, length-append (part old (at_zone g index) (first * g.block)) bytes, a, whole) in
+      let a = length-written g old index (entry_at entries index) long below (omega (arith, room)) in
+      let all : length (part old (at_place g place) (first * g.block) ++ bytes) ≡ (first + blocks) * g.block =
+      omega (arith, length-append (part old (at_place g place) (first * g.block)) bytes, a, whole) in
       ap (λ (n : ℕ). n / g.block) all ∙ mul-div_cancel (first + blocks) {n = g.block} (omega (arith, some))
 
   pub append-stored : zones_in g new 0 (set entries index (appended g (entry_at entries index) blocks))
       ≡ set (zones_in g old 0 entries) index (stored_write g (stored_at (zones_in g old 0 entries) index) bytes)
   append-stored =
-      let here : 0 + index ≡ index = omega arith in
+      let zeroth : 0 + index ≡ index = omega arith in
       zones-set g new 0 entries index (appended g (entry_at entries index) blocks)
-      ∙ rw (append-others, zones-at g old 0 entries index (record { state = Offline; bytes = [] }) none low, here, append-bytes, append-count) refl
+      ∙ rw (append-others, zones-at g old 0 entries index (record { state = Offline; bytes = [] }) no_entry low, zeroth, append-bytes, append-count) refl
 
 -- ---- an action
 
 -- what an action leaves of a zone in a file
-pub acted-stored : (g : Geometry) (file : List ℕ) (number : ℕ) (action : Action) (entry : Entry)
-    → zone_in g file number (acted action entry) ≡ stored_after action (zone_in g file number entry) (state_after entry.state action)
-acted-stored g file number action entry = after (state_after entry.state action) action
+pub acted-stored : (g : Geometry) (file : List ℕ) (number : ℕ) (action : Action) (last entry : Entry)
+    → zone_in g file number (acted action last entry) ≡ stored_after action (zone_in g file number entry) (state_after entry.state action)
+acted-stored g file number action last entry = after (state_after entry.state action) action
   where
-    after : (next : Result ZoneState Status) (action : Action) → zone_in g file number (entry_after action entry next) ≡ stored_after action (zone_in g file number entry) next
+    after : (next : Result ZoneState Status) (action : Action) → zone_in g file number (entry_after action last entry next) ≡ stored_after action (zone_in g file number entry) next
     after (Err status) action = refl
     after (Ok state) actions.Reset =
         let none : 0 * g.block ≡ 0 = omega arith in
-        ap (λ (n : ℕ). record { state = state; bytes = part file (at_zone g number) n }) none
+        ap (λ (n : ℕ). record { state = state; bytes = part file (at_place g (place_of number (entry_after actions.Reset last entry (Ok state)))) n }) none
     after (Ok state) actions.Open = refl
     after (Ok state) actions.Close = refl
     after (Ok state) actions.Finish = refl
     after (Ok state) actions.Offline = refl
 
-pub acted-few : (g : Geometry) (action : Action) (entry : Entry) → entry.written ≤ g.capacity → (acted action entry).written ≤ g.capacity
-acted-few g action entry few = after (state_after entry.state action) action
+pub acted-few : (g : Geometry) (action : Action) (last entry : Entry) → entry.written ≤ g.capacity → (acted action last entry).written ≤ g.capacity
+acted-few g action last entry few = after (state_after entry.state action) action
   where
-    after : (next : Result ZoneState Status) (action : Action) → (entry_after action entry next).written ≤ g.capacity
+    after : (next : Result ZoneState Status) (action : Action) → (entry_after action last entry next).written ≤ g.capacity
     after (Err status) action = few
     after (Ok state) actions.Reset = omega arith
     after (Ok state) actions.Open = few
@@ -158,17 +165,18 @@ acted-few g action entry few = after (state_after entry.state action) action
     after (Ok state) actions.Offline = few
 
 -- one zone
-pub sent-stored-in : (g : Geometry) (old new : List ℕ) (entries : List Entry) (index : ℕ) (action : Action) → SameZones g old new → length entries ≡ g.zones → AreWithin g entries → index < length entries
-    → zones_in g new 0 (set entries index (acted action (entry_at entries index))) ≡ sent_in (zones_in g old 0 entries) index action
-sent-stored-in g old new entries index action same count within low =
+pub sent-stored-in : (g : Geometry) (old new : List ℕ) (entries : List Entry) (index : ℕ) (action : Action) (last : Entry) → SamePlaces g old new → length entries ≡ g.zones → AreWithin g entries → index < length entries
+    → zones_in g new 0 (set entries index (acted action last (entry_at entries index))) ≡ sent_in (zones_in g old 0 entries) index action
+sent-stored-in g old new entries index action last same count within low =
     let here : 0 + index ≡ index = omega arith in
     let entry = entry_at entries index in
-    let at = zones-at g old 0 entries index (record { state = Offline; bytes = [] }) (record { state = Offline; written = 0 }) low in
-    let few : (acted action entry).written ≤ g.capacity = acted-few g action entry (within-at g entries index (record { state = Offline; written = 0 }) within low) in
-    let moved : zone_in g new index (acted action entry) ≡ zone_in g old index (acted action entry) =
-    ap (λ (bytes : List ℕ). record { state = (acted action entry).state; bytes = bytes }) (same index (acted action entry).written (omega (arith, low, count)) few) in
-    zones-set g new 0 entries index (acted action entry)
-    ∙ rw (zones-kept g old new 0 entries same (omega (arith, count)) within, at, here, moved, acted-stored g old index action entry) refl
+    let next = acted action last entry in
+    let at = zones-at g old 0 entries index (record { state = Offline; bytes = [] }) no_entry low in
+    let few : next.written ≤ g.capacity = acted-few g action last entry (within-at g entries index no_entry within low) in
+    let moved : zone_in g new index next ≡ zone_in g old index next =
+    ap (λ (bytes : List ℕ). record { state = next.state; bytes = bytes }) (same (place_of index next) next.written (place-low index g.zones next (omega (arith, low, count))) few) in
+    zones-set g new 0 entries index next
+    ∙ rw (zones-kept g old new 0 entries same (omega (arith, count)) within, at, here, moved, acted-stored g old index action last entry) refl
 
 -- the first one in a state
 zones-prefix : (g : Geometry) (file : List ℕ) (number : ℕ) (entries : List Entry) (is : ZoneState → Bool)
@@ -181,28 +189,20 @@ pub zones-position : (g : Geometry) (file : List ℕ) (number : ℕ) (entries : 
 zones-position g file number entries is = rw (zones-prefix g file number entries is, length-zones g file number entries) refl
 
 -- all zones
-pub all-sent : (g : Geometry) (file : List ℕ) (number : ℕ) (action : Action) (entries : List Entry)
-    → zones_in g file number (map (sent_entry action) entries) ≡ map (sent_stored action) (zones_in g file number entries)
-all-sent g file number action [] = refl
-all-sent g file number action (entry ∷ entries) =
-    rw (one (is_selected action entry.state), all-sent g file (number + 1) action entries) refl
+pub all-sent : (g : Geometry) (file : List ℕ) (number : ℕ) (action : Action) (words : List ℕ) (entries : List Entry) → length words ≡ length entries
+    → zones_in g file number (next_entries (Some action) words entries) ≡ map (sent_stored action) (zones_in g file number entries)
+all-sent g file number action [] [] same = refl
+all-sent g file number action [] (entry ∷ entries) same = absurd (omega (arith, same))
+all-sent g file number action (word ∷ words) [] same = refl
+all-sent g file number action (word ∷ words) (entry ∷ entries) same =
+    rw (one (is_selected action entry.state), all-sent g file (number + 1) action words entries (omega (arith, same))) refl
   where
-    one : (selected : Bool) → zone_in g file number (cond selected (acted action entry) entry)
+    one : (selected : Bool) → zone_in g file number (cond selected (acted action (entry_of word) entry) entry)
         ≡ cond selected (stored_after action (zone_in g file number entry) (state_after entry.state action)) (zone_in g file number entry)
-    one true = acted-stored g file number action entry
+    one true = acted-stored g file number action (entry_of word) entry
     one false = refl
 
-pub sent-few : (g : Geometry) (action : Action) (entry : Entry) → entry.written ≤ g.capacity → (sent_entry action entry).written ≤ g.capacity
-sent-few g action entry few = by (is_selected action entry.state)
-  where
-    by : (selected : Bool) → (cond selected (acted action entry) entry).written ≤ g.capacity
-    by true = acted-few g action entry few
-    by false = few
-
 -- ---- what a call asks
-
-abbrev pub no_entry : Entry
-no_entry = record { state = Offline; written = 0 }
 
 -- an index of the zones is one of the entries
 pub filed-low : {F : Type 0} (seen : F → List ℕ) (zones : FiledZones F) (index : ℕ) → index < length (filed seen zones) → index < length zones.entries
@@ -221,7 +221,7 @@ append-fits g file entries index bytes long count within low some checks =
     let here : 0 + index ≡ index = omega arith in
     let is : zone ≡ zone_in g file index (entry_at entries index) = zones-at g file 0 entries index (record { state = Offline; bytes = [] }) no_entry low ∙ ap (λ (n : ℕ). zone_in g file n (entry_at entries index)) here in
     let few = within-at g entries index no_entry within low in
-    let written = length-written g file index (entry_at entries index).written long (omega (arith, low, count)) few in
+    let written = length-written g file index (entry_at entries index) long (omega (arith, low, count)) few in
     let blocks : length (zone_stored g.block zone).blocks ≡ (entry_at entries index).written =
     length-cut g.block (length zone.bytes / g.block) zone.bytes
     ∙ ap (λ (z : StoredZone). length z.bytes / g.block) is
@@ -247,4 +247,4 @@ pub stored-length : (g : Geometry) (file : List ℕ) (entries : List Entry) (ind
     → length (stored_at (zones_in g file 0 entries) index).bytes ≡ (entry_at entries index).written * g.block
 stored-length g file entries index long count within low =
     ap (λ (zone : StoredZone). length zone.bytes) (stored-is g file entries index low)
-    ∙ length-written g file index (entry_at entries index).written long (omega (arith, low, count)) (within-at g entries index no_entry within low)
+    ∙ length-written g file index (entry_at entries index) long (omega (arith, low, count)) (within-at g entries index no_entry within low)

@@ -4,7 +4,7 @@ use Rattle.zone_states.specs.declared.geometry.Geometry.{Geometry}
 use Rattle.zone_states.specs.Checks.{first_failing}
 use Rattle.zone_states.specs.Geometry.{IsInRange, geometry_checks}
 use Rattle.file_drive.specs.Head.{magic, shape_words}
-use Rattle.file_drive.specs.InFile.{entry_at}
+use Rattle.file_drive.specs.InFile.{IsApart, entry_at}
 use Rattle.file_drive.specs.Layout.{at_table, file_length, word_in}
 use Rattle.file_drive.specs.Opening.{AreFew, Holds, IsWord, opened_table}
 use Rattle.file_drive.specs.Tables.{entry_of, flushed_table, words_in}
@@ -81,12 +81,18 @@ IsTableFault geometry words faults.Limits = ¬ AreFew geometry (map entry_of wor
 IsTableFault geometry words faults.OutOfMemory = ⊤
 IsTableFault geometry words fault = ⊥
 
--- the same of the table of the last flush, or of the one that counts
+-- a zone that is in the place where the last flush has more blocks of it
+abbrev pub IsApartFault : List ℕ → List Entry → OpenFault → Type 0
+IsApartFault words entries (faults.Table number) = (number < length entries) × ¬ IsApart words entries number
+IsApartFault words entries fault = ⊥
+
+-- what is wrong with the table of the last flush, with the one that counts, or with both together
 abbrev pub AreTableFaults : Boot → List ℕ → OpenFault → Type 0
 AreTableFaults boot file fault =
     (geometry : Geometry) × (words_in file 0 8 ≡ shape_words geometry)
-    × (IsTableFault geometry (words_in file (at_table geometry (flushed_table file)) geometry.zones) fault
-    ⊎ IsTableFault geometry (words_in file (at_table geometry (opened_table boot file)) geometry.zones) fault)
+    × (let flushed = words_in file (at_table geometry (flushed_table file)) geometry.zones in
+    let opened = words_in file (at_table geometry (opened_table boot file)) geometry.zones in
+    IsTableFault geometry flushed fault ⊎ IsTableFault geometry opened fault ⊎ IsApartFault flushed (map entry_of opened) fault)
 
 -- why a system in this boot does not open a file
 abbrev pub IsOpenFault : Boot → List ℕ → OpenFault → Type 0

@@ -3,7 +3,7 @@ use Rattle.std.specs.Prelude.{◌≡◌, ℕ, List, length, map}
 use Rattle.zone_states.specs.declared.geometry.Geometry.{Geometry}
 use Rattle.zone_states.specs.Geometry.{IsInRange}
 use Rattle.file_drive.specs.Head.{boot_in, shape_words}
-use Rattle.file_drive.specs.InFile.{other_table, spare_table}
+use Rattle.file_drive.specs.InFile.{AreApart, other_table, spare_table}
 use Rattle.file_drive.specs.Layout.{at_table, file_length}
 use Rattle.file_drive.specs.Opening.{AreFew, IsTable, opened_table}
 use Rattle.file_drive.specs.Tables.{entry_of, flushed_table, live_table, words_in}
@@ -43,6 +43,7 @@ pub record IsFound (boot : Boot) (file : List ℕ) (found : Found) : Type 0 wher
   pub entries : found.entries.items ≡ map entry_of (words_in file (at_table found.head.geometry (opened_table boot file)) found.head.geometry.zones)
   pub words : IsTable found.head.geometry (words_in file (at_table found.head.geometry (opened_table boot file)) found.head.geometry.zones)
   pub safe : IsTable found.head.geometry found.tables.safe.items
+  pub apart : AreApart found.tables.safe.items found.entries.items
 
 -- the head and the tables are as the file has them
 pub record IsRead (file : List ℕ) (found : Found) : Type 0 where

@@ -1,5 +1,5 @@
 -- What is true of a file while a drive is served from it.
-use Rattle.std.specs.Prelude.{◌≡◌, ◌≢◌, ◌⊎◌, ℕ, ◌-◌, ◌*◌, ◌<◌, ◌≤◌, List, length, map, slice_index, slice_index_or}
+use Rattle.std.specs.Prelude.{◌≡◌, ◌≢◌, ◌⊎◌, ℕ, ◌-◌, ◌*◌, ◌<◌, ◌≤◌, nat_le, not, ◌||◌, Bool, true, false, if◌then◌else◌, Contains, List, [], ◌∷◌, length, map, Some, slice_index, slice_index_or}
 use Rattle.std.specs.List.{AllByRecursion}
 use Rattle.sqlite_disk.specs.Disk.{Only}
 use Rattle.nvme_wire.specs.declared.command.Action.{Action}
@@ -7,16 +7,19 @@ use Rattle.nvme_wire.specs.declared.zone_state.ZoneState.TheVariants.{Offline}
 use Rattle.zone_states.specs.declared.geometry.Geometry.{Geometry}
 use Rattle.zone_states.specs.Stored.{StoredZone}
 use Rattle.file_drive.specs.Head.{boot_in, shape_words}
-use Rattle.file_drive.specs.Layout.{at_table, at_zone, file_length, part}
-use Rattle.file_drive.specs.Tables.{entry_of, flushed_table, flushed_zones, live_table, sent_entry, word_of, words_in, zones_in}
+use Rattle.file_drive.specs.Layout.{at_table, at_place, file_length, part}
+use Rattle.file_drive.specs.Tables.{entry_of, flushed_table, flushed_zones, live_table, next_entries, word_of, words_in, zones_in}
 use Rattle.file_drive.specs.declared.boot.Boot.{Boot}
 use Rattle.file_drive.specs.declared.entry.Entry.{Entry}
 
--- zones in a file: the shape of their drive, the file, and what is known of each zone
+-- Zones in a file: the shape of their drive, the file, and what is known of each zone. Then the words of the last flush,
+-- and the zones that may be found after a loss of power.
 pub record FiledZones (F : Type 0) : Type 0 where
   pub shape : Geometry
   pub file : F
   pub entries : List Entry
+  pub safe : List ℕ
+  pub durable : List (List StoredZone)
 
 -- the zones, as they are stored
 abbrev pub filed : {F : Type 0} → (F → List ℕ) → FiledZones F → List StoredZone
@@ -64,23 +67,25 @@ pub record IsPromised (geometry : Geometry) (flushed : ℕ) (safe : List ℕ) (p
   pub safe_words : words_in file (at_table geometry flushed) geometry.zones ≡ safe
   pub zones : zones_in geometry file 0 (map entry_of safe) ≡ promised
 
--- What any system can open: a file of this shape, whose flushed table has words that a table may have.
+-- What a system in another boot can open: a file of this shape, whose flushed table has words that a table may have.
 pub record CanOpen (geometry : Geometry) (file : List ℕ) : Type 0 where
   pub long : length file ≡ file_length geometry
   pub head : words_in file 0 8 ≡ shape_words geometry
   pub words : AreWords geometry (words_in file (at_table geometry (flushed_table file)) geometry.zones)
 
--- whatever a loss of power leaves can be opened
-abbrev pub AllCanOpen : {F : Type 0} → (F → List ℕ → Type 0) → Geometry → F → Type 0
-AllCanOpen may_leave geometry file = (bytes : List ℕ) → may_leave file bytes → CanOpen geometry bytes
-
--- the zones that an open may find after a loss of power
-abbrev pub left_zones : {F : Type 0} → (F → List ℕ → Type 0) → FiledZones F → List StoredZone → Type 0
-left_zones may_leave zones found = (bytes : List ℕ) × may_leave zones.file bytes × (found ≡ flushed_zones zones.shape bytes)
+-- whatever a loss of power leaves can be opened, and has zones that are durable
+abbrev pub AllDurable : {F : Type 0} → (F → List ℕ → Type 0) → Geometry → F → List (List StoredZone) → Type 0
+AllDurable may_leave geometry file durable = (bytes : List ℕ) → may_leave file bytes → CanOpen geometry bytes × Contains durable (flushed_zones geometry bytes)
 
 -- what the last flush promised, as a read shows it
 abbrev pub promised_zones : Geometry → List ℕ → List ℕ → List StoredZone
 promised_zones geometry file safe = zones_in geometry file 0 (map entry_of safe)
+
+-- What may be found after a loss of power: the zones of the last flush. If a flush failed while it picked its table, also
+-- the zones of the other table.
+abbrev pub durable_zones : Geometry → List ℕ → List ℕ → List ℕ → Bool → List (List StoredZone)
+durable_zones geometry file safe other unsure =
+    promised_zones geometry file safe ∷ (if unsure then promised_zones geometry file other ∷ [] else [])
 
 -- all that a loss of power may leave is what the last flush promised
 abbrev pub KeepsPromise : {F : Type 0} → (F → List ℕ) → (F → List ℕ → Type 0) → Geometry → F → ℕ → List ℕ → Type 0
@@ -94,28 +99,32 @@ pub record IsReady {F : Type 0} (seen : F → List ℕ) (may_leave : F → List 
 
 -- what is known of a zone; past the last nothing is
 abbrev pub entry_at : List Entry → ℕ → Entry
-entry_at entries index = slice_index_or entries index (record { state = Offline; written = 0 })
+entry_at entries index = slice_index_or entries index (record { state = Offline; written = 0; second = false })
 
--- The last flush promises no block of a zone past those that are written.
-abbrev pub IsClear : {F : Type 0} → (F → List ℕ) → FiledZones F → ℕ → Type 0
-IsClear seen zones index =
-    let file = seen zones.file in
-    (entry_of (slice_index (words_in file (at_table zones.shape (flushed_table file)) zones.shape.zones) index)).written ≤ (entry_at zones.entries index).written
+-- what the last flush says of a zone
+abbrev pub flushed_at : List ℕ → ℕ → Entry
+flushed_at words index = entry_of (slice_index words index)
 
--- All blocks are the same, but for one zone past its first ones.
+-- A zone is not in the place where the last flush has it, or the flush has no more blocks of it. So what is written
+-- behind its blocks is behind those of the flush, or elsewhere.
+abbrev pub is_apart : Entry → Entry → Bool
+is_apart flushed entry = (if flushed.second then not entry.second else entry.second) || nat_le flushed.written entry.written
+
+abbrev pub IsApart : List ℕ → List Entry → ℕ → Type 0
+IsApart words entries number = is_apart (flushed_at words number) (entry_at entries number) ≡ true
+
+-- the same of each zone
+abbrev pub AreApart : List ℕ → List Entry → Type 0
+AreApart words entries = (number : ℕ) → number < length entries → IsApart words entries number
+
+-- All blocks are the same, but for one place past its first ones.
 abbrev pub KeepsOthers : Geometry → ℕ → ℕ → List ℕ → List ℕ → Type 0
-KeepsOthers geometry index first old new =
-    (number written : ℕ) → number < geometry.zones → written ≤ geometry.capacity → (number ≢ index) ⊎ (written ≤ first)
-    → part new (at_zone geometry number) (written * geometry.block) ≡ part old (at_zone geometry number) (written * geometry.block)
-
--- The flushed table that is picked has the words of the zones.
-abbrev pub IsFlushed : {F : Type 0} → (F → List ℕ) → FiledZones F → Type 0
-IsFlushed seen zones =
-    let file = seen zones.file in
-    words_in file (at_table zones.shape (flushed_table file)) zones.shape.zones ≡ map word_of zones.entries
+KeepsOthers geometry place first old new =
+    (other written : ℕ) → other < 2 * geometry.zones → written ≤ geometry.capacity → (other ≢ place) ⊎ (written ≤ first)
+    → part new (at_place geometry other) (written * geometry.block) ≡ part old (at_place geometry other) (written * geometry.block)
 
 -- The other live table has the words of the zones after an action on all of them.
 abbrev pub IsSpared : {F : Type 0} → (F → List ℕ) → Action → FiledZones F → Type 0
 IsSpared seen action zones =
     let file = seen zones.file in
-    words_in file (at_table zones.shape (spare_table (live_table file))) zones.shape.zones ≡ map word_of (map (sent_entry action) zones.entries)
+    words_in file (at_table zones.shape (spare_table (live_table file))) zones.shape.zones ≡ map word_of (next_entries (Some action) zones.safe zones.entries)

@@ -29,22 +29,22 @@ table_room geometry = rounded 4096 (8 * geometry.zones)
 abbrev pub at_table : Geometry → ℕ → ℕ
 at_table geometry table = 12288 + table * table_room geometry
 
--- the zones, one after the other, each with room for all its blocks
+-- the places of the zones, one after the other, each with room for all blocks of a zone
 abbrev pub at_zones : Geometry → ℕ
 at_zones geometry = rounded 1048576 (at_table geometry 4)
 
-abbrev pub zone_room : Geometry → ℕ
-zone_room geometry = geometry.capacity * geometry.block
+abbrev pub place_room : Geometry → ℕ
+place_room geometry = geometry.capacity * geometry.block
 
-abbrev pub at_zone : Geometry → ℕ → ℕ
-at_zone geometry zone = at_zones geometry + zone * zone_room geometry
+abbrev pub at_place : Geometry → ℕ → ℕ
+at_place geometry place = at_zones geometry + place * place_room geometry
 
--- the length of the file
+-- the length of the file: each zone has two places
 abbrev pub file_length : Geometry → ℕ
-file_length geometry = at_zone geometry geometry.zones
+file_length geometry = at_place geometry (2 * geometry.zones)
 
--- the blocks of every zone are the same, as many of them as a zone has
-abbrev pub SameZones : Geometry → List ℕ → List ℕ → Type 0
-SameZones geometry old new =
-    (number written : ℕ) → number < geometry.zones → written ≤ geometry.capacity
-    → part new (at_zone geometry number) (written * geometry.block) ≡ part old (at_zone geometry number) (written * geometry.block)
+-- the blocks in every place are the same, as many of them as a zone has
+abbrev pub SamePlaces : Geometry → List ℕ → List ℕ → Type 0
+SamePlaces geometry old new =
+    (place written : ℕ) → place < 2 * geometry.zones → written ≤ geometry.capacity
+    → part new (at_place geometry place) (written * geometry.block) ≡ part old (at_place geometry place) (written * geometry.block)

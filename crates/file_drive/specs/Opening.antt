@@ -7,7 +7,7 @@ use Rattle.zone_states.specs.Transition.{is_active, is_open}
 use Rattle.zone_drive.specs.Stored.{may_hold}
 use Rattle.file_drive.specs.Head.{is_of_boot}
 use Rattle.file_drive.specs.InFile.{CanOpen}
-use Rattle.file_drive.specs.Layout.{SameZones, at_table}
+use Rattle.file_drive.specs.Layout.{SamePlaces, at_table}
 use Rattle.file_drive.specs.Tables.{entry_of, flushed_table, flushed_zones, live_table, word_of, words_in, zones_by}
 use Rattle.file_drive.specs.declared.boot.Boot.{Boot}
 use Rattle.file_drive.specs.declared.entry.Entry.{Entry}
@@ -47,7 +47,7 @@ pub record KeepsFlushed (geometry : Geometry) (old new : List ℕ) : Type 0 wher
   pub head : words_in new 0 8 ≡ words_in old 0 8
   pub picked : flushed_table new ≡ flushed_table old
   pub words : words_in new (at_table geometry (flushed_table old)) geometry.zones ≡ words_in old (at_table geometry (flushed_table old)) geometry.zones
-  pub zones : SameZones geometry old new
+  pub zones : SamePlaces geometry old new
 
 -- A change of a drive's file that changes no zone: a system in this boot finds the same zones. One in another boot finds
 -- the same, or the zones of the last flush. After a loss of power is found what might have been found before, or that flush.

@@ -1,9 +1,8 @@
-ghost use Rattle.std.specs.Prelude.{◌≡◌, IfErr, OnErr, OnOk, map};
-ghost use Rattle.zone_drive.specs.Held.{LeavesNoMore};
+ghost use Rattle.std.specs.Prelude.{◌≡◌, IfErr, OnErr, OnOk, Some, map};
 ghost use Rattle.zone_drive.specs.Table.{sent_stored};
-ghost use Rattle.file_drive.specs.InFile.{IsSpared, filed, left_zones};
-ghost use Rattle.file_drive.specs.Tables.{sent_entry};
-ghost use Rattle.file_drive.specs.Layout.{SameZones};
+ghost use Rattle.file_drive.specs.InFile.{IsSpared, filed};
+ghost use Rattle.file_drive.specs.Tables.{next_entries};
+ghost use Rattle.file_drive.specs.Layout.{SamePlaces};
 
 use crate::boot::System;
 use crate::entry::send_to_each;
@@ -21,23 +20,24 @@ impl<F: FileBytes + Drop, S: System + Drop> FileZones<F, S> {
         ensures shape { self.new.shape ≡ self.old.shape }
         ensures entries { self.new.entries ≡ self.old.entries }
         ensures only { IfErr result (λ halt. halt ≡ Halt.Stopped) }
-        ensures zones { SameZones self.old.shape (F.seen self.old.file) (F.seen self.new.file) }
+        ensures zones { SamePlaces self.old.shape (F.seen self.old.file) (F.seen self.new.file) }
+        ensures safe { self.new.safe ≡ self.old.safe }
         ensures spared { OnOk result (IsSpared F.seen action self.new) }
-        ensures leaves { LeavesNoMore (left_zones F.may_leave) self.old self.new }
+        ensures durable { self.new.durable ≡ self.old.durable }
     {
         if self.failed {
             return Err(Halt::Stopped);
         }
         let at = at_table(&self.geometry, 1 - self.live);
-        if write_words(
+        let written = write_words(
             &mut self.file,
             at,
             &mut self.spare,
             &self.entries,
+            &self.safe,
             Some(action),
-        )
-        .is_err()
-        {
+        );
+        if written.is_err() {
             self.failed = true;
             return Err(Halt::Stopped);
         }
@@ -48,11 +48,12 @@ impl<F: FileBytes + Drop, S: System + Drop> FileZones<F, S> {
     fn pick_spare(&mut self, action: Action) -> Result<(), Halt>
         requires { IsSpared F.seen action self.old }
         ensures shape { self.new.shape ≡ self.old.shape }
-        ensures ok { OnOk result (self.new.entries ≡ map (sent_entry action) self.old.entries) }
+        ensures ok { OnOk result (self.new.entries
+            ≡ next_entries (Some action) self.old.safe self.old.entries) }
         ensures err { OnErr result (self.new.entries ≡ self.old.entries) }
         ensures only { IfErr result (λ halt. halt ≡ Halt.Stopped) }
-        ensures zones { SameZones self.old.shape (F.seen self.old.file) (F.seen self.new.file) }
-        ensures leaves { LeavesNoMore (left_zones F.may_leave) self.old self.new }
+        ensures zones { SamePlaces self.old.shape (F.seen self.old.file) (F.seen self.new.file) }
+        ensures durable { self.new.durable ≡ self.old.durable }
     {
         if self.failed {
             return Err(Halt::Stopped);
@@ -62,7 +63,7 @@ impl<F: FileBytes + Drop, S: System + Drop> FileZones<F, S> {
             return Err(Halt::Stopped);
         }
         note_words(&mut self.spare, &self.entries);
-        send_to_each(&mut self.entries, action);
+        send_to_each(&mut self.entries, &self.safe, action);
         self.live = 1 - self.live;
         self.resources = Resources::of(&self.entries);
         Ok(())
@@ -74,7 +75,7 @@ impl<F: FileBytes + Drop, S: System + Drop> FileZones<F, S> {
         ensures ok { OnOk result (filed F.seen self.new ≡ map (sent_stored action) (filed F.seen self.old)) }
         ensures err { OnErr result (filed F.seen self.new ≡ filed F.seen self.old) }
         ensures only { IfErr result (λ halt. halt ≡ Halt.Stopped) }
-        ensures leaves { LeavesNoMore (left_zones F.may_leave) self.old self.new }
+        ensures durable { self.new.durable ≡ self.old.durable }
     {
         let _ = &self.file;
         self.write_spare(action)?;

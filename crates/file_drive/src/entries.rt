@@ -1,7 +1,8 @@
 ghost use Rattle.std.specs.Prelude.{◌≡◌, ◌≤◌, ◌↔◌, IfErr, IfOk, IsTrue, OnOk, length, map};
 ghost use Rattle.std.specs.List.{AllByRecursion};
-ghost use Rattle.file_drive.specs.Faults.{IsEntryFault, IsTableFault, IsWordFault};
+ghost use Rattle.file_drive.specs.Faults.{IsApartFault, IsEntryFault, IsTableFault, IsWordFault};
 ghost use Rattle.file_drive.specs.Found.{IsLimitsFault};
+ghost use Rattle.file_drive.specs.InFile.{AreApart};
 ghost use Rattle.file_drive.specs.Opening.{AreFew, Holds, IsTable, IsWord};
 ghost use Rattle.file_drive.specs.Tables.{entry_of};
 
@@ -68,6 +69,22 @@ fn check_limits(geometry: &Geometry, entries: &[Entry]) -> Result<(), OpenFault>
     let resources = Resources::of(entries);
     if resources.active_zones > geometry.active || resources.open_zones > geometry.open {
         return Err(OpenFault::Limits);
+    }
+    Ok(())
+}
+
+/// Refuses zones by the first that is in the place where the last flush has more blocks of it.
+pub fn check_apart(words: &[u64], entries: &[Entry]) -> Result<(), OpenFault>
+    requires few { length entries.now ≤ 65536 }
+    requires count { length words.now ≡ length entries.now }
+    ensures ok { OnOk result (AreApart words.now entries.now) }
+    ensures err { IfErr result (IsApartFault words.now entries.now) }
+{
+    for index in 0..entries.len() {
+        let flushed = Entry::of_word(words[index]);
+        if !entries[index].is_apart(flushed) {
+            return Err(OpenFault::Table(index as u32));
+        }
     }
     Ok(())
 }

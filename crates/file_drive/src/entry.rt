@@ -1,16 +1,19 @@
-ghost use Rattle.std.specs.Prelude.{◌≡◌, ◌+◌, ◌^◌, ◌<◌, map};
+ghost use Rattle.std.specs.Prelude.{◌≡◌, ◌+◌, ◌^◌, ◌<◌, Some, length};
 ghost use Rattle.drive_port.specs.Run.{restarted_state};
-ghost use Rattle.file_drive.specs.Tables.{acted, appended, entry_of, next_entry, sent_entry};
+ghost use Rattle.drive_port.specs.Step.{one_if};
+ghost use Rattle.file_drive.specs.InFile.{is_apart};
+ghost use Rattle.file_drive.specs.Tables.{acted, appended, entry_of, next_entries, next_entry, place_of, second_after};
 ghost use Rattle.file_drive.specs.Tables.{state_from, table_code, word_of};
 
 use zone_drive::selects;
 use zone_states::{Action, Geometry, ZoneState, next_state, opened_by_write};
 
-/// What a table says of a zone: its state, and how many of its blocks are written.
+/// What a table says of a zone: its state, how many of its blocks are written, and whether it is in its second place.
 #[derive(Clone, Copy, Debug, PartialEq, Eq)]
 pub struct Entry {
     pub state: ZoneState,
     pub written: u32,
+    pub second: bool,
 }
 
 /// A state as a restart leaves it.
@@ -46,12 +49,22 @@ fn state_from(code: u64) -> ZoneState
     }
 }
 
+fn one_if(holds: bool) -> u32
+    ensures { result ≡ one_if holds }
+{
+    if holds {
+        return 1;
+    }
+    0
+}
+
 impl Entry {
     /// The word of the zone in a table.
     pub fn word(self) -> u64
         ensures { result ≡ word_of self }
     {
-        (u64::from(table_code(restarted(self.state))) << 32) + u64::from(self.written)
+        let code = u64::from(table_code(restarted(self.state)));
+        (code * 2 + u64::from(one_if(self.second))) * (1 << 32) + u64::from(self.written)
     }
 
     /// What a word says.
@@ -59,14 +72,45 @@ impl Entry {
         ensures { result ≡ entry_of word }
     {
         Entry {
-            state: state_from(word / (1 << 32)),
+            state: state_from(word / (1 << 33)),
             written: (word % (1 << 32)) as u32,
+            second: word / (1 << 32) % 2 == 1,
         }
     }
 
-    /// The zone after an action, or as it is if its state does not admit that.
-    pub fn acted(self, action: Action) -> Entry
-        ensures { result ≡ acted action self }
+    /// The place of the zone with a number: the first or the second of its two.
+    pub fn place(self, number: u32) -> u32
+        requires { number < 2 ^ 30 }
+        ensures { result ≡ place_of number self }
+    {
+        2 * number + one_if(self.second)
+    }
+
+    /// Whether the zone is not where the last flush has more of its blocks.
+    pub fn is_apart(self, flushed: Entry) -> bool
+        ensures { result ≡ is_apart flushed self }
+    {
+        let moved = if flushed.second {
+            !self.second
+        } else {
+            self.second
+        };
+        moved || flushed.written <= self.written
+    }
+
+    // Which place the zone is in after an action. A Reset leaves the place where the last flush has blocks of it.
+    fn second_after(self, action: Action, flushed: Entry) -> bool
+        ensures { result ≡ second_after action flushed self }
+    {
+        if action == Action::Reset && flushed.written != 0 {
+            return !flushed.second;
+        }
+        self.second
+    }
+
+    /// The zone after an action, or as it is if its state does not admit that. The last flush says this of it.
+    pub fn acted(self, action: Action, flushed: Entry) -> Entry
+        ensures { result ≡ acted action flushed self }
     {
         let Ok(state) = next_state(self.state, action) else {
             return self;
@@ -76,15 +120,20 @@ impl Entry {
         } else {
             self.written
         };
-        Entry { state, written }
+        let second = self.second_after(action, flushed);
+        Entry {
+            state,
+            written,
+            second,
+        }
     }
 
     /// The zone after an action on all zones, if there is one.
-    pub fn next(self, action: Option<Action>) -> Entry
-        ensures { result ≡ next_entry action self }
+    pub fn next(self, action: Option<Action>, flushed: Entry) -> Entry
+        ensures { result ≡ next_entry action flushed self }
     {
         match action {
-            Some(action) if selects(action, self.state) => self.acted(action),
+            Some(action) if selects(action, self.state) => self.acted(action, flushed),
             _ => self,
         }
     }
@@ -100,22 +149,20 @@ impl Entry {
         } else {
             opened_by_write(self.state)
         };
-        Entry { state, written }
+        Entry {
+            state,
+            written,
+            second: self.second,
+        }
     }
 }
 
-// Does an action on each of these zones.
-fn send_to_these(entries: &mut [Entry], action: Action)
-    ensures { entries.new ≡ map (sent_entry action) entries.old }
+/// Does an action on all zones, as far as their states admit it. The last flush has these words of them.
+pub fn send_to_each(entries: &mut Vec<Entry>, flushed: &[u64], action: Action)
+    requires { length flushed.now ≡ length entries.old.items }
+    ensures { entries.new.items ≡ next_entries (Some action) flushed.now entries.old.items }
 {
-    for entry in entries.iter_mut() {
-        *entry = entry.next(Some(action));
+    for index in 0..flushed.len() {
+        entries[index] = entries[index].next(Some(action), Entry::of_word(flushed[index]));
     }
-}
-
-/// Does an action on all zones, as far as their states admit it.
-pub fn send_to_each(entries: &mut Vec<Entry>, action: Action)
-    ensures { entries.new.items ≡ map (sent_entry action) entries.old.items }
-{
-    send_to_these(entries, action);
 }

@@ -1,7 +1,7 @@
 ghost use Rattle.std.specs.Prelude.{◌≡◌, IfErr, OnOk};
-ghost use Rattle.zone_drive.specs.Held.{LeavesJust, LeavesNoMore, LeavesOrNow};
-ghost use Rattle.file_drive.specs.InFile.{IsFlushed, IsReady, filed, left_zones};
-ghost use Rattle.file_drive.specs.Layout.{SameZones};
+ghost use Rattle.zone_drive.specs.Held.{DurableJust, DurableOrNow};
+ghost use Rattle.file_drive.specs.InFile.{IsReady, filed};
+ghost use Rattle.file_drive.specs.Layout.{SamePlaces};
 
 use crate::boot::System;
 use crate::layout::{AT_FLUSHED, at_table};
@@ -17,15 +17,23 @@ impl<F: FileBytes + Drop, S: System + Drop> FileZones<F, S> {
         ensures shape { self.new.shape ≡ self.old.shape }
         ensures entries { self.new.entries ≡ self.old.entries }
         ensures only { IfErr result (λ halt. halt ≡ Halt.Stopped) }
-        ensures zones { SameZones self.old.shape (F.seen self.old.file) (F.seen self.new.file) }
+        ensures zones { SamePlaces self.old.shape (F.seen self.old.file) (F.seen self.new.file) }
         ensures ready { OnOk result (IsReady F.seen F.may_leave self.new) }
-        ensures leaves { LeavesNoMore (left_zones F.may_leave) self.old self.new }
+        ensures durable { self.new.durable ≡ self.old.durable }
     {
         if self.failed {
             return Err(Halt::Stopped);
         }
         let at = at_table(&self.geometry, 5 - self.flushed);
-        if write_words(&mut self.file, at, &mut self.other, &self.entries, None).is_err() {
+        let written = write_words(
+            &mut self.file,
+            at,
+            &mut self.other,
+            &self.entries,
+            &self.safe,
+            None,
+        );
+        if written.is_err() {
             self.failed = true;
             return Err(Halt::Stopped);
         }
@@ -36,16 +44,15 @@ impl<F: FileBytes + Drop, S: System + Drop> FileZones<F, S> {
         Ok(())
     }
 
-    // Picks that table, and syncs the file.
+    // Picks that table, and syncs the file. If that fails, a loss of power may leave either table picked.
     fn pick_other(&mut self) -> Result<(), Halt>
         requires { IsReady F.seen F.may_leave self.old }
         ensures shape { self.new.shape ≡ self.old.shape }
         ensures entries { self.new.entries ≡ self.old.entries }
         ensures only { IfErr result (λ halt. halt ≡ Halt.Stopped) }
-        ensures zones { SameZones self.old.shape (F.seen self.old.file) (F.seen self.new.file) }
-        ensures flushed { OnOk result (IsFlushed F.seen self.new) }
-        ensures just { OnOk result (LeavesJust (left_zones F.may_leave) (filed F.seen self.old) self.new) }
-        ensures leaves { LeavesOrNow (left_zones F.may_leave) (filed F.seen self.old) self.old self.new }
+        ensures zones { SamePlaces self.old.shape (F.seen self.old.file) (F.seen self.new.file) }
+        ensures just { OnOk result (DurableJust (filed F.seen self.old) self.new.durable) }
+        ensures durable { DurableOrNow (filed F.seen self.old) self.old.durable self.new.durable }
     {
         if self.failed {
             return Err(Halt::Stopped);
@@ -53,12 +60,14 @@ impl<F: FileBytes + Drop, S: System + Drop> FileZones<F, S> {
         let other = 5 - self.flushed;
         if self.file.write_word(AT_FLUSHED, other - 2).is_err() {
             self.failed = true;
+            self.unsure = true;
             return Err(Halt::Stopped);
         }
         swap(&mut self.safe, &mut self.other);
         self.flushed = other;
         if self.file.sync().is_err() {
             self.failed = true;
+            self.unsure = true;
             return Err(Halt::Stopped);
         }
         Ok(())
@@ -69,11 +78,10 @@ impl<F: FileBytes + Drop, S: System + Drop> FileZones<F, S> {
         ensures shape { self.new.shape ≡ self.old.shape }
         ensures entries { self.new.entries ≡ self.old.entries }
         ensures only { IfErr result (λ halt. halt ≡ Halt.Stopped) }
-        ensures zones { SameZones self.old.shape (F.seen self.old.file) (F.seen self.new.file) }
+        ensures zones { SamePlaces self.old.shape (F.seen self.old.file) (F.seen self.new.file) }
         ensures same { filed F.seen self.new ≡ filed F.seen self.old }
-        ensures flushed { OnOk result (IsFlushed F.seen self.new) }
-        ensures just { OnOk result (LeavesJust (left_zones F.may_leave) (filed F.seen self.old) self.new) }
-        ensures leaves { LeavesOrNow (left_zones F.may_leave) (filed F.seen self.old) self.old self.new }
+        ensures just { OnOk result (DurableJust (filed F.seen self.old) self.new.durable) }
+        ensures durable { DurableOrNow (filed F.seen self.old) self.old.durable self.new.durable }
     {
         let _ = &self.file;
         self.write_other()?;

@@ -4,7 +4,7 @@ ghost use Rattle.file_drive.specs.Found.{IsFound};
 ghost use Rattle.file_drive.specs.Head.{is_known};
 
 use crate::boot::Boot;
-use crate::entries::table_entries;
+use crate::entries::{check_apart, table_entries};
 use crate::entry::Entry;
 use crate::fault::OpenFault;
 use crate::head::{Head, read_head};
@@ -50,6 +50,7 @@ pub fn read_all<F: FileBytes>(alloc: Global, file: &F, boot: Boot) -> Result<Fou
     table_entries(alloc, geometry, &tables.safe)?;
     let words = counting(&tables, is_same_boot(head.boot, boot));
     let entries = table_entries(alloc, geometry, words)?;
+    check_apart(&tables.safe, &entries)?;
     Ok(Found {
         head,
         tables,

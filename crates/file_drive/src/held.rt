@@ -2,11 +2,11 @@ ghost use Rattle.std.specs.Prelude.{◌≡◌, ◌<◌, ◌≤◌, IfErr, None, 
 ghost use Rattle.zone_states.specs.Checks.{first_failing};
 ghost use Rattle.zone_states.specs.Stored.{stored_write, zone_stored};
 ghost use Rattle.zone_states.specs.Writing.{append_bytes_checks};
-ghost use Rattle.zone_drive.specs.Held.{LeavesNoMore, LeavesOrNow};
 ghost use Rattle.zone_drive.specs.Table.{sent_in, stored_at};
-ghost use Rattle.file_drive.specs.InFile.{filed, left_zones};
+ghost use Rattle.file_drive.specs.InFile.{filed};
 
 use crate::boot::System;
+use crate::entry::Entry;
 use crate::zones::FileZones;
 use drive_port::Halt;
 use file_bytes::FileBytes;
@@ -23,26 +23,26 @@ impl<F: FileBytes + Drop, S: System + Drop> FileZones<F, S> {
             (stored_write self.old.shape (stored_at (filed F.seen self.old) index) bytes.now)) }
         ensures err { OnErr result (filed F.seen self.new ≡ filed F.seen self.old) }
         ensures only { IfErr result (λ halt. halt ≡ Halt.Stopped) }
-        ensures leaves { LeavesOrNow (left_zones F.may_leave) (filed F.seen self.old) self.old self.new }
+        ensures durable { self.new.durable ≡ self.old.durable }
     {
         let blocks = bytes.len() / self.geometry.block as usize;
         let entry = self.entries[index].appended(&self.geometry, blocks as u32);
-        self.clear(index)?;
         self.write_data(index, bytes)?;
         self.put(index, entry)?;
         Ok(())
     }
 
-    // Does an action on one zone.
+    // Does an action on one zone. A Reset moves it out of a place where the last flush has blocks of it.
     pub(crate) fn act(&mut self, index: usize, action: Action) -> Result<(), Halt>
         requires { index < length (filed F.seen self.old) }
         ensures shape { self.new.shape ≡ self.old.shape }
         ensures ok { OnOk result (filed F.seen self.new ≡ sent_in (filed F.seen self.old) index action) }
         ensures err { OnErr result (filed F.seen self.new ≡ filed F.seen self.old) }
         ensures only { IfErr result (λ halt. halt ≡ Halt.Stopped) }
-        ensures leaves { LeavesNoMore (left_zones F.may_leave) self.old self.new }
+        ensures durable { self.new.durable ≡ self.old.durable }
     {
-        let entry = self.entries[index].acted(action);
+        let flushed = Entry::of_word(self.safe[index]);
+        let entry = self.entries[index].acted(action, flushed);
         self.put(index, entry)?;
         Ok(())
     }
@@ -52,10 +52,10 @@ impl<F: FileBytes + Drop, S: System + Drop> FileZones<F, S> {
         requires { index < length (filed F.seen self.old) }
         ensures shape { self.new.shape ≡ self.old.shape }
         ensures closed { filed F.seen self.new ≡ sent_in (filed F.seen self.old) index Action.Close }
-        ensures leaves { LeavesNoMore (left_zones F.may_leave) self.old self.new }
+        ensures durable { self.new.durable ≡ self.old.durable }
     {
         let before = self.entries[index];
-        self.entries[index] = before.acted(Action::Close);
+        self.entries[index] = before.acted(Action::Close, Entry::of_word(self.safe[index]));
         self.resources.follow(&self.entries, index, before.state);
     }
 }

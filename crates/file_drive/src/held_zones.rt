@@ -8,13 +8,13 @@ use zone_states::{Action, ZoneState};
 
 impl<F: FileBytes + Drop, S: System + Drop> HeldZones for FileZones<F, S> {
     ghost use Rattle.std.specs.Prelude.{true};
-    ghost use Rattle.file_drive.specs.InFile.{filed, left_zones};
+    ghost use Rattle.file_drive.specs.InFile.{filed};
 
     ghost shape = { λ z. z.shape };
 
     ghost stored = { λ z. filed F.seen z };
 
-    ghost leaves = { λ z. left_zones F.may_leave z };
+    ghost durable = { λ z. z.durable };
 
     ghost may_stop = { true };
 

@@ -1,6 +1,6 @@
-ghost use Rattle.std.specs.Prelude.{◌≡◌, ◌<◌, ◌≤◌};
+ghost use Rattle.std.specs.Prelude.{◌≡◌, ◌*◌, ◌<◌, ◌≤◌};
 ghost use Rattle.zone_states.specs.Geometry.{IsInRange};
-ghost use Rattle.file_drive.specs.Layout.{at_table, at_zone, at_zones, file_length, rounded, table_room, zone_room};
+ghost use Rattle.file_drive.specs.Layout.{at_table, at_place, at_zones, file_length, rounded, table_room, place_room};
 
 use zone_states::Geometry;
 
@@ -36,14 +36,14 @@ pub fn at_table(geometry: &Geometry, table: u64) -> u64
     12288 + table * table_room(geometry)
 }
 
-/// Where the zone with a number begins.
-pub fn at_zone(geometry: &Geometry, number: u32) -> u64
+/// Where the place with a number begins. The zone with the number n has the places 2n and 2n + 1.
+pub fn at_place(geometry: &Geometry, place: u32) -> u64
     requires in_range { IsInRange geometry.now }
-    requires few { number ≤ geometry.now.zones }
-    ensures { result ≡ at_zone geometry.now number }
+    requires few { place ≤ 2 * geometry.now.zones }
+    ensures { result ≡ at_place geometry.now place }
 {
     let room = u64::from(geometry.capacity) * u64::from(geometry.block);
-    rounded(1 << 20, at_table(geometry, 4)) + u64::from(number) * room
+    rounded(1 << 20, at_table(geometry, 4)) + u64::from(place) * room
 }
 
 /// The length of the file.
@@ -51,5 +51,5 @@ pub fn file_length(geometry: &Geometry) -> u64
     requires { IsInRange geometry.now }
     ensures { result ≡ file_length geometry.now }
 {
-    at_zone(geometry, geometry.zones)
+    at_place(geometry, 2 * geometry.zones)
 }

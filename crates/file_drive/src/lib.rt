@@ -17,21 +17,25 @@
 //! * A kill between two calls of the file leaves a file that can be opened. A system that knows its boot, and is
 //!   still in it, finds the zones as the last answered command left them, or the one under way
 //!   (`FileZones::into_file`, `kill`).
-//! * After a Flush that was answered, whatever a loss of power leaves can be opened in another boot. It has the zones
-//!   of that flush or of a later one. A flush that is cut off leaves its own zones, or the zones of the last one
-//!   (`flush`, `power`).
+//! * Only a Flush changes what an open may find after a loss of power (`durable` of `FileZones`). Whatever that leaves
+//!   can be opened in another boot, and has zones that are durable. After a Flush that was answered these are just the
+//!   zones of that flush. A flush that fails leaves the zones of the last one, or its own (`flush`, `power`).
 //! * A write or a sync that fails stops the drive. What was promised before stays.
 //! * An open that fails leaves the same zones for a system in this boot. A system in another boot finds the same, or
 //!   the zones of the last flush (`open`, `unnoticed`). It tells by name why a file is no drive.
 //!
 //! # How
 //!
-//! Each zone has a word in a table: its state, as a restart leaves it, and how many of its blocks are written. There
-//! are two live tables and two flushed ones. A word in the file picks one of each two (`specs/Layout.antt`).
+//! Each zone has two places in the file. Its word in a table has its state, as a restart leaves it, its place, and how
+//! many blocks are written. There are two live tables and two flushed ones. A word in the file picks one of each two
+//! (`specs/Layout.antt`).
 //!
 //! An append writes the blocks, and then the zone's word in the live table. A flush writes the flushed table that is
-//! not picked, syncs, picks it, and syncs. So a flush costs two syncs. After a Reset the last flush still counts
-//! the old blocks of a zone. Then a flush comes before the zone is written again.
+//! not picked, syncs, picks it, and syncs. So a flush costs two syncs.
+//!
+//! A Reset moves a zone to its other place if the last flush has blocks of it in the present one, and only then. So
+//! no append writes over blocks that the last flush promised (`AreApart` in `specs/InFile.antt`). The file is sparse:
+//! a place takes room on the disk once it is written. So the file may take up to twice the drive's written blocks.
 //!
 //! The head names the boot of the system that served the file last. An open in the same boot takes the live table. In
 //! another boot it takes the flushed one. Then it writes the live one anew before it names its own boot.

@@ -74,7 +74,14 @@ fn put_live<F: FileBytes>(file: &mut F, found: &mut Found) -> io::Result<()>
     ensures usable { F.FileBytes.is_usable file.new ≡ F.FileBytes.is_usable file.old }
 {
     let at = at_table(&found.head.geometry, found.tables.live);
-    write_words(file, at, &mut found.tables.current, &found.entries, None)
+    write_words(
+        file,
+        at,
+        &mut found.tables.current,
+        &found.entries,
+        &found.tables.safe,
+        None,
+    )
 }
 
 // Makes a file ready for this boot: its live table says what was found. Until the last word is written, the file is of

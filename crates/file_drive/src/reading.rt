@@ -5,7 +5,7 @@ ghost use Rattle.file_drive.specs.InFile.{filed};
 ghost use Rattle.file_drive.specs.Layout.{part};
 
 use crate::boot::System;
-use crate::layout::at_zone;
+use crate::layout::at_place;
 use crate::zones::FileZones;
 use drive_port::Halt;
 use file_bytes::FileBytes;
@@ -80,7 +80,8 @@ impl<F: FileBytes + Drop, S: System + Drop> FileZones<F, S> {
         let written = self.length_of(index);
         let from = from.min(written);
         let count = len.min(written - from);
-        let at = at_zone(&self.geometry, index as u32) + from as u64;
+        let place = self.entries[index].place(index as u32);
+        let at = at_place(&self.geometry, place) + from as u64;
         read_with_zeros(&self.file, at, count, len, into)?;
         Ok(())
     }

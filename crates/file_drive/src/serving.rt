@@ -1,12 +1,13 @@
-ghost use Rattle.std.specs.Prelude.{◌≡◌, false, map, true, List, ℕ};
+ghost use Rattle.std.specs.Prelude.{◌≡◌, ◌∷◌, Contains, [], false, map, true, List, ℕ};
+ghost use Rattle.zone_states.specs.Stored.{StoredZone};
 ghost use Rattle.zone_drive.specs.Habits.{made};
-ghost use Rattle.zone_drive.specs.Held.{LeavesZones, restarted_stored};
+ghost use Rattle.zone_drive.specs.Held.{AreDurable, restarted_stored};
 ghost use Rattle.zone_drive.specs.Stored.{AreZones, unused, zones_of};
 ghost use Rattle.file_drive.specs.Finds.{Finds};
 ghost use Rattle.file_drive.specs.Head.{is_known, is_of_boot};
-ghost use Rattle.file_drive.specs.InFile.{filed, left_zones};
-ghost use Rattle.file_drive.specs.Opened.{IsOpened};
-ghost use Rattle.file_drive.specs.Tables.{flushed_zones, zones_in};
+ghost use Rattle.file_drive.specs.InFile.{filed, promised_zones};
+ghost use Rattle.file_drive.specs.Opened.{IsOpened, served_zones};
+ghost use Rattle.file_drive.specs.Tables.{zones_in};
 ghost use Rattle.file_drive.specs.declared.boot.Boot.{Boot};
 
 use crate::boot::System;
@@ -25,9 +26,12 @@ pub fn serve<F: FileBytes + Drop, S: System + Drop>(
 ) -> ZoneDrive<FileZones<F, S>>
     requires { IsOpened F.FileBytes.seen F.FileBytes.may_leave F.FileBytes.is_usable S.System.boot file found }
     ensures { result ≡ record {
-      drive = made (unused found.head.geometry (zones_of found.head.geometry.block
-          (zones_in found.head.geometry (F.FileBytes.seen file) 0 found.entries.items)));
-      held = record { shape = found.head.geometry; file = file; entries = found.entries.items };
+      drive = made (record (unused found.head.geometry (zones_of found.head.geometry.block
+          (zones_in found.head.geometry (F.FileBytes.seen file) 0 found.entries.items))) {
+            durable = zones_of found.head.geometry.block
+                (promised_zones found.head.geometry (F.FileBytes.seen file) found.tables.safe.items) ∷ [];
+          });
+      held = served_zones F.FileBytes.seen file found;
       halted = false;
     } }
 {
@@ -39,7 +43,7 @@ impl<F: FileBytes + Drop, S: System + Drop> FileZones<F, S> {
     /// The zones of a file that was opened.
     pub fn new(file: F, system: S, found: Found) -> FileZones<F, S>
         requires { IsOpened F.seen F.may_leave F.is_usable S.boot file found }
-        ensures { result ≡ record { shape = found.head.geometry; file = file; entries = found.entries.items } }
+        ensures { result ≡ served_zones F.seen file found }
     {
         let resources = Resources::of(&found.entries);
         let tables = found.tables;
@@ -55,19 +59,20 @@ impl<F: FileBytes + Drop, S: System + Drop> FileZones<F, S> {
             safe: tables.safe,
             other: tables.other,
             failed: false,
+            unsure: false,
         }
     }
 
     /// The file. It is what a kill at this moment leaves. A system that is still in the same boot, and knows it, finds
-    /// the zones as they are. After a loss of power a system in another boot finds the zones of the last flush.
+    /// the zones as they are. After a loss of power a system in another boot finds zones that are durable.
     pub fn into_file(self) -> F
         ensures file { result ≡ self.file }
         ensures kill { is_known S.boot ≡ true → AreZones self.shape (filed F.seen self)
-            → LeavesZones (left_zones F.may_leave) self.shape self
+            → AreDurable self.shape self.durable
             → Finds self.shape S.boot (F.seen self.file) (map restarted_stored (filed F.seen self)) }
-        ensures power { LeavesZones (left_zones F.may_leave) self.shape self → (bytes : List ℕ) (boot : Boot)
+        ensures power { AreDurable self.shape self.durable → (bytes : List ℕ) (boot : Boot)
             → F.may_leave self.file bytes → is_of_boot boot bytes ≡ false
-            → Finds self.shape boot bytes (flushed_zones self.shape bytes) }
+            → (zones : List StoredZone) × Contains self.durable zones × Finds self.shape boot bytes zones }
     {
         self.file
     }

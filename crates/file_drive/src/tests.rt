@@ -171,6 +171,30 @@ fn a_torn_word_is_not_looked_at(rt: HostRuntime) -> Result<(), Fail> {
     Ok(())
 }
 
+// A zone is flushed, reset, and written again: whether a kill leaves its new blocks, and a loss of power the old ones.
+fn keeps_old_and_new(alloc: Global) -> Option<bool> {
+    let mut drive = opened(alloc, formatted(alloc, &GEOMETRY)?, Before)?;
+    let put_old = put(alloc, &mut drive, 0, 1, 2);
+    flush(alloc, &mut drive)?;
+    let old = shown(alloc, &mut drive)?;
+    let put_new = reset(alloc, &mut drive, 0).is_ok() && put(alloc, &mut drive, 0, 3, 3);
+    let new = shown(alloc, &mut drive)?;
+    let file = drive.into_zones().into_file();
+    let left = copied(alloc, file.bytes())?;
+    let mut drive = opened(alloc, after_loss(file, &left)?, Before)?;
+    let killed = shown(alloc, &mut drive)? == new;
+    let file = drive.into_zones().into_file();
+    let mut drive = opened(alloc, after_loss(file, &left)?, After)?;
+    let lost = shown(alloc, &mut drive)? == old;
+    Some(put_old && put_new && killed && lost && old != new)
+}
+
+#[test]
+fn a_reset_keeps_what_a_flush_promised(rt: HostRuntime) -> Result<(), Fail> {
+    assert_eq!(rt; keeps_old_and_new(rt.alloc()), Some(true));
+    Ok(())
+}
+
 // How many steps there are.
 const STEPS: usize = 7;
 

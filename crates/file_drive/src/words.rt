@@ -2,7 +2,7 @@ ghost use Rattle.std.specs.Prelude.{◌≡◌, ◌+◌, ◌*◌, ◌%◌, ◌^�
 ghost use Rattle.sqlite_disk.specs.Disk.{Follows};
 ghost use Rattle.file_bytes.specs.Changes.{SameBeside};
 ghost use Rattle.file_drive.specs.Layout.{word_in};
-ghost use Rattle.file_drive.specs.Tables.{next_entry, word_of, words_in};
+ghost use Rattle.file_drive.specs.Tables.{next_entries, word_of, words_in};
 
 use crate::entry::Entry;
 use file_bytes::FileBytes;
@@ -55,20 +55,22 @@ fn put_in_table<F: FileBytes>(
 }
 
 /// Writes the words of a table of which these are known: those that differ from the words of the zones after an action
-/// on all of them, if there is one.
+/// on all of them, if there is one. The last flush has these words of the zones.
 pub fn write_words<F: FileBytes>(
     file: &mut F,
     at: u64,
     words: &mut Vec<u64>,
     entries: &[Entry],
+    flushed: &[u64],
     action: Option<Action>,
 ) -> io::Result<()>
     requires aligned { at % 8 ≡ 0 }
     requires within { at + 8 * length entries.now ≤ length (F.FileBytes.seen file.old) }
     requires small { at + 8 * length entries.now < 2 ^ 63 }
     requires count { length words.old.items ≡ length entries.now }
+    requires flushed { length flushed.now ≡ length entries.now }
     requires known { words_in (F.FileBytes.seen file.old) at (length entries.now) ≡ words.old.items }
-    ensures ok { OnOk result (words.new.items ≡ map (λ entry. word_of (next_entry action entry)) entries.now) }
+    ensures ok { OnOk result (words.new.items ≡ map word_of (next_entries action flushed.now entries.now)) }
     ensures known { words_in (F.FileBytes.seen file.new) at (length entries.now) ≡ words.new.items }
     ensures beside { SameBeside at (8 * length entries.now) (F.FileBytes.seen file.old) (F.FileBytes.seen file.new) }
     ensures leaves { Follows (SameBeside at (8 * length entries.now)) (F.FileBytes.may_leave file.old)
@@ -76,8 +78,8 @@ pub fn write_words<F: FileBytes>(
     ensures usable { F.FileBytes.is_usable file.new ≡ F.FileBytes.is_usable file.old }
 {
     for index in 0..entries.len() {
-        let word = entries[index].next(action).word();
-        put_in_table(file, at, words, index, word)?;
+        let next = entries[index].next(action, Entry::of_word(flushed[index]));
+        put_in_table(file, at, words, index, next.word())?;
     }
     Ok(())
 }

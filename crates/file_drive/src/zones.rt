@@ -1,7 +1,6 @@
-ghost use Rattle.std.specs.Prelude.{◌≡◌, ◌<◌, ◌≤◌, IfErr, OnErr, OnOk, length, slice_set};
-ghost use Rattle.zone_drive.specs.Held.{LeavesNoMore};
-ghost use Rattle.file_drive.specs.Layout.{SameZones};
-ghost use Rattle.file_drive.specs.InFile.{left_zones};
+ghost use Rattle.std.specs.Prelude.{◌≡◌, ◌<◌, ◌≤◌, IfErr, OnErr, OnOk, length, slice_set, true};
+ghost use Rattle.file_drive.specs.Layout.{SamePlaces};
+ghost use Rattle.file_drive.specs.InFile.{flushed_at, is_apart};
 
 use crate::boot::System;
 use crate::entry::Entry;
@@ -41,17 +40,26 @@ pub struct FileZones<F: FileBytes + Drop, S: System + Drop> {
     pub(crate) other: Vec<u64>,
     /// A call on the file has failed. Nothing is asked of it any more.
     pub(crate) failed: bool,
+    /// It failed while a flush picked its table. A loss of power may leave either of the flushed tables picked.
+    pub(crate) unsure: bool,
 }
 
 impl<F: FileBytes + Drop, S: System + Drop> Model for FileZones<F, S> {
     ghost use Rattle.std.specs.Prelude.{◌≡◌, ◌≤◌, false, length, IsTrue};
     ghost use Rattle.zone_states.specs.Geometry.{IsInRange};
     ghost use Rattle.zone_drive.specs.Groups.{IsCounted};
-    ghost use Rattle.file_drive.specs.InFile.{AllCanOpen, AreWithin, AreWords, FiledZones, IsServed, KeepsPromise};
+    ghost use Rattle.file_drive.specs.InFile.{AllDurable, AreApart, AreWithin, AreWords, FiledZones, IsServed};
+    ghost use Rattle.file_drive.specs.InFile.{KeepsPromise, durable_zones};
 
     ghost Value = { FiledZones F };
 
-    ghost view = { λ z. record { shape = z.geometry; file = z.file; entries = z.entries.items } };
+    ghost view = { λ z. record {
+      shape = z.geometry;
+      file = z.file;
+      entries = z.entries.items;
+      safe = z.safe.items;
+      durable = durable_zones z.geometry (F.seen z.file) z.safe.items z.other.items z.unsure;
+    } };
 
     ghost invariant = { λ z. IsInRange z.geometry × (length z.entries.items ≡ z.geometry.zones)
         × AreWithin z.geometry z.entries.items
@@ -61,7 +69,10 @@ impl<F: FileBytes + Drop, S: System + Drop> Model for FileZones<F, S> {
         × AreWords z.geometry z.safe.items
         × (z.failed ≡ false → IsTrue (F.is_usable z.file)
         × KeepsPromise F.seen F.may_leave z.geometry z.file z.flushed z.safe.items)
-        × AllCanOpen F.may_leave z.geometry z.file };
+        × AllDurable F.may_leave z.geometry z.file
+        (durable_zones z.geometry (F.seen z.file) z.safe.items z.other.items z.unsure)
+        × AreApart z.safe.items z.entries.items
+        × (z.failed ≡ false → z.unsure ≡ false) };
 }
 
 impl<F: FileBytes + Drop, S: System + Drop> FileZones<F, S> {
@@ -78,12 +89,13 @@ impl<F: FileBytes + Drop, S: System + Drop> FileZones<F, S> {
     pub(crate) fn put(&mut self, index: usize, entry: Entry) -> Result<(), Halt>
         requires in_range { index < length self.old.entries }
         requires within { entry.written ≤ self.old.shape.capacity }
+        requires apart { is_apart (flushed_at self.old.safe index) entry ≡ true }
         ensures shape { self.new.shape ≡ self.old.shape }
         ensures ok { OnOk result (self.new.entries ≡ slice_set self.old.entries index entry) }
         ensures err { OnErr result (self.new.entries ≡ self.old.entries) }
         ensures only { IfErr result (λ halt. halt ≡ Halt.Stopped) }
-        ensures zones { SameZones self.old.shape (F.seen self.old.file) (F.seen self.new.file) }
-        ensures leaves { LeavesNoMore (left_zones F.may_leave) self.old self.new }
+        ensures zones { SamePlaces self.old.shape (F.seen self.old.file) (F.seen self.new.file) }
+        ensures durable { self.new.durable ≡ self.old.durable }
     {
         if self.failed {
             return Err(Halt::Stopped);

@@ -1,3 +1,4 @@
 mod HeaderLaws
 mod MountLaws
 mod SessionLaws
+pub mod LossLaws

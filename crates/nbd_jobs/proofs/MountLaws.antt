@@ -26,7 +26,7 @@ use Rattle.zone_translator.specs.View.{DiskView, disk_size, given_size, size_on}
 use Rattle.nbd_jobs.specs.Mounted.{IsFoundAgain, IsLostAgain, IsNotFound, IsNotServed, IsOneBlock, IsRefusedAgain, IsServed, SaysNoSize, TellsMount, TellsNoSize, TellsOutOfRange, given_of}
 use Rattle.nbd_jobs.proofs.HeaderLaws.{kept-logs}
 use Rattle.nbd_jobs.specs.declared.fault.NbdFault.{NbdFault}
-use Rattle.nbd_jobs.specs.declared.fault.NbdFault.TheVariants.{File, Image, Memory, Mount, NoSize, Reserve, Session, Unwritten}
+use Rattle.nbd_jobs.specs.declared.fault.NbdFault.TheVariants.{File, Image, Memory, Mount, NoSize, Reserve, Session, Unflushed, Unwritten}
 
 -- ---- looks at a drive
 
@@ -140,6 +140,7 @@ not-mounted old back blocks geometry fault (Reserve most) is tells gives = (tell
 not-mounted old back blocks geometry fault (Image f) is tells gives = absurd tells
 not-mounted old back blocks geometry fault (Unwritten most) is tells gives = absurd tells
 not-mounted old back blocks geometry fault (NoSize most) is tells gives = absurd tells
+not-mounted old back blocks geometry fault (Unflushed f) is tells gives = absurd tells
 not-mounted old back blocks geometry fault (Session f) is tells gives = absurd tells
 not-mounted old back blocks geometry fault (File f) is tells gives = absurd tells
 not-mounted old back blocks geometry fault Memory is tells gives = absurd tells
@@ -190,6 +191,7 @@ one-refused old left back (Unwritten most) o n = no-size old left back (Unwritte
 one-refused old left back (NoSize most) o n = no-size old left back (NoSize most) (inl o) n.0 n.1 (one-kept old left back o n.0)
 one-refused old left back (Reserve most) o n = absurd n.1
 one-refused old left back (Image f) o n = absurd n.1
+one-refused old left back (Unflushed f) o n = absurd n.1
 one-refused old left back (Session f) o n = absurd n.1
 one-refused old left back (File f) o n = absurd n.1
 one-refused old left back Memory o n = absurd n.1
@@ -213,6 +215,7 @@ block-refused old left back (Unwritten most) g k tells = no-size old left back (
 block-refused old left back (NoSize most) g k tells = no-size old left back (NoSize most) (inr g) k tells (block-back old left back g k).kept
 block-refused old left back (Reserve most) g k tells = absurd tells
 block-refused old left back (Image f) g k tells = absurd tells
+block-refused old left back (Unflushed f) g k tells = absurd tells
 block-refused old left back (Session f) g k tells = absurd tells
 block-refused old left back (File f) g k tells = absurd tells
 block-refused old left back Memory g k tells = absurd tells

@@ -1,16 +1,20 @@
 -- A session is served, whatever ended it.
-use Rattle.std.proofs.Common.{◌≡◌, ℕ, false, List, Option, Some, None, Result, Ok, Err, refl}
-use Rattle.std.specs.Prelude.{Bool}
+use Rattle.std.proofs.Common.{◌≡◌, ℕ, true, false, List, [], Option, Some, None, Result, Ok, Err, refl, ap, ◌∙◌}
+use Rattle.std.specs.Prelude.{Bool, MatchOption}
 use Rattle.drive_port.specs.Drive.{DriveState}
 use Rattle.nbd_session.specs.Streams.{Streams}
 use Rattle.nbd_session.specs.declared.fault.SessionFault.{SessionFault}
-use Rattle.zone_translator.specs.View.{DiskView}
+use Rattle.drive_array.specs.Mountable.{IsMountable}
+use Rattle.zone_translator.specs.Answers.{Answers}
+use Rattle.zone_translator.specs.Flat.{Begun, FlatDisk, flush, known_answer, with_nothing}
+use Rattle.zone_translator.specs.View.{DiskView, flat_of, given_size}
+use Rattle.zone_translator.specs.declared.fault.DiskFault.{DiskFault}
 use Rattle.disk_jobs.specs.Mounted.{size_of}
 use Rattle.disk_jobs.specs.declared.mounting.DiskSize.{DiskSize}
-use Rattle.nbd_jobs.specs.Mounted.{IsNotServed, IsServed}
-use Rattle.nbd_jobs.specs.Serving.{IsUnserved, ReadsDrive, ReadsFile, ServesDrive, ServesSession, SyncsDone, TellsSession, session_end}
+use Rattle.nbd_jobs.specs.Mounted.{BeginsBy, IsBegun, IsNotBegun, IsNotServed, IsServed}
+use Rattle.nbd_jobs.specs.Serving.{IsUnserved, ReadsDrive, ReadsFile, ServesDrive, ServesNothing, ServesSession, SyncsDone, TellsSession, session_end}
 use Rattle.nbd_jobs.specs.declared.fault.NbdFault.{NbdFault}
-use Rattle.nbd_jobs.specs.declared.fault.NbdFault.TheVariants.{File, Image, Memory, Mount, NoSize, Reserve, Session, Unwritten}
+use Rattle.nbd_jobs.specs.declared.fault.NbdFault.TheVariants.{File, Image, Memory, Mount, NoSize, Reserve, Session, Unflushed, Unwritten}
 use Rattle.nbd_jobs.specs.declared.job.NbdJob.{NbdJob}
 
 -- a session that was served is one of the drive, whatever ended it
@@ -18,6 +22,19 @@ pub session-served : (read_only : Bool) (job : NbdJob) (bytes : Streams) (syncs 
     → ServesSession read_only job bytes syncs old ended new → ServesDrive read_only job bytes syncs old (session_end ended) new
 session-served read_only job bytes syncs old (Ok done) new s = s
 session-served read_only job bytes syncs old (Err fault) new s = s
+
+-- where no session begins, no message is read
+pub none-served : (read_only : Bool) (job : NbdJob) (bytes : Streams) (syncs : SyncsDone) (old back : DriveState) (fault : NbdFault) → IsNotBegun syncs.flushes old job.blocks fault back → ServesNothing bytes syncs
+    → ServesDrive read_only job bytes syncs old (Err fault) back
+none-served read_only job bytes syncs old back (Image fault) refused nothing = (refused, nothing)
+none-served read_only job bytes syncs old back (Mount fault) refused nothing = (refused, nothing)
+none-served read_only job bytes syncs old back (Reserve most) refused nothing = (refused, nothing)
+none-served read_only job bytes syncs old back (NoSize most) refused nothing = (refused, nothing)
+none-served read_only job bytes syncs old back (Unwritten most) refused nothing = (refused, nothing)
+none-served read_only job bytes syncs old back (Unflushed fault) refused nothing = (refused, nothing)
+none-served read_only job bytes syncs old back (Session fault) refused nothing = absurd refused
+none-served read_only job bytes syncs old back (File fault) refused nothing = (refused, nothing)
+none-served read_only job bytes syncs old back Memory refused nothing = (refused, nothing)
 
 -- a drive that was read in the file has no fault of its image
 pub file-read : (job : NbdJob) (file : Option (List ℕ)) (bytes : Streams) (ended : Result (Unit {0}) NbdFault) → ReadsDrive job file bytes ended → ReadsFile job file bytes ended
@@ -27,9 +44,50 @@ file-read job file bytes (Err (Mount fault)) r = r
 file-read job file bytes (Err (Reserve most)) r = r
 file-read job file bytes (Err (NoSize most)) r = r
 file-read job file bytes (Err (Unwritten most)) r = r
+file-read job file bytes (Err (Unflushed fault)) r = r
 file-read job file bytes (Err (Session fault)) r = r
 file-read job file bytes (Err (File fault)) r = r
 file-read job file bytes (Err Memory) r = r
+
+-- ---- the disk with which a session begins
+
+-- it has the size of the one that was mounted
+begun-size : (flushes : Bool) (mounted first : DiskView) → BeginsBy flushes mounted first → size_of first ≡ size_of mounted
+begun-size false mounted first same = ap size_of same
+begun-size true mounted first a =
+    let flat = flat-flushed (known_answer (flat_of mounted) flush) (flat_of mounted) (flat_of first) a.flat in
+    rw (a.kept.geometry, ap (λ (d : FlatDisk). d.size) flat) refl
+  where
+    flat-flushed : (known : Option (Result (Unit {0}) DiskFault)) (old new : FlatDisk) → MatchOption known (Begun old flush (Ok tt) [] new) (λ r. (with_nothing (Ok tt) ≡ with_nothing r) × (new ≡ old)) → new ≡ old
+    flat-flushed (Some r) old new c = c.1
+    flat-flushed None old new c = c.1
+
+-- it can be mounted again
+pub begun-mountable : (flushes : Bool) (old : DriveState) (blocks : Option ℕ) (first : DiskView) → IsBegun flushes old blocks first → IsMountable first.drive (given_size first)
+begun-mountable flushes old blocks first is = by flushes is.begins
+  where
+    by : (flushes : Bool) → BeginsBy flushes is.mounted first → IsMountable first.drive (given_size first)
+    by false same = rw same is.served.mountable
+    by true a = a.kept.mountable
+
+-- a drive that was mounted, and is to be flushed or not
+pub begins-flushed : (old : DriveState) (blocks : Option ℕ) (mounted first : DiskView) → IsServed old blocks mounted → Answers mounted flush (Ok tt) first → IsBegun true old blocks first
+begins-flushed old blocks mounted first served a = record { mounted = mounted; served = served; begins = a }
+
+pub begins-plain : (old : DriveState) (blocks : Option ℕ) (mounted : DiskView) → IsServed old blocks mounted → IsBegun false old blocks mounted
+begins-plain old blocks mounted served = record { mounted = mounted; served = served; begins = refl }
+
+-- a drive that is not served is none on which a session begins
+pub not-begun : (flushes : Bool) (old back : DriveState) (blocks : Option ℕ) (fault : NbdFault) → IsNotServed old blocks fault back → IsNotBegun flushes old blocks fault back
+not-begun flushes old back blocks (Image fault) refused = refused
+not-begun flushes old back blocks (Mount fault) refused = refused
+not-begun flushes old back blocks (Reserve most) refused = refused
+not-begun flushes old back blocks (NoSize most) refused = refused
+not-begun flushes old back blocks (Unwritten most) refused = refused
+not-begun flushes old back blocks (Unflushed fault) refused = absurd refused
+not-begun flushes old back blocks (Session fault) refused = refused
+not-begun flushes old back blocks (File fault) refused = refused
+not-begun flushes old back blocks Memory refused = refused
 
 -- ---- what is told besides
 
@@ -37,24 +95,25 @@ file-read job file bytes (Err Memory) r = r
 served-some : (ended : Result (Unit {0}) SessionFault) (size : DiskSize) (told : Option DiskSize) → told ≡ Some size → told ≡ None → IsUnserved (session_end ended)
 served-some ended size told is none = absurd (cc)
 
-pub session-told : (job : NbdJob) (old : DriveState) (disk : DiskView) (ended : Result (Unit {0}) SessionFault) (counted : Bool) (size : DiskSize) → IsServed old job.blocks disk → size ≡ size_of disk → (job.statistics ≡ false → counted ≡ false)
+pub session-told : (job : NbdJob) (old : DriveState) (disk : DiskView) (ended : Result (Unit {0}) SessionFault) (counted : Bool) (size : DiskSize) → (flushes : Bool) → IsBegun flushes old job.blocks disk → size ≡ size_of disk → (job.statistics ≡ false → counted ≡ false)
     → TellsSession job old (session_end ended) counted (Some size)
-session-told job old disk ended counted size served is unasked = record {
-  size = (disk, served, is);
+session-told job old disk ended counted size flushes begun is unasked = record {
+  size = (begun.mounted, begun.served, is ∙ begun-size flushes begun.mounted disk begun.begins);
   none = λ none. served-some ended size (Some size) refl none;
   unasked = unasked;
 }
 
--- a drive that is not served has none
-unserved : (old back : DriveState) (blocks : Option ℕ) (fault : NbdFault) → IsNotServed old blocks fault back → IsUnserved (Err fault)
-unserved old back blocks (Image fault) refused = tt
-unserved old back blocks (Mount fault) refused = tt
-unserved old back blocks (Reserve most) refused = tt
-unserved old back blocks (NoSize most) refused = tt
-unserved old back blocks (Unwritten most) refused = tt
-unserved old back blocks (Session fault) refused = absurd refused
-unserved old back blocks (File fault) refused = tt
-unserved old back blocks Memory refused = tt
+-- a drive on which no session begins has none
+unserved : (flushes : Bool) (old back : DriveState) (blocks : Option ℕ) (fault : NbdFault) → IsNotBegun flushes old blocks fault back → IsUnserved (Err fault)
+unserved flushes old back blocks (Image fault) refused = tt
+unserved flushes old back blocks (Mount fault) refused = tt
+unserved flushes old back blocks (Reserve most) refused = tt
+unserved flushes old back blocks (NoSize most) refused = tt
+unserved flushes old back blocks (Unwritten most) refused = tt
+unserved flushes old back blocks (Unflushed fault) refused = tt
+unserved flushes old back blocks (Session fault) refused = absurd refused
+unserved flushes old back blocks (File fault) refused = tt
+unserved flushes old back blocks Memory refused = tt
 
-pub none-told : (job : NbdJob) (old back : DriveState) (fault : NbdFault) → IsNotServed old job.blocks fault back → TellsSession job old (Err fault) false None
-none-told job old back fault refused = record { size = tt; none = λ none. unserved old back job.blocks fault refused; unasked = λ no. refl }
+pub none-told : (flushes : Bool) (job : NbdJob) (old back : DriveState) (fault : NbdFault) → IsNotBegun flushes old job.blocks fault back → TellsSession job old (Err fault) false None
+none-told flushes job old back fault refused = record { size = tt; none = λ none. unserved flushes old back job.blocks fault refused; unasked = λ no. refl }

@@ -1,2 +1,3 @@
 pub mod Mounted
 pub mod Serving
+pub mod Laws

@@ -1,5 +1,5 @@
 -- The disk that is mounted on a drive to be served, and why there is none.
-use Rattle.std.specs.Prelude.{◌≡◌, ◌⊎◌, ◌↔◌, ℕ, List, [], length, Option, Some, None, IsTrue}
+use Rattle.std.specs.Prelude.{◌≡◌, ◌⊎◌, ◌↔◌, ℕ, Bool, true, false, List, [], length, Option, Some, None, Ok, Err, IsTrue}
 use Rattle.std.specs.List.{AllByRecursion}
 use Rattle.zone_states.specs.declared.geometry.Geometry.{Geometry}
 use Rattle.batch_log.specs.Log.{Batch}
@@ -14,11 +14,13 @@ use Rattle.drive_survey.specs.declared.fault.MountFault.{MountFault}
 use Rattle.drive_survey.specs.declared.fault.MountFault.TheVariants as mounts
 use Rattle.drive_survey.specs.declared.scan.ScannedZone.{ScannedZone}
 use Rattle.remount.specs.Kept.{KeepsMountable}
-use Rattle.zone_translator.specs.Answers.{IsMounted}
+use Rattle.zone_translator.specs.Answers.{Answers, IsMounted}
+use Rattle.zone_translator.specs.Flat.{flush}
 use Rattle.zone_translator.specs.Mount.{GivesBack}
 use Rattle.zone_translator.specs.View.{DiskView, disk_array, disk_size, given_size, size_on}
+use Rattle.zone_translator.specs.declared.fault.DiskFault.{DiskFault}
 use Rattle.nbd_jobs.specs.declared.fault.NbdFault.{NbdFault}
-use Rattle.nbd_jobs.specs.declared.fault.NbdFault.TheVariants.{Mount, Reserve, NoSize, Unwritten}
+use Rattle.nbd_jobs.specs.declared.fault.NbdFault.TheVariants.{Mount, Reserve, NoSize, Unflushed, Unwritten}
 use Rattle.nbd_jobs.specs.declared.headers.Said.{Said}
 
 -- the number that a mount is given: if none was asked for, the least
@@ -141,3 +143,29 @@ IsNotFound left told back = KeepsZones left back × TellsNoSize back told
 abbrev pub TellsOutOfRange : DriveState → NbdFault → Type 0
 TellsOutOfRange back (Mount fault) = fault ≡ mounts.BlockOutOfRange
 TellsOutOfRange back told = TellsNoSize back told
+
+-- ---- the disk with which a session begins
+
+-- What a drive is flushed by before a session: it is, if that is what a sync of its medium is.
+abbrev pub BeginsBy : Bool → DiskView → DiskView → Type 0
+BeginsBy true mounted first = Answers mounted flush (Ok tt) first
+BeginsBy false mounted first = first ≡ mounted
+
+-- The disk that is mounted on a drive, flushed if it is to be.
+pub record IsBegun (flushes : Bool) (old : DriveState) (blocks : Option ℕ) (first : DiskView) : Type 0 where
+  pub mounted : DiskView
+  pub served : IsServed old blocks mounted
+  pub begins : BeginsBy flushes mounted first
+
+-- A disk was mounted, and its Flush was not done.
+pub record IsUnflushed (old : DriveState) (blocks : Option ℕ) (fault : DiskFault) (back : DriveState) : Type 0 where
+  pub mounted : DiskView
+  pub served : IsServed old blocks mounted
+  pub last : DiskView
+  pub fails : Answers mounted flush (Err fault) last
+  pub back_is : back ≡ last.drive
+
+-- why no session begins on a drive, and how it is given back
+abbrev pub IsNotBegun : Bool → DriveState → Option ℕ → NbdFault → DriveState → Type 0
+IsNotBegun flushes old blocks (Unflushed fault) back = (flushes ≡ true) × IsUnflushed old blocks fault back
+IsNotBegun flushes old blocks fault back = IsNotServed old blocks fault back

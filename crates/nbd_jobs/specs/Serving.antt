@@ -1,5 +1,5 @@
 -- A drive in a file that is served: what its session does, and what it leaves in the file.
-use Rattle.std.specs.Prelude.{◌≡◌, ◌||◌, ◌&&◌, not, if◌then◌else◌, Bool, true, false, ℕ, List, [], ◌∷◌, Option, Some, None, is_some, Result, Ok, Err, IfSome, ⊤}
+use Rattle.std.specs.Prelude.{◌≡◌, ◌||◌, ◌&&◌, not, if◌then◌else◌, Bool, true, false, ℕ, List, Option, Some, None, is_some, Result, Ok, Err, IfSome, ⊤}
 use Rattle.std.specs.Io.KnownBytes.{Keeps}
 use Rattle.drive_port.specs.Drive.{DriveState}
 use Rattle.drive_port.specs.Stop.{Stopping, drive_of}
@@ -10,10 +10,11 @@ use Rattle.drive_store.specs.declared.file_end.FileEnd.{FileEnd}
 use Rattle.drive_store.specs.declared.file_fault.FileFault.{FileFault}
 use Rattle.drive_store.specs.declared.kept_drive.Begun.{Begun}
 use Rattle.zone_drive.specs.Habits.{MemoryDrive}
-use Rattle.zone_translator.specs.View.{DiskView, KeepsDisk, disk_array}
+use Rattle.zone_translator.specs.View.{DiskView, KeepsDisk}
 use Rattle.disk_jobs.specs.Mounted.{size_of}
 use Rattle.disk_jobs.specs.Saved.{IsHandedBack, stopping}
 use Rattle.disk_jobs.specs.declared.mounting.DiskSize.{DiskSize}
+use Rattle.nbd_session.specs.Served.{since_of}
 use Rattle.nbd_session.specs.Session.{session}
 use Rattle.nbd_session.specs.Store.{StoreView}
 use Rattle.nbd_session.specs.Streams.{Streams}
@@ -25,30 +26,39 @@ use Rattle.nbd_jobs.specs.declared.fault.NbdFault.{NbdFault}
 use Rattle.nbd_jobs.specs.declared.fault.NbdFault.TheVariants.{File, Image, Session}
 use Rattle.nbd_jobs.specs.declared.job.NbdJob.{NbdJob}
 use Rattle.nbd_jobs.specs.declared.left.Left.{Left}
-use Rattle.nbd_jobs.specs.Mounted.{IsNotServed, IsServed}
+use Rattle.nbd_jobs.specs.Mounted.{IsBegun, IsNotBegun, IsServed}
 
 -- ---- the session
 
--- how many syncs the medium of a drive has completed, before a session and after it
+-- how many syncs the medium of a drive has completed, before a session and after it, and whether each is a Flush of
+-- the drive
 pub record SyncsDone : Type 0 where
   pub before : ℕ
   pub after : ℕ
+  pub flushes : Bool
 
--- A disk whose drive keeps each write at once, or that is read only. If it is not, and the job says so, it cleans. Its
--- medium has completed that many syncs.
-abbrev pub at_once : Bool → Bool → ℕ → DiskView → StoreView
-at_once read_only idle syncs disk =
-    record { disk = disk; since = disk_array disk ∷ []; syncs = syncs; read_only = read_only; cleans = idle && not read_only }
+-- A disk, perhaps read only. If it is not, and the job says so, it cleans. Its medium has completed that many syncs.
+-- Where they are no Flushes the drive keeps each write at once.
+abbrev pub served_at : Bool → Bool → SyncsDone → DiskView → StoreView
+served_at read_only idle syncs disk = record {
+  disk = disk;
+  since = since_of syncs.flushes disk;
+  syncs = syncs.before;
+  read_only = read_only;
+  cleans = idle && not read_only;
+  flushes = syncs.flushes;
+}
 
 -- A session is served by the disk of a drive, or by that disk read only, and each sync is one of its medium. What it
--- leaves can be mounted again, with the array that was answered.
+-- leaves can be mounted again, with the array that was answered. A loss of power leaves one of the arrays of `since`.
 pub record ServesSession (read_only : Bool) (job : NbdJob) (bytes : Streams) (syncs : SyncsDone) (old : DriveState)
     (ended : Result (Unit {0}) SessionFault) (new : DriveState) : Type 0 where
   pub first : DiskView
-  pub disk : IsServed old job.blocks first
+  pub disk : IsBegun syncs.flushes old job.blocks first
   pub last : StoreView
-  pub serves : Serves bytes (session Greeting (at_once read_only job.idle syncs.before first)) ended last
+  pub serves : Serves bytes (session Greeting (served_at read_only job.idle syncs first)) ended last
   pub synced : syncs.after ≡ last.syncs
+  pub since : last.since ≡ since_of syncs.flushes last.disk
   pub keeps : KeepsDisk first last.disk
   pub drive : new ≡ last.disk.drive
 
@@ -67,15 +77,16 @@ pub record ServesNothing (bytes : Streams) (syncs : SyncsDone) : Type 0 where
 abbrev pub ServesDrive : Bool → NbdJob → Streams → SyncsDone → DriveState → Result (Unit {0}) NbdFault → DriveState → Type 0
 ServesDrive read_only job bytes syncs old (Ok done) new = ServesSession read_only job bytes syncs old (Ok tt) new
 ServesDrive read_only job bytes syncs old (Err (Session fault)) new = ServesSession read_only job bytes syncs old (Err fault) new
-ServesDrive read_only job bytes syncs old (Err fault) new = IsNotServed old job.blocks fault new × ServesNothing bytes syncs
+ServesDrive read_only job bytes syncs old (Err fault) new = IsNotBegun syncs.flushes old job.blocks fault new × ServesNothing bytes syncs
 
--- the same over a device that stops, and leaves the zones of this drive
+-- the same over a device that stops, and leaves the zones of this drive, with what is durable of them
 pub record ServesStopping (read_only : Bool) (job : NbdJob) (bytes : Streams) (syncs : SyncsDone) (device : Stopping)
     (ended : Result (Unit {0}) NbdFault) (new : DriveState) : Type 0 where
   pub seen : DriveState
   pub serves : ServesDrive read_only job bytes syncs (drive_of device) ended seen
   pub geometry : new.geometry ≡ seen.geometry
   pub zones : new.zones ≡ seen.zones
+  pub durable : new.durable ≡ seen.durable
 
 -- ---- the file
 
@@ -126,7 +137,7 @@ pub record ReadsDrive (job : NbdJob) (file : Option (List ℕ)) (bytes : Streams
 
 -- before and after, no sync was completed
 abbrev pub no_syncs : SyncsDone
-no_syncs = record { before = 0; after = 0 }
+no_syncs = record { before = 0; after = 0; flushes = false }
 
 -- what is served read only of a file; a fault of its image comes before all else
 abbrev pub ReadsFile : NbdJob → Option (List ℕ) → Streams → Result (Unit {0}) NbdFault → Type 0

@@ -9,6 +9,7 @@ pub fn explain(alloc: Global, job: &NbdJob, fault: NbdFault) -> Result<String, A
         NbdFault::Image(fault) => format!(in alloc; "{path}: {fault}"),
         NbdFault::File(fault) => format!(in alloc; "{path} {fault}"),
         NbdFault::Mount(fault) => format!(in alloc; "{path}: {fault}"),
+        NbdFault::Unflushed(_) => format!(in alloc; "{path}: {fault}"),
         fault => format!(in alloc; "{fault}"),
     }
 }

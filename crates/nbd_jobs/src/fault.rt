@@ -5,7 +5,7 @@ use drive_journal::FileFault as ReadFault;
 use drive_store::FileFault;
 use nbd_session::SessionFault;
 use thiserror::Error;
-use zone_translator::MountFault;
+use zone_translator::{DiskFault, MountFault};
 
 /// Why a drive is not served, or why its session stopped.
 #[derive(Clone, Copy, Debug, PartialEq, Eq, Error)]
@@ -27,6 +27,9 @@ pub enum NbdFault {
     /// for `most`.
     #[error("the drive was written, but its headers say no size: --blocks says it, from 1 to {most}")]
     NoSize { most: u64 },
+    /// The drive was mounted, but did not do the Flush before the session.
+    #[error("the drive was not flushed before the session: {0}")]
+    Unflushed(DiskFault),
     /// The session stopped before its client ended it.
     #[error("{0}")]
     Session(SessionFault),

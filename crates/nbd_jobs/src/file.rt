@@ -28,7 +28,15 @@ struct FileMedium<'s, 'a, F: Files<File = File>> {
 }
 
 impl<F: Files<File = File>> Medium for FileMedium<'_, '_, F> {
+    ghost use Rattle.std.specs.Prelude.{false};
+
     ghost syncs = { λ m. m.syncs };
+
+    ghost flushes = { λ m. false };
+
+    fn flushes(&self) -> bool {
+        false
+    }
 
     fn sync(&mut self) -> Result<(), MediumFault> {
         self.file.sync().or(Err(MediumFault))?;

@@ -17,6 +17,8 @@
 //!   message of the client is answered by its disk, as `nbd_session` says. Whatever ends the session, the store holds
 //!   the drive that is left, which can be mounted again and has each write that was answered (`specs/Serving.antt`).
 //!   A FLUSH, or a write with FUA, that is answered by success is followed by a sync of the medium that was handed in.
+//!   Where that is a Flush of the drive, the drive is flushed before the session, too, and what a loss of power leaves
+//!   is found again (`laws::loss_is_found`).
 //!   A turn of cleaning is taken after each request if the job says so.
 //! * [`serve_read_only`], over every reader and writer: the same of a disk that is read only. No store is handed in, so
 //!   nothing of the file is written.
@@ -37,6 +39,7 @@ mod fault;
 mod file;
 mod headers;
 mod job;
+pub mod laws;
 mod left;
 mod mounted;
 mod saving;

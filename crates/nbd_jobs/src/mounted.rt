@@ -4,7 +4,7 @@ ghost use Rattle.std.specs.Prelude.{◌≡◌, IfErr, IfOk, None, Some};
 ghost use Rattle.drive_survey.specs.Reported.{KeepsZones};
 ghost use Rattle.remount.specs.Mount.{IsToMount};
 ghost use Rattle.nbd_jobs.specs.Mounted.{IsFoundAgain, IsNotFound, IsNotServed, IsServed, TellsMount};
-ghost use Rattle.nbd_jobs.specs.Mounted.{TellsOutOfRange};
+ghost use Rattle.nbd_jobs.specs.Mounted.{IsBegun, IsNotBegun, TellsOutOfRange};
 
 use crate::fault::NbdFault;
 use crate::headers::{look, room, without_size};
@@ -105,4 +105,25 @@ pub fn mount_served<D: Device + Drop>(
         Some(blocks) => mount_given(alloc, device, blocks),
         None => mount_said(alloc, device),
     }
+}
+
+/// The same, and flushes the drive if that is to be done before a session.
+pub(crate) fn mount_flushed<D: Device + Drop>(
+    alloc: Global,
+    device: D,
+    blocks: Option<u64>,
+    flushes: bool,
+) -> Result<Disk<D>, (NbdFault, D)>
+    ensures disk { IfOk result (IsBegun flushes (D.drive device) blocks) }
+    ensures err { IfErr result (λ refusal.
+        IsNotBegun flushes (D.drive device) blocks refusal.0 (D.drive refusal.1)) }
+{
+    let mut disk = mount_served(alloc, device, blocks)?;
+    if !flushes {
+        return Ok(disk);
+    }
+    if let Err(fault) = disk.flush() {
+        return Err((NbdFault::Unflushed(fault), disk.into_device()));
+    }
+    Ok(disk)
 }

@@ -12,7 +12,7 @@ use crate::done::Done;
 use crate::fault::NbdFault;
 use crate::job::NbdJob;
 use crate::left::Left;
-use crate::mounted::mount_served;
+use crate::mounted::mount_flushed;
 use disk_jobs::{DiskSize, statistics_of, stopping};
 use drive_counter::Counter;
 use drive_journal::{Journaling, Store};
@@ -116,12 +116,17 @@ fn serve_counted<D: Device + Drop, M: Medium + Drop, R: Client, W: Write>(
 ) -> Ended<D, M>
     ensures serves { ServesDrive kept.read_only job.now
         (streams (R.remaining reader.old) (R.remaining reader.new) (W.contents writer.old) (W.contents writer.new))
-        (record { before = M.syncs kept.medium; after = M.syncs result.medium })
+        (record {
+          before = M.syncs kept.medium;
+          after = M.syncs result.medium;
+          flushes = M.flushes kept.medium;
+        })
         (D.drive kept.device) result.result (D.drive result.device) }
     ensures tells { TellsSession job.now (D.drive kept.device) result.result
         (is_some result.statistics) result.disk }
 {
-    let disk = match mount_served(alloc, Counter::new(kept.device), job.blocks) {
+    let flushes = kept.medium.flushes();
+    let disk = match mount_flushed(alloc, Counter::new(kept.device), job.blocks, flushes) {
         Ok(disk) => disk,
         Err((fault, counter)) => {
             return Ended {
@@ -157,7 +162,11 @@ pub fn serve_stopping<D: Device + Drop, M: Medium + Drop, R: Client, W: Write>(
 ) -> Ended<D, M>
     ensures serves { ServesStopping kept.read_only job.now
         (streams (R.remaining reader.old) (R.remaining reader.new) (W.contents writer.old) (W.contents writer.new))
-        (record { before = M.syncs kept.medium; after = M.syncs result.medium })
+        (record {
+          before = M.syncs kept.medium;
+          after = M.syncs result.medium;
+          flushes = M.flushes kept.medium;
+        })
         (stopping job.now.stop (D.drive kept.device)) result.result (D.drive result.device) }
     ensures tells { TellsSession job.now (drive_of (stopping job.now.stop (D.drive kept.device))) result.result
         (is_some result.statistics) result.disk }
@@ -196,7 +205,11 @@ fn serve_kept<S: Store<Drive> + Drop, M: Medium + Drop, R: Client, W: Write>(
     requires { stored.kept.read_only ≡ false }
     ensures leaves { LeavesStored job.now
         (streams (R.remaining reader.old) (R.remaining reader.new) (W.contents writer.old) (W.contents writer.new))
-        (record { before = M.syncs stored.kept.medium; after = M.syncs result.2 })
+        (record {
+          before = M.syncs stored.kept.medium;
+          after = M.syncs result.2;
+          flushes = M.flushes stored.kept.medium;
+        })
         stored.kept.device.drive result.3 result.0 (S.held result.1) (S.failed result.1) }
     ensures was_image { result.0.was_image ≡ stored.was_image }
 {
@@ -227,12 +240,20 @@ pub fn serve_drive<I: Read + Drop, S: Store<Drive> + Drop, M: Medium + Drop, R: 
     // left. Each sync that the session completed is one of this medium.
     ensures left { IfSome result.left (λ left. LeavesFile job.now (I.remaining file.bytes)
         (streams (R.remaining reader.old) (R.remaining reader.new) (W.contents writer.old) (W.contents writer.new))
-        (record { before = M.syncs file.medium; after = M.syncs result.medium })
+        (record {
+          before = M.syncs file.medium;
+          after = M.syncs result.medium;
+          flushes = M.flushes file.medium;
+        })
         result.result left (S.held result.store) (S.failed result.store)) }
     // Without a drive nothing is read of the client, and nothing is written.
     ensures none { IfNone result.left (HoldsNoDrive (I.remaining file.bytes)
         (streams (R.remaining reader.old) (R.remaining reader.new) (W.contents writer.old) (W.contents writer.new))
-        (record { before = M.syncs file.medium; after = M.syncs result.medium })
+        (record {
+          before = M.syncs file.medium;
+          after = M.syncs result.medium;
+          flushes = M.flushes file.medium;
+        })
         result.result) }
     ensures unused { IfNone result.left (S.held result.store ≡ S.held file.store) }
 {

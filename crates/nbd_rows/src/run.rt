@@ -56,7 +56,15 @@ struct Counting {
 }
 
 impl Medium for Counting {
+    ghost use Rattle.std.specs.Prelude.{false};
+
     ghost syncs = { λ m. m.syncs };
+
+    ghost flushes = { λ m. false };
+
+    fn flushes(&self) -> bool {
+        false
+    }
 
     fn sync(&mut self) -> Result<(), MediumFault> {
         if self.is_worn {

@@ -48,7 +48,7 @@ durable : (middle : StoreView) (first : Result (Unit {0}) DiskFault) (wanted : A
     → Forces true middle first result new → error_code (code_of wanted result) ≡ 0
     → (middle.syncs < new.syncs) × ((array : List (List ℕ)) → Contains new.since array → array ≡ disk_array new.disk)
 durable middle (Err fault) wanted result new f none = absurd (refused wanted fault (rw f.0 at none))
-durable middle (Ok done) wanted (Ok d) new s none = (s.3, λ array found. s.4 array found ∙ ap disk_array (sym s.1))
+durable middle (Ok done) wanted (Ok d) new s none = (s.1.more, λ array found. s.1.since array found ∙ sym s.1.keeps.array)
 durable middle (Ok done) wanted (Err (Disk fault)) new s none = absurd (refused wanted fault none)
 durable middle (Ok done) wanted (Err Medium) new s none = absurd (omega (arith, none))
 

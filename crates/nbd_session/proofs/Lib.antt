@@ -7,3 +7,4 @@ pub mod ServedLaws
 pub mod DurableLaws
 pub mod ReadOnlyLaws
 pub mod ModeLaws
+pub mod SafeLaws

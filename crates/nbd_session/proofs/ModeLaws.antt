@@ -22,14 +22,14 @@ grows_by : (old new : StoreView) → old.syncs ≤ new.syncs → KeepsMode old n
 grows_by old new fewer mode = (fewer, mode)
 
 self_grows : (store : StoreView) → Grows store store
-self_grows store = (omega arith, record { read_only = refl; cleans = refl })
+self_grows store = (omega arith, record { read_only = refl; cleans = refl; flushes = refl })
 
 same_grows : (old new : StoreView) → new ≡ old → Grows old new
 same_grows old new same = rw same (self_grows old)
 
 grows_again : (a b c : StoreView) → Grows a b → Grows b c → Grows a c
 grows_again a b c x y =
-    (omega (arith, x.0, y.0), record { read_only = y.1.read_only ∙ x.1.read_only; cleans = y.1.cleans ∙ x.1.cleans })
+    (omega (arith, x.0, y.0), record { read_only = y.1.read_only ∙ x.1.read_only; cleans = y.1.cleans ∙ x.1.cleans; flushes = y.1.flushes ∙ x.1.flushes })
 
 call_grows : (old : StoreView) (call : Call) (answer : Answer) (new : StoreView) → Calls old call answer new → Grows old new
 call_grows old call answer new c = (omega (arith, c.syncs), c.mode)
@@ -44,9 +44,10 @@ does_grows old (WriteZeroes first n false) bytes answer new w = call_grows old _
 does_grows old Flush bytes answer new c = same_grows old new c.1
 
 sync_grows : (old : StoreView) (result : Result (Unit {0}) StoreFault) (new : StoreView) → Syncs old result new → Grows old new
-sync_grows old (Ok done) new s = (omega (arith, s.3), s.2)
-sync_grows old (Err (Disk fault)) new s = same_grows old new s.1
-sync_grows old (Err Medium) new s = (s.3, s.2)
+sync_grows old (Ok done) new s = (s.1.keeps.syncs, s.1.keeps.mode)
+sync_grows old (Err (Disk fault)) new (inl s) = same_grows old new s.1
+sync_grows old (Err (Disk fault)) new (inr s) = (s.1.keeps.syncs, s.1.keeps.mode)
+sync_grows old (Err Medium) new s = (s.1.syncs, s.1.mode)
 
 force_grows : (forced : Bool) (old : StoreView) (first : Result (Unit {0}) DiskFault) (result : Result (Unit {0}) StoreFault) (new : StoreView) → Forces forced old first result new → Grows old new
 force_grows forced old (Err fault) result new f = same_grows old new f.1

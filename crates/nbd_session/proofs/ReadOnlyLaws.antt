@@ -1,5 +1,5 @@
 -- A session of a store that is read only leaves its array as it was.
-use Rattle.std.proofs.Common.{◌≡◌, ℕ, List, Ok, Err, true, false, refl, ap, sym, ◌∙◌}
+use Rattle.std.proofs.Common.{inl, inr, ◌≡◌, ℕ, List, Ok, Err, true, false, refl, sym, ◌∙◌}
 use Rattle.std.specs.Prelude.{Bool, ◌&&◌, not, Result, if◌then◌else◌}
 use Rattle.nbd_wire.specs.declared.error_code.ErrorCode.{ErrorCode}
 use Rattle.nbd_wire.specs.declared.error_code.ErrorCode.TheVariants as errors
@@ -40,9 +40,10 @@ does_stays old (WriteZeroes first n true) bytes answer new harmless c read_only 
 does_stays old (WriteZeroes first n false) bytes answer new harmless c read_only = absurd (cc harmless)
 
 sync_stays : (old : StoreView) (result : Result (Unit {0}) StoreFault) (new : StoreView) → Syncs old result new → Stays old new
-sync_stays old (Ok done) new s read_only = (ap disk_array s.1, s.2.read_only ∙ read_only)
-sync_stays old (Err (Disk fault)) new s read_only = same_stays old new s.1 read_only
-sync_stays old (Err Medium) new s read_only = (ap disk_array s.1, s.2.read_only ∙ read_only)
+sync_stays old (Ok done) new s read_only = (s.1.keeps.array, s.1.keeps.mode.read_only ∙ read_only)
+sync_stays old (Err (Disk fault)) new (inl s) read_only = same_stays old new s.1 read_only
+sync_stays old (Err (Disk fault)) new (inr s) read_only = (s.1.keeps.array, s.1.keeps.mode.read_only ∙ read_only)
+sync_stays old (Err Medium) new s read_only = (s.1.array, s.1.mode.read_only ∙ read_only)
 
 force_stays : (forced : Bool) (old : StoreView) (first : Result (Unit {0}) DiskFault) (result : Result (Unit {0}) StoreFault) (new : StoreView) → Forces forced old first result new → Stays old new
 force_stays forced old (Err fault) result new f = same_stays old new f.1

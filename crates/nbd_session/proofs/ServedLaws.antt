@@ -1,12 +1,19 @@
--- A disk has no other array than the one that it serves.
-use Rattle.std.proofs.Common.{◌≡◌, ℕ, zero, suc, List, [], ◌∷◌, length, Option, Some, None, Ok, Err, Bool, true, false, refl, ap, sym, inl, inr, ◌∙◌, arith}
-use Rattle.std.specs.Prelude.{◌⊎◌, Contains, MatchOption, Result}
+-- What a disk that is served gives, as a store: its calls, its turns and its syncs.
+use Rattle.std.proofs.Common.{◌≡◌, ℕ, zero, suc, ◌<◌, ◌≤◌, List, [], ◌∷◌, length, map, None, Some, Ok, Err, true, false, refl, sym, ap, ◌∙◌, inl, inr, arith}
+use Rattle.std.specs.Prelude.{◌⊎◌, Bool, Contains, MatchOption, Option, Result}
 use Rattle.std.proofs.lemmas.List.{take_all}
+use Rattle.zone_states.specs.Zone.{Zone}
+use Rattle.drive_port.specs.Drive.{DriveState}
+use Rattle.drive_port.specs.Durable.{IsDurable, MayBeDurable}
+use Rattle.drive_port.specs.Run.{restarted_zone}
+use Rattle.drive_port.proofs.ClosingLaws.{contents-restarted}
+use Rattle.disk_runs.specs.KeepingLaws.{keeps_call, keeps_same}
 use Rattle.zone_translator.specs.Answers.{Answers, AnswersRead, CostsAtMost, Stores, TakesTurn, write_commands}
-use Rattle.zone_translator.specs.Flat.{Answer, Begun, FlatDisk, IsFront, idle, known_answer, read, replaced, with_nothing, write}
-use Rattle.zone_translator.specs.View.{CompletesAtMost, DiskView, disk_array, disk_turns, flat_of}
+use Rattle.zone_translator.specs.Flat.{Answer, Begun, FlatDisk, IsFront, answer_while, flush, idle, known_answer, read, replaced, with_nothing, write}
+use Rattle.zone_translator.specs.View.{CompletesAtMost, DiskView, KeepsDisk, disk_array, disk_turns, flat_of, given_size}
 use Rattle.zone_translator.specs.declared.fault.DiskFault.{DiskFault}
-use Rattle.nbd_session.specs.Store.{Rests, Shows, StoreView, Writes}
+use Rattle.nbd_session.specs.Served.{array_with, since_of}
+use Rattle.nbd_session.specs.Store.{FailsFlush, Hardens, KeepsBySync, Rests, Shows, StoreView, Writes}
 
 -- the only element of a list
 only : {X : Type 0} (a x : X) → Contains (a ∷ []) x → a ≡ x
@@ -28,31 +35,61 @@ moment-by None old first blocks (Ok done) new c = inr (record {
 })
 moment-by None old first blocks (Err fault) new c = inr c.2
 
--- a store with this disk and no other array
-abbrev pub served : DiskView → ℕ → Bool → Bool → StoreView
-served disk syncs read_only cleans =
-    record { disk = disk; since = disk_array disk ∷ []; syncs = syncs; read_only = read_only; cleans = cleans }
+-- ---- what a loss of power leaves
+
+-- what is in a list that was mapped comes from one in the list
+contains-mapped : {X Y : Type 0} (f : X → Y) (xs : List X) (y : Y) → Contains (map f xs) y → (x : X) × Contains xs x × (f x ≡ y)
+contains-mapped f [] y (k, few, same) = absurd (omega (arith, few))
+contains-mapped f (x ∷ xs) y (zero, few, same) = (x, (zero, omega arith, refl), same)
+contains-mapped f (x ∷ xs) y (suc k, few, same) =
+    let rest = contains-mapped f xs y (k, omega (arith, few), same) in
+    (rest.0, (suc rest.1.0, omega (arith, rest.1.1), rest.1.2), rest.2)
+
+-- and what is in a list is in the list once both are mapped
+pub map_contains : {X Y : Type 0} (f : X → Y) (xs : List X) (x : X) → Contains xs x → Contains (map f xs) (f x)
+map_contains f [] x (k, few, same) = absurd (omega (arith, few))
+map_contains f (x ∷ xs) y (zero, few, same) = (zero, omega arith, ap f same)
+map_contains f (x ∷ xs) y (suc k, few, same) = let rest = map_contains f xs y (k, omega (arith, few), same) in (suc rest.0, omega (arith, rest.1), rest.2)
+
+-- nothing but the zones counts
+since-same : (old new : DiskView) → new.drive.geometry ≡ old.drive.geometry → given_size new ≡ given_size old → new.drive.durable ≡ old.drive.durable → since_of true new ≡ since_of true old
+since-same old new geometry given durable = rw (geometry, given, durable) refl
+
+-- after a call that leaves what is durable: what was left before, or the array now
+since-call : (flushes : Bool) (old new : DiskView) (Moment : List (List ℕ) → Type 0) → KeepsDisk old new → new.drive.durable ≡ old.drive.durable → (disk_array new ≡ disk_array old) ⊎ Moment (disk_array new)
+    → (array : List (List ℕ)) → Contains (since_of flushes new) array → Contains (since_of flushes old) array ⊎ Moment array
+since-call true old new Moment kept durable now array found = inl (rw (since-same old new kept.geometry kept.given durable) at found)
+since-call false old new Moment kept durable (inl same) array found = inl (contains-only (disk_array old) array (sym same ∙ only (disk_array new) array found))
+since-call false old new Moment kept durable (inr moment) array found = inr (rw (only (disk_array new) array found) at moment)
+
+-- the zones as they are hold the array of the disk
+array-now : (disk : DiskView) (zones : List Zone) → zones ≡ map restarted_zone disk.drive.zones → array_with disk zones ≡ disk_array disk
+array-now disk zones is = rw (is, contents-restarted disk.drive.zones) refl
+
+-- ---- calls
+
+-- a store that serves this disk
+abbrev pub served : DiskView → ℕ → Bool → Bool → Bool → StoreView
+served disk syncs read_only cleans flushes =
+    record { disk = disk; since = since_of flushes disk; syncs = syncs; read_only = read_only; cleans = cleans; flushes = flushes }
 
 -- a write of the disk is a write of the store
-pub write_called : (is_trim : Bool) (old new : DiskView) (syncs : ℕ) (read_only cleans : Bool) (first : ℕ) (blocks : List (List ℕ)) (n : ℕ) (result : Result (Unit {0}) DiskFault) → Answers old (write first blocks) result new
+pub write_called : (is_trim : Bool) (old new : DiskView) (syncs : ℕ) (read_only cleans flushes : Bool) (first : ℕ) (blocks : List (List ℕ)) (n : ℕ) (result : Result (Unit {0}) DiskFault) → Answers old (write first blocks) result new
     → Stores is_trim old first n result new → CostsAtMost old (write_commands is_trim old n) result new
-    → Writes is_trim (served old syncs read_only cleans) (write first blocks) first n (with_nothing result) (served new syncs read_only cleans)
-write_called is_trim old new syncs read_only cleans first blocks n result a stores costs = record {
+    → Writes is_trim (served old syncs read_only cleans flushes) (write first blocks) first n (with_nothing result) (served new syncs read_only cleans flushes)
+write_called is_trim old new syncs read_only cleans flushes first blocks n result a stores costs = record {
   calls = record {
     flat = a.flat;
     kept = a.kept;
+    durable = a.durable;
     cause = a.cause;
-    since = λ array found. since array (only (disk_array new) array found) (moment-by (known_answer (flat_of old) (write first blocks)) (flat_of old) first blocks result (flat_of new) a.flat);
+    since = since-call flushes old new (IsFront (disk_array old) first blocks) a.kept a.durable (moment-by (known_answer (flat_of old) (write first blocks)) (flat_of old) first blocks result (flat_of new) a.flat);
     syncs = refl;
-    mode = record { read_only = refl; cleans = refl };
+    mode = record { read_only = refl; cleans = refl; flushes = refl };
   };
   stores = stores;
   costs = costs;
-} where
-  since : (array : List (List ℕ)) → disk_array new ≡ array → (disk_array new ≡ disk_array old) ⊎ IsFront (disk_array old) first blocks (disk_array new)
-      → Contains (disk_array old ∷ []) array ⊎ IsFront (disk_array old) first blocks array
-  since array is (inl same) = inl (contains-only (disk_array old) array (sym same ∙ is))
-  since array is (inr front) = inr (rw is at front)
+}
 
 -- the array after a turn of cleaning is the old one
 turn-kept : (known : Option (Result (Unit {0}) DiskFault)) (old : FlatDisk) (result : Result (Unit {0}) DiskFault) (new : FlatDisk)
@@ -62,17 +99,18 @@ turn-kept None old (Ok done) new c = ap (λ (d : FlatDisk). d.array) c.1
 turn-kept None old (Err fault) new c = c.2
 
 -- a turn of the disk is a turn of the store
-pub turn_taken : (old new : DiskView) (syncs : ℕ) (result : Result (Unit {0}) DiskFault) → Answers old idle result new → TakesTurn old result new → CompletesAtMost old 2 new
-    → Rests (served old syncs false true) (served new syncs false true)
-turn_taken old new syncs result a turn completed = record {
+pub turn_taken : (old new : DiskView) (syncs : ℕ) (flushes : Bool) (result : Result (Unit {0}) DiskFault) → Answers old idle result new → TakesTurn old result new → CompletesAtMost old 2 new
+    → Rests (served old syncs false true flushes) (served new syncs false true flushes)
+turn_taken old new syncs flushes result a turn completed = record {
   result = result;
   calls = record {
     flat = a.flat;
     kept = a.kept;
+    durable = a.durable;
     cause = a.cause;
-    since = λ array found. inr (sym (only (disk_array new) array found) ∙ turn-kept (known_answer (flat_of old) idle) (flat_of old) result (flat_of new) a.flat);
+    since = since-call flushes old new (λ array. array ≡ disk_array old) a.kept a.durable (inr (turn-kept (known_answer (flat_of old) idle) (flat_of old) result (flat_of new) a.flat));
     syncs = refl;
-    mode = record { read_only = refl; cleans = refl };
+    mode = record { read_only = refl; cleans = refl; flushes = refl };
   };
   turn = turn;
   completed = completed;
@@ -86,21 +124,127 @@ read-kept None old first n answer (Ok done) shown new c = ap (λ (d : FlatDisk).
 read-kept None old first n answer (Err fault) shown new c = c.2
 
 -- a read of the disk is a read of the store
-pub read_called : (old new : DiskView) (syncs : ℕ) (read_only cleans : Bool) (first n : ℕ) (result : Result (Unit {0}) DiskFault) (bytes : List ℕ) → AnswersRead old first n result bytes new
-    → disk_turns new ≡ disk_turns old → CompletesAtMost old n new → Shows (served old syncs read_only cleans) first n result bytes (served new syncs read_only cleans)
-read_called old new syncs read_only cleans first n result bytes a turns completed = record {
+pub read_called : (old new : DiskView) (syncs : ℕ) (read_only cleans flushes : Bool) (first n : ℕ) (result : Result (Unit {0}) DiskFault) (bytes : List ℕ) → AnswersRead old first n result bytes new
+    → disk_turns new ≡ disk_turns old → CompletesAtMost old n new → Shows (served old syncs read_only cleans flushes) first n result bytes (served new syncs read_only cleans flushes)
+read_called old new syncs read_only cleans flushes first n result bytes a turns completed = record {
   shown = a.flat.shown;
   reads = record {
     calls = record {
       flat = a.flat.flat;
       kept = a.kept;
+      durable = a.durable;
       cause = a.cause;
-      since = λ array found. inr (sym (only (disk_array new) array found) ∙ read-kept (known_answer (flat_of old) (read first n)) (flat_of old) first n _ result a.flat.shown (flat_of new) a.flat.flat);
+      since = since-call flushes old new (λ array. array ≡ disk_array old) a.kept a.durable
+          (inr (read-kept (known_answer (flat_of old) (read first n)) (flat_of old) first n _ result a.flat.shown (flat_of new) a.flat.flat));
       syncs = refl;
-      mode = record { read_only = refl; cleans = refl };
+      mode = record { read_only = refl; cleans = refl; flushes = refl };
     };
     turns = turns;
     completed = completed;
   };
   bytes_are = a.flat.bytes_are;
+}
+
+-- ---- syncs of a disk that is not flushed
+
+-- nothing is sent, and the array is the only one
+pub silent_keeps : (disk : DiskView) (syncs more : ℕ) (read_only cleans : Bool) → syncs ≤ more
+    → KeepsBySync (served disk syncs read_only cleans false) (served disk more read_only cleans false)
+silent_keeps disk syncs more read_only cleans grows = record {
+  array = refl;
+  kept = keeps_same disk;
+  durable = λ zones left. inl left;
+  turns = refl;
+  completed = omega arith;
+  since = λ array found. inl found;
+  syncs = grows;
+  mode = record { read_only = refl; cleans = refl; flushes = refl };
+  silent = λ off. record { disk = refl; since = λ array found. found };
+}
+
+pub silent_hardens : (disk : DiskView) (syncs more : ℕ) (read_only cleans : Bool) → syncs < more
+    → Hardens (served disk syncs read_only cleans false) (served disk more read_only cleans false)
+silent_hardens disk syncs more read_only cleans grows = record {
+  keeps = silent_keeps disk syncs more read_only cleans (omega (arith, grows));
+  flat = refl;
+  more = grows;
+  since = λ array found. sym (only (disk_array disk) array found);
+}
+
+-- ---- syncs of a disk that is flushed
+
+-- the disk after a flush that was done is as it was
+flat-done : (known : Option (Result (Unit {0}) DiskFault)) (old new : FlatDisk) → known ≡ None → MatchOption known (Begun old flush (Ok tt) [] new) (λ r. (with_nothing (Ok tt) ≡ with_nothing r) × (new ≡ old)) → new ≡ old
+flat-done (Some r) old new none c = absurd (cc none)
+flat-done None old new none c = c.1
+
+-- a loss of power leaves what it could before, or the array
+since-flushed : (old new : DiskView) → KeepsDisk old new → disk_array new ≡ disk_array old → MayBeDurable old.drive new.drive
+    → (array : List (List ℕ)) → Contains (since_of true new) array → Contains (since_of true old) array ⊎ (array ≡ disk_array old)
+since-flushed old new kept same may array found =
+    let from = contains-mapped (array_with new) new.drive.durable array found in
+    elim (may from.0 from.1) [
+      | inl before ↦ inl (contains-map old new kept from.0 array before from.2)
+      | inr now ↦ inr (sym from.2 ∙ array-now new from.0 now ∙ same)
+    ]
+  where
+    contains-map : (old new : DiskView) → KeepsDisk old new → (zones : List Zone) (array : List (List ℕ)) → Contains old.drive.durable zones → array_with new zones ≡ array → Contains (since_of true old) array
+    contains-map old new kept zones array before is =
+        let there : Contains (since_of true old) (array_with old zones) = map_contains (array_with old) old.drive.durable zones before in
+        let both : array_with new zones ≡ array_with old zones = rw (kept.geometry, kept.given) refl in
+        rw (sym both ∙ is) at there
+
+-- what a flush keeps, whatever it answers, with its count
+flush_keeps : (old new : DiskView) (syncs more : ℕ) (read_only cleans : Bool) → disk_array new ≡ disk_array old → KeepsDisk old new → MayBeDurable old.drive new.drive → disk_turns new ≡ disk_turns old → CompletesAtMost old 1 new → syncs ≤ more
+    → KeepsBySync (served old syncs read_only cleans true) (served new more read_only cleans true)
+flush_keeps old new syncs more read_only cleans array kept durable turns completed grows = record {
+  array = array;
+  kept = keeps_call old new kept;
+  durable = durable;
+  turns = turns;
+  completed = completed;
+  since = since-flushed old new kept array durable;
+  syncs = grows;
+  mode = record { read_only = refl; cleans = refl; flushes = refl };
+  silent = λ off. absurd (cc off);
+}
+
+-- what is durable after a flush is the zones as they are
+may-be : (old new : DriveState) → IsDurable new → MayBeDurable old new
+may-be old new is = λ zones left. inr (is zones left)
+
+-- a flush that was done
+pub flush_done : (old new : DiskView) (syncs more : ℕ) (read_only cleans : Bool) → answer_while old.status ≡ None → Answers old flush (Ok tt) new → disk_turns new ≡ disk_turns old → CompletesAtMost old 1 new → syncs ≤ more
+    → KeepsBySync (served old syncs read_only cleans true) (served new more read_only cleans true) × (flat_of new ≡ flat_of old)
+flush_done old new syncs more read_only cleans serves a turns completed grows =
+    let flat = flat-done (known_answer (flat_of old) flush) (flat_of old) (flat_of new) serves a.flat in
+    (flush_keeps old new syncs more read_only cleans (ap (λ (d : FlatDisk). d.array) flat) a.kept (may-be old.drive new.drive a.durable) turns completed grows, flat)
+
+pub flush_hardens : (old new : DiskView) (syncs more : ℕ) (read_only cleans : Bool) → answer_while old.status ≡ None → Answers old flush (Ok tt) new → disk_turns new ≡ disk_turns old → CompletesAtMost old 1 new → syncs < more
+    → Hardens (served old syncs read_only cleans true) (served new more read_only cleans true)
+flush_hardens old new syncs more read_only cleans serves a turns completed grows =
+    let done = flush_done old new syncs more read_only cleans serves a turns completed (omega (arith, grows)) in
+    record {
+      keeps = done.0;
+      flat = done.1;
+      more = grows;
+      since = λ array found.
+          (let from = contains-mapped (array_with new) new.drive.durable array found in
+          sym from.2 ∙ array-now new from.0 (a.durable from.0 from.1) ∙ done.0.array);
+    }
+
+-- the array after a flush that was not done
+flush-kept : (known : Option (Result (Unit {0}) DiskFault)) (old : FlatDisk) (fault : DiskFault) (new : FlatDisk)
+    → MatchOption known (Begun old flush (Err fault) [] new) (λ r. (with_nothing (Err fault) ≡ with_nothing r) × (new ≡ old)) → new.array ≡ old.array
+flush-kept (Some r) old fault new c = ap (λ (d : FlatDisk). d.array) c.1
+flush-kept None old fault new c = c.2
+
+-- a flush that was not done
+pub flush_fails : (old new : DiskView) (syncs : ℕ) (read_only cleans : Bool) (fault : DiskFault) → Answers old flush (Err fault) new → disk_turns new ≡ disk_turns old → CompletesAtMost old 1 new
+    → FailsFlush (served old syncs read_only cleans true) fault (served new syncs read_only cleans true)
+flush_fails old new syncs read_only cleans fault a turns completed = record {
+  keeps = flush_keeps old new syncs syncs read_only cleans (flush-kept (known_answer (flat_of old) flush) (flat_of old) fault (flat_of new) a.flat) a.kept a.durable turns completed (omega arith);
+  flushes = refl;
+  flat = a.flat;
+  cause = a.cause;
 }

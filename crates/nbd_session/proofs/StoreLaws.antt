@@ -42,9 +42,10 @@ does_keeps old (WriteZeroes first n false) bytes answer new w = write_keeps fals
 does_keeps old Flush bytes answer new c = same_keeps old new c.1
 
 sync_keeps : (old : StoreView) (result : Result (Unit {0}) StoreFault) (new : StoreView) → Syncs old result new → KeepsStore old new
-sync_keeps old (Ok done) new s = rw s.1 (keeps_same old.disk)
-sync_keeps old (Err (Disk fault)) new s = same_keeps old new s.1
-sync_keeps old (Err Medium) new s = rw s.1 (keeps_same old.disk)
+sync_keeps old (Ok done) new s = s.1.keeps.kept
+sync_keeps old (Err (Disk fault)) new (inl s) = same_keeps old new s.1
+sync_keeps old (Err (Disk fault)) new (inr s) = s.1.keeps.kept
+sync_keeps old (Err Medium) new s = s.1.kept
 
 force_keeps : (forced : Bool) (old : StoreView) (first : Result (Unit {0}) DiskFault) (result : Result (Unit {0}) StoreFault) (new : StoreView) → Forces forced old first result new → KeepsStore old new
 force_keeps forced old (Err fault) result new f = same_keeps old new f.1

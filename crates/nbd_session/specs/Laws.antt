@@ -1,12 +1,20 @@
 -- What a client may rely on.
-use Rattle.std.specs.Prelude.{◌≡◌, ℕ, ◌<◌, ◌≤◌, true, List, ◌++◌, Contains, Result}
+use Rattle.std.specs.Prelude.{◌≡◌, ℕ, ◌<◌, ◌≤◌, true, List, ◌++◌, Contains, Ok, Result}
 use Rattle.nbd_wire.specs.Transmission.{simple_reply_bytes}
 use Rattle.nbd_wire.specs.declared.error_code.ErrorCode.TheVariants.{Success}
 use Rattle.nbd_wire.specs.declared.request.Request.{Request}
-use Rattle.zone_translator.specs.View.{disk_array}
+use Rattle.zone_states.specs.Zone.{Zone}
+use Rattle.drive_port.specs.Run.{restarted}
+use Rattle.remount.specs.Mount.{IsToMount}
+use Rattle.zone_translator.specs.Answers.{Answers}
+use Rattle.zone_translator.specs.Flat.{flush}
+use Rattle.zone_translator.specs.Laws.{CanMountAgain}
+use Rattle.zone_translator.specs.Mount.{MountsDisk}
+use Rattle.zone_translator.specs.View.{DiskView, disk_array, given_size}
 use Rattle.nbd_session.specs.declared.asked.Asked.{Asked}
 use Rattle.nbd_session.specs.declared.fault.SessionFault.{SessionFault}
 use Rattle.nbd_session.specs.Requests.{DoesAndReplies, is_forced}
+use Rattle.nbd_session.specs.Served.{since_of}
 use Rattle.nbd_session.specs.Session.{Session}
 use Rattle.nbd_session.specs.Store.{KeepsMode, StoreView}
 use Rattle.nbd_session.specs.Streams.{Streams}
@@ -31,3 +39,24 @@ abbrev pub SessionKeepsMode : Type 0
 SessionKeepsMode =
     (bytes : Streams) (old : Session) (ended : Result (Unit {0}) SessionFault) (new : StoreView) → Serves bytes old ended new
     → (old.store.syncs ≤ new.syncs) × KeepsMode old.store new
+
+-- ---- a loss of power
+
+-- whatever a loss of power leaves of the drive of a disk can be mounted
+abbrev pub IsSafe : DiskView → Type 0
+IsSafe disk = (zones : List Zone) → Contains disk.drive.durable zones → IsToMount (restarted (record disk.drive { zones = zones })) (given_size disk)
+
+-- Whatever a client sends, and whatever ends the session: it stays so. A flush that was done makes it so.
+abbrev pub SessionKeepsSafe : Type 0
+SessionKeepsSafe =
+    (bytes : Streams) (old : Session) (ended : Result (Unit {0}) SessionFault) (new : StoreView) → Serves bytes old ended new
+    → CanMountAgain old.store.disk → IsSafe old.store.disk → IsSafe new.disk
+
+abbrev pub FlushIsSafe : Type 0
+FlushIsSafe = (old new : DiskView) → CanMountAgain old → Answers old flush (Ok tt) new → IsSafe new
+
+-- A mount of what a loss of power leaves finds one of the arrays that a flushed disk may be left with.
+abbrev pub LeftIsFound : Type 0
+LeftIsFound =
+    (disk again : DiskView) (zones : List Zone) → Contains disk.drive.durable zones
+    → MountsDisk (restarted (record disk.drive { zones = zones })) (given_size disk) again → Contains (since_of true disk) (disk_array again)

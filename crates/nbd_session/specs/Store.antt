@@ -1,8 +1,10 @@
 -- A disk that is served, what of it a loss of power leaves, and how often it was synced.
 use Rattle.std.specs.Prelude.{◌≡◌, ◌⊎◌, ℕ, ◌<◌, ◌≤◌, ◌&&◌, Bool, true, false, not, List, Contains, Some, None, Result, Ok, Err, IfErr}
 use Rattle.std.specs.List.{concat}
+use Rattle.drive_port.specs.Durable.{MayBeDurable}
+use Rattle.disk_runs.specs.Trace.{KeepsServed}
 use Rattle.zone_translator.specs.Answers.{CostsAtMost, Stores, TakesTurn, count_of_blocks, write_bytes, write_commands}
-use Rattle.zone_translator.specs.Flat.{Answer, Call, FlatCall, FlatDisk, IsFront, answer_while, idle, read, trim, with_nothing, write}
+use Rattle.zone_translator.specs.Flat.{Answer, Call, FlatCall, FlatDisk, IsFront, answer_while, flush, idle, read, trim, with_nothing, write}
 use Rattle.zone_translator.specs.View.{CompletesAtMost, DiskCause, DiskView, KeepsDisk, disk_array, disk_turns, flat_of}
 use Rattle.zone_translator.specs.declared.fault.DiskFault.{DiskFault}
 use Rattle.nbd_session.specs.declared.fault.StoreFault.{StoreFault}
@@ -10,18 +12,20 @@ use Rattle.nbd_session.specs.declared.fault.StoreFault.TheVariants.{Disk, Medium
 
 -- A disk, and the arrays that it had since it was last synced. A loss of power leaves one of these. `syncs` is how many
 -- syncs were completed. If the store is read only, what would change the disk is refused. If it cleans, a turn of
--- cleaning is taken after each request.
+-- cleaning is taken after each request. If it flushes, a sync is a Flush of the drive; if not, nothing is sent to it.
 pub record StoreView : Type 0 where
   pub disk : DiskView
   pub since : List (List (List ℕ))
   pub syncs : ℕ
   pub read_only : Bool
   pub cleans : Bool
+  pub flushes : Bool
 
--- whether a store is read only, and whether it cleans, does not change
+-- whether a store is read only, cleans and flushes does not change
 pub record KeepsMode (old new : StoreView) : Type 0 where
   pub read_only : new.read_only ≡ old.read_only
   pub cleans : new.cleans ≡ old.cleans
+  pub flushes : new.flushes ≡ old.flushes
 
 -- ---- calls
 
@@ -32,10 +36,11 @@ IsMoment disk call array = array ≡ disk.array
 
 -- What a call of the disk gives. The disk answers as a flat array, keeps a drive that can be mounted again, and refuses
 -- nothing without a cause. A loss of power leaves an array that it could have left before, or one of the call's moments.
--- Nothing is synced.
+-- Nothing is synced, and what is durable of the drive is the same.
 pub record Calls (old : StoreView) (call : Call) (answer : Answer) (new : StoreView) : Type 0 where
   pub flat : FlatCall (flat_of old.disk) call answer (flat_of new.disk)
   pub kept : KeepsDisk old.disk new.disk
+  pub durable : new.disk.drive.durable ≡ old.disk.drive.durable
   pub cause : IfErr answer.result (DiskCause new.disk)
   pub since : (array : List (List ℕ)) → Contains new.since array → Contains old.since array ⊎ IsMoment (flat_of old.disk) call array
   pub syncs : new.syncs ≡ old.syncs
@@ -75,16 +80,45 @@ pub record Shows (old : StoreView) (first n : ℕ) (result : Result (Unit {0}) D
 
 -- ---- syncs
 
--- What a sync gives. Done, one sync more is completed, and a loss of power leaves the array as it is. A disk that does
--- not serve refuses it, as every other call. Where the medium fails, nothing is known to be kept that was not before.
+-- nothing is sent to the drive, and a loss of power leaves nothing that it could not have left before
+pub record SendsNothing (old new : StoreView) : Type 0 where
+  pub disk : new.disk ≡ old.disk
+  pub since : (array : List (List ℕ)) → Contains new.since array → Contains old.since array
+
+-- What a sync keeps of a disk that serves, done or not: its array, and the turns of a clean that are left. A loss of
+-- power leaves what it could have left before, or the array as it is. At most one command is completed.
+pub record KeepsBySync (old new : StoreView) : Type 0 where
+  pub array : disk_array new.disk ≡ disk_array old.disk
+  pub kept : KeepsServed old.disk new.disk
+  pub durable : MayBeDurable old.disk.drive new.disk.drive
+  pub turns : disk_turns new.disk ≡ disk_turns old.disk
+  pub completed : CompletesAtMost old.disk 1 new.disk
+  pub since : (array : List (List ℕ)) → Contains new.since array → Contains old.since array ⊎ (array ≡ disk_array old.disk)
+  pub syncs : old.syncs ≤ new.syncs
+  pub mode : KeepsMode old new
+  pub silent : old.flushes ≡ false → SendsNothing old new
+
+-- Done, one sync more is completed, the disk serves as before, and a loss of power leaves the array as it is.
+pub record Hardens (old new : StoreView) : Type 0 where
+  pub keeps : KeepsBySync old new
+  pub flat : flat_of new.disk ≡ flat_of old.disk
+  pub more : old.syncs < new.syncs
+  pub since : (array : List (List ℕ)) → Contains new.since array → array ≡ disk_array old.disk
+
+-- The Flush of the drive was not done.
+pub record FailsFlush (old : StoreView) (fault : DiskFault) (new : StoreView) : Type 0 where
+  pub keeps : KeepsBySync old new
+  pub flushes : old.flushes ≡ true
+  pub flat : FlatCall (flat_of old.disk) flush (with_nothing (Err fault)) (flat_of new.disk)
+  pub cause : DiskCause new.disk fault
+
+-- What a sync gives. A disk that does not serve refuses it, as every other call.
 abbrev pub Syncs : StoreView → Result (Unit {0}) StoreFault → StoreView → Type 0
-Syncs old (Ok done) new =
-    (answer_while old.disk.status ≡ None) × (new.disk ≡ old.disk) × KeepsMode old new × (old.syncs < new.syncs)
-    × ((array : List (List ℕ)) → Contains new.since array → array ≡ disk_array old.disk)
-Syncs old (Err (Disk fault)) new = (answer_while old.disk.status ≡ Some (Err fault)) × (new ≡ old)
-Syncs old (Err Medium) new =
-    (answer_while old.disk.status ≡ None) × (new.disk ≡ old.disk) × KeepsMode old new × (old.syncs ≤ new.syncs)
-    × ((array : List (List ℕ)) → Contains new.since array → Contains old.since array)
+Syncs old (Ok done) new = (answer_while old.disk.status ≡ None) × Hardens old new
+Syncs old (Err (Disk fault)) new =
+    ((answer_while old.disk.status ≡ Some (Err fault)) × (new ≡ old))
+    ⊎ ((answer_while old.disk.status ≡ None) × FailsFlush old fault new)
+Syncs old (Err Medium) new = (answer_while old.disk.status ≡ None) × KeepsBySync old new × (flat_of new.disk ≡ flat_of old.disk)
 
 -- ---- between requests
 

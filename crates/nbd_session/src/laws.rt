@@ -1,6 +1,7 @@
 //! What a client may rely on. Each function carries a law as its contract, and changes nothing.
 
-ghost use Rattle.nbd_session.specs.Laws.{ForcedIsDurable, ReadOnlyKeepsArray, SessionKeepsMode};
+ghost use Rattle.nbd_session.specs.Laws.{FlushIsSafe, ForcedIsDurable, LeftIsFound, ReadOnlyKeepsArray};
+ghost use Rattle.nbd_session.specs.Laws.{SessionKeepsMode, SessionKeepsSafe};
 
 /// What a FLUSH or a write with FUA that is answered by success leaves was synced, and is found again after a loss of
 /// power.
@@ -13,7 +14,15 @@ pub fn read_only_keeps_array()
     ensures { ReadOnlyKeepsArray }
 {}
 
-/// A session forgets no sync, and its store stays read only, and cleans, as it did before.
+/// A session forgets no sync, and its store stays read only, cleans and flushes as it did before.
 pub fn session_keeps_mode()
     ensures { SessionKeepsMode }
+{}
+
+/// What a loss of power leaves of the drive of a flushed disk is found again. A flush that is done makes it so, a session
+/// keeps it so, and a mount finds one of the arrays that the store says may be left.
+pub fn loss_is_found()
+    ensures flush { FlushIsSafe }
+    ensures session { SessionKeepsSafe }
+    ensures found { LeftIsFound }
 {}

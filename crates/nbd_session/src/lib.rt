@@ -19,7 +19,8 @@
 //!   WRITE, leave records with data. Each takes so many commands at most.
 //! - A FLUSH, and a write with FUA, is answered by success only after a sync, which a store counts. Then a loss of
 //!   power leaves the array as it is (`laws::forced_is_durable`). Until the next sync it leaves an array that the disk
-//!   had since.
+//!   had since. With the medium [`DriveFlush`] a sync is a Flush of the drive, and that loss leaves the array of the
+//!   last one: a mount of the drive finds it (`laws::loss_is_found`). Any other medium's word stands for it.
 //! - After each request a store that cleans ([`ServedDisk::cleaning`]) takes one turn of cleaning. That changes no
 //!   block. Any other store does nothing then.
 //! - The client is told whether a store is read only ([`ServedDisk::reading`]). If so, a WRITE, a TRIM and a
@@ -52,7 +53,7 @@ mod store;
 pub use asked::{Asked, MOST_BYTES};
 pub use client::Client;
 pub use fault::{MediumFault, SessionFault, StoreFault};
-pub use medium::{Medium, SyncCount, WriteThrough};
+pub use medium::{DriveFlush, Medium, SyncCount, WriteThrough};
 pub use option_answer::OptionAnswer;
 pub use phase::Phase;
 pub use served_disk::ServedDisk;

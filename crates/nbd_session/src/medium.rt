@@ -1,4 +1,4 @@
-ghost use Rattle.std.specs.Prelude.{◌≡◌, ℕ, ◌+◌, ◌<◌, ◌≤◌, OnErr, OnOk};
+ghost use Rattle.std.specs.Prelude.{◌≡◌, ℕ, ◌+◌, ◌<◌, ◌≤◌, Bool, OnErr, OnOk};
 
 use crate::fault::MediumFault;
 use std::marker::Model;
@@ -9,10 +9,18 @@ pub trait Medium {
     /// How many syncs it has completed.
     ghost syncs: { Self → ℕ };
 
+    /// Whether a sync of a disk is a Flush of its drive, which the medium only counts.
+    ghost flushes: { Self → Bool };
+
+    /// Whether the drive is flushed before each sync. That never changes.
+    fn flushes(&self) -> bool
+        ensures { result ≡ flushes self.now };
+
     /// Makes durable what was written. After a fault it never answers `Ok` again, since what it lost is unknown.
     fn sync(&mut self) -> Result<(), MediumFault>
         ensures ok { OnOk result (syncs self.old < syncs self.new) }
-        ensures err { OnErr result (syncs self.old ≤ syncs self.new) };
+        ensures err { OnErr result (syncs self.old ≤ syncs self.new) }
+        ensures flushes { flushes self.new ≡ flushes self.old };
 }
 
 /// How many syncs a medium has completed, as a medium counts them.
@@ -72,7 +80,48 @@ impl WriteThrough {
 }
 
 impl Medium for WriteThrough {
+    ghost use Rattle.std.specs.Prelude.{false};
+
     ghost syncs = { λ m. m.syncs };
+
+    ghost flushes = { λ m. false };
+
+    fn flushes(&self) -> bool {
+        false
+    }
+
+    fn sync(&mut self) -> Result<(), MediumFault> {
+        self.syncs.add_one()
+    }
+}
+
+/// The medium of a drive that says what a loss of power leaves: a sync is a Flush of that drive.
+#[derive(Debug, Drop)]
+pub struct DriveFlush {
+    syncs: SyncCount,
+}
+
+impl DriveFlush {
+    /// A medium of a drive that was never flushed.
+    pub fn new() -> DriveFlush
+        ensures { result.syncs ≡ 0 }
+    {
+        DriveFlush {
+            syncs: SyncCount::new(),
+        }
+    }
+}
+
+impl Medium for DriveFlush {
+    ghost use Rattle.std.specs.Prelude.{true};
+
+    ghost syncs = { λ m. m.syncs };
+
+    ghost flushes = { λ m. true };
+
+    fn flushes(&self) -> bool {
+        true
+    }
 
     fn sync(&mut self) -> Result<(), MediumFault> {
         self.syncs.add_one()

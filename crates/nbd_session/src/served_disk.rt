@@ -1,6 +1,9 @@
-ghost use Rattle.std.specs.Prelude.{◌≡◌, false, true};
+ghost use Rattle.std.specs.Prelude.{◌≡◌, false, true, None};
+ghost use Rattle.zone_translator.specs.Flat.{answer_while};
+ghost use Rattle.nbd_session.specs.Served.{store_of};
+ghost use Rattle.nbd_session.specs.Store.{Syncs};
 
-use crate::fault::{MediumFault, StoreFault};
+use crate::fault::StoreFault;
 use crate::medium::Medium;
 use crate::store::Store;
 use drive_port::Device;
@@ -80,6 +83,33 @@ impl<D: Device + Drop, M: Medium + Drop> ServedDisk<D, M> {
         &self.disk
     }
 
+    /// A sync of the medium.
+    fn sync_medium(&mut self) -> Result<(), StoreFault>
+        requires serves { answer_while self.old.disk.status ≡ None }
+        requires silent { M.flushes self.old.medium ≡ false }
+        ensures { Syncs (store_of M.syncs M.flushes self.old) result (store_of M.syncs M.flushes self.new) }
+    {
+        if let Err(_fault) = self.medium.sync() {
+            return Err(StoreFault::Medium);
+        }
+        Ok(())
+    }
+
+    /// A Flush of the drive, which the medium counts.
+    fn flush(&mut self) -> Result<(), StoreFault>
+        requires serves { answer_while self.old.disk.status ≡ None }
+        requires flushes { M.flushes self.old.medium ≡ true }
+        ensures { Syncs (store_of M.syncs M.flushes self.old) result (store_of M.syncs M.flushes self.new) }
+    {
+        if let Err(fault) = self.disk.flush() {
+            return Err(StoreFault::Disk(fault));
+        }
+        if let Err(_uncounted) = self.medium.sync() {
+            return Err(StoreFault::Medium);
+        }
+        Ok(())
+    }
+
     /// The disk and the medium, as they are.
     pub fn into_parts(self) -> (Disk<D>, M)
         ensures disk { result.0 ≡ self.disk }
@@ -90,17 +120,8 @@ impl<D: Device + Drop, M: Medium + Drop> ServedDisk<D, M> {
 }
 
 impl<D: Device + Drop, M: Medium + Drop> Store for ServedDisk<D, M> {
-    ghost use Rattle.std.specs.Prelude.{[], ◌∷◌};
-    ghost use Rattle.zone_translator.specs.View.{disk_array};
-
-    // The drive itself has no other array than the one that the disk serves. The syncs are those of its medium.
-    ghost view = { λ s. record {
-      disk = s.disk;
-      since = disk_array s.disk ∷ [];
-      syncs = M.syncs s.medium;
-      read_only = s.read_only;
-      cleans = s.cleans;
-    } };
+    // The syncs are those of its medium.
+    ghost view = { λ s. store_of M.syncs M.flushes s };
 
     fn block_bytes(&self) -> u32 {
         let bytes = self.disk.block_bytes();
@@ -140,9 +161,10 @@ impl<D: Device + Drop, M: Medium + Drop> Store for ServedDisk<D, M> {
             DiskStatus::Stopped => return Err(StoreFault::Disk(DiskFault::Stopped)),
             DiskStatus::Unmounted => return Err(StoreFault::Disk(DiskFault::Unmounted)),
         }
-        match self.medium.sync() {
-            Ok(()) => Ok(()),
-            Err(MediumFault) => Err(StoreFault::Medium),
+        if self.medium.flushes() {
+            self.flush()
+        } else {
+            self.sync_medium()
         }
     }
 

@@ -1,14 +1,16 @@
 -- What a command gives, by what was sent for it.
-use Rattle.std.proofs.Common.{◌≡◌, ℕ, Bool, true, false, List, [], Result, Ok, Err, refl}
+use Rattle.std.proofs.Common.{◌≡◌, ℕ, Bool, true, false, List, [], Result, Ok, Err, refl, sym, ◌∙◌, arith}
 use Rattle.std.specs.Prelude.{IfErr, IfOk}
 use Rattle.nvme_wire.specs.declared.command.Action.{Action}
 use Rattle.nvme_wire.specs.declared.command.Command.{Command}
-use Rattle.nvme_wire.specs.declared.command.Command.TheVariants.{Send}
+use Rattle.nvme_wire.specs.declared.command.Command.TheVariants.{Flush, Read, Write, Append, Send, Receive}
 use Rattle.nvme_wire.specs.declared.status.Status.TheVariants.{Success}
 use Rattle.zone_states.specs.Zone.{Zone}
 use Rattle.zone_states.specs.declared.geometry.Geometry.{Geometry}
 use Rattle.drive_port.specs.declared.device.Halt.{Halt}
 use Rattle.drive_port.specs.declared.device.Halt.TheVariants.{Memory, Stopped}
+use Rattle.drive_port.specs.Drive.{DriveState}
+use Rattle.drive_port.specs.Durable.{Hardens}
 use Rattle.drive_port.specs.Halting.{Adds}
 use Rattle.nvme_wire.specs.declared.command.DecodeFault.{DecodeFault}
 use Rattle.drive_port.specs.Step.{Effect, decode_status, outcome}
@@ -51,3 +53,13 @@ faulty-effect geometry zones fault bytes = record {
   returned_is = refl;
   after = IsClosing-refl zones;
 }
+
+-- of a drive that says nothing of a loss of power, every command changes what is durable as it must
+pub hardens-silent : (command : Result Command DecodeFault) (old new : DriveState) → old.durable ≡ [] → new.durable ≡ [] → Hardens command old new
+hardens-silent (Err fault) old new was is = is ∙ sym was
+hardens-silent (Ok Flush) old new was is = λ zones left. absurd (omega (arith, (rw is at left).1))
+hardens-silent (Ok (Read slba blocks)) old new was is = is ∙ sym was
+hardens-silent (Ok (Write slba blocks)) old new was is = is ∙ sym was
+hardens-silent (Ok (Append zslba blocks)) old new was is = is ∙ sym was
+hardens-silent (Ok (Send slba action all)) old new was is = is ∙ sym was
+hardens-silent (Ok (Receive slba dwords options partial)) old new was is = is ∙ sym was

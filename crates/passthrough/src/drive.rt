@@ -1,6 +1,6 @@
 // The device.
 
-ghost use Rattle.std.specs.Prelude.{◌≡◌, Some, false, IfErr, IfOk, OnErr, OnOk};
+ghost use Rattle.std.specs.Prelude.{◌≡◌, [], Some, false, IfErr, IfOk, OnErr, OnOk};
 ghost use Rattle.nvme_wire.specs.Entry.{decode_of};
 ghost use Rattle.zone_states.specs.Checks.{first_failing};
 ghost use Rattle.zone_states.specs.Geometry.{geometry_checks};
@@ -37,7 +37,7 @@ pub struct PassthroughDrive<P: Passthrough + Drop> {
 }
 
 impl<P: Passthrough + Drop> Model for PassthroughDrive<P> {
-    ghost use Rattle.std.specs.Prelude.{◌≡◌, ◌≤◌, ◌^◌, false, true};
+    ghost use Rattle.std.specs.Prelude.{◌≡◌, ◌≤◌, ◌^◌, [], false, true};
     ghost use Rattle.drive_port.specs.Drive.{DriveState};
     ghost use Rattle.passthrough.specs.Asking.{Leads};
     ghost use Rattle.passthrough.specs.Seen.{AreSeen};
@@ -47,6 +47,7 @@ impl<P: Passthrough + Drop> Model for PassthroughDrive<P> {
     ghost view = { λ d. record {
       geometry = d.geometry;
       zones = P.zones d.way;
+      durable = [];
       completed = d.completed;
       refused = d.refused;
       appended = d.appended;
@@ -92,6 +93,7 @@ impl<P: Passthrough + Drop> PassthroughDrive<P> {
         ensures drive { IfOk result (λ drive. drive ≡ record {
           geometry = P.shape way;
           zones = P.zones way;
+          durable = [];
           completed = 0;
           refused = 0;
           appended = 0;

@@ -97,6 +97,7 @@ begins n drive survey torn into mountable none_left known vacant only settled th
       geometry = refl;
       lawful = known.zones.lawful;
       refused = refl;
+      durable = refl;
       count = refl;
       repair = repair_begins g n torn into zones known.zones.lawful.geometry.block mountable.holds (λ zone below half. none_left zone (omega (arith, below, length-map drive.zones content_of)) half) (λ zone ne. settled-alone drive torn zone settled ne)
           (λ zone tail. tails-only drive survey.zones.items torn zone known.zones vacant only tail) only.torn.batch (omega (arith, lt, length-map drive.zones content_of)) there;

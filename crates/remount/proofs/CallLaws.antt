@@ -1,9 +1,8 @@
 -- What the commands of a repair keep, and which faults they end with.
-use Rattle.std.proofs.Common.{◌≡◌, ◌≢◌, ◌⊎◌, inl, inr, ℕ, zero, suc, ◌+◌, ◌-◌, ◌*◌, ◌/◌, ◌%◌, ◌<◌, ◌≤◌, Bool, true, false, List, [], ◌∷◌, length, set, get_or, replicate, Some, Result, Ok, Err, refl, sym, ap, subst, ◌∙◌, arith}
+use Rattle.std.proofs.Common.{◌≡◌, ◌≢◌, ◌⊎◌, inl, inr, ℕ, zero, suc, ◌+◌, ◌*◌, ◌/◌, ◌%◌, ◌<◌, ◌≤◌, Bool, true, false, List, [], ◌∷◌, length, set, get_or, Some, Result, Ok, Err, refl, sym, ap, subst, ◌∙◌, arith}
 use Rattle.std.specs.Prelude.{IfErr, OnOk, slice_get}
-use Rattle.std.specs.List.{AllByRecursion}
 use Rattle.std.proofs.lemmas.Bool.{cases_eq}
-use Rattle.std.proofs.lemmas.List.{get_or-set_other, get_or-set_same, length-append, length-map, length-replicate}
+use Rattle.std.proofs.lemmas.List.{get_or-set_other, get_or-set_same, length-map}
 use Rattle.std.proofs.lemmas.Option.{slice_get-get_or}
 use Rattle.nvme_wire.specs.declared.zone_state.ZoneState.{ZoneState}
 use Rattle.nvme_wire.specs.declared.zone_state.ZoneState.TheVariants as states
@@ -18,15 +17,13 @@ use Rattle.drive_port.specs.Step.{nowhere, zone_at}
 use Rattle.drive_port.specs.declared.calls.PortFault.{PortFault}
 use Rattle.drive_port.specs.declared.calls.PortFault.TheVariants as port
 use Rattle.drive_port.proofs.ClosingLaws.{content_at-contents}
-use Rattle.batch_log.specs.Log.{zero_block}
 use Rattle.zone_choice.specs.Agreement.{IsShut}
-use Rattle.drive_array.specs.ZoneLogs.{HasLog, drive_logs, has_torn_tail, log_at, readable, spelled, spelled_array, zone_tails}
+use Rattle.drive_array.specs.ZoneLogs.{HasLog, drive_logs, has_torn_tail, log_at, zone_tails}
 use Rattle.zone_choice.specs.Changes.{IsHalt}
 use Rattle.zone_choice.proofs.AgreementLaws.{spelled_same}
 use Rattle.drive_array.proofs.AllLaws.{all-at}
-use Rattle.zone_choice.proofs.CommandLaws.{start-below, zone-few, zone-start}
-use Rattle.drive_array.proofs.MountLaws.{finish_mounts}
-use Rattle.zone_choice.proofs.OpenLaws.{close-opens, closing-opens, settled-shut}
+use Rattle.zone_choice.proofs.CommandLaws.{start-below, zone-start}
+use Rattle.zone_choice.proofs.OpenLaws.{close-opens, closing-opens}
 use Rattle.drive_array.proofs.ZoneLogLaws.{finish_logs, tail-at}
 use Rattle.drive_survey.specs.declared.fault.MountFault.{MountFault}
 use Rattle.drive_survey.specs.declared.reported.ReportedZone.{ReportedZone}
@@ -65,31 +62,33 @@ mountable-both n a b c k l = record {
   geometry = l.geometry ∙ k.geometry;
   lawful = l.lawful;
   refused = l.refused ∙ k.refused;
+  durable = l.durable ∙ k.durable;
   mountable = λ m. l.mountable (k.mountable m);
   array = λ m. l.array (k.mountable m) ∙ k.array m;
 }
 
 -- a lawful drive with the same contents, and no refused command, stays mountable with its array
-pub mountable-same : (n : ℕ) (old new : DriveState) → SameContents old new → IsLawful new → new.refused ≡ old.refused → KeepsMountable n old new
-mountable-same n old new same lawful refused = record {
+pub mountable-same : (n : ℕ) (old new : DriveState) → SameContents old new → IsLawful new → new.refused ≡ old.refused → new.durable ≡ old.durable → KeepsMountable n old new
+mountable-same n old new same lawful refused durable = record {
   geometry = same.geometry;
   lawful = lawful;
   refused = refused;
+  durable = durable;
   mountable = λ m. record { lawful = lawful; holds = rw (same.geometry, same.contents) m.holds };
   array = λ m. spelled_same old new n same;
 }
 
 -- if contents stay and no zone is opened, a drive stays mountable with its array
 pub shut-mountable : (n : ℕ) (old new : DriveState) → KeepsShut old new → KeepsMountable n old new
-shut-mountable n old new k = mountable-same n old new (record { geometry = k.geometry; contents = k.contents_are }) k.lawful k.refused
+shut-mountable n old new k = mountable-same n old new (record { geometry = k.geometry; contents = k.contents_are }) k.lawful k.refused k.durable
 
 -- if only the controller closed zones, the contents stay and no zone is opened
 pub zones-shut : (old new : DriveState) → KeepsZones old new → KeepsShut old new
-zones-shut old new k = record { geometry = k.geometry; contents_are = kept-contents old new k; lawful = k.lawful; refused = k.refused; opens = closing-opens old.zones new.zones k.closing }
+zones-shut old new k = record { geometry = k.geometry; contents_are = kept-contents old new k; lawful = k.lawful; refused = k.refused; durable = k.durable; opens = closing-opens old.zones new.zones k.closing }
 
 -- two steps that keep the contents and open no zone do so together
 pub shut-both : (a b c : DriveState) → KeepsShut a b → KeepsShut b c → KeepsShut a c
-shut-both a b c k l = record { geometry = l.geometry ∙ k.geometry; contents_are = l.contents_are ∙ k.contents_are; lawful = l.lawful; refused = l.refused ∙ k.refused; opens = λ zone h. l.opens zone (k.opens zone h) }
+shut-both a b c k l = record { geometry = l.geometry ∙ k.geometry; contents_are = l.contents_are ∙ k.contents_are; lawful = l.lawful; refused = l.refused ∙ k.refused; durable = l.durable ∙ k.durable; opens = λ zone h. l.opens zone (k.opens zone h) }
 
 -- drives with the same contents have the same number of zones
 pub shut-count : (old new : DriveState) → contents new.zones ≡ contents old.zones → length new.zones ≡ length old.zones
@@ -299,7 +298,7 @@ pub record Settles (n torn : ℕ) (start now : DriveState) (before after : Surve
 
 -- a surveyed drive with one torn zone is settled below zone 0, before any command
 pub settles-none : (n torn : ℕ) (start : DriveState) (before : Survey) → Knows start n (drive_logs start) before → AreVacantEmpty before.zones.items (drive_logs start) → IsOnlyTorn (drive_logs start) (zone_tails (contents start.zones)) torn → Settles n torn start start before before 0
-settles-none n torn start before known vacant only = record { known = known; logs = refl; tails = refl; vacant = vacant; settled = λ zone lt ne. absurd (omega arith); done = λ zone lt ne. absurd (omega arith); rest = λ zone le. refl; opens = λ zone h. h; only = only; kept = mountable-same n start start (record { geometry = refl; contents = refl }) known.zones.lawful refl; count = refl }
+settles-none n torn start before known vacant only = record { known = known; logs = refl; tails = refl; vacant = vacant; settled = λ zone lt ne. absurd (omega arith); done = λ zone lt ne. absurd (omega arith); rest = λ zone le. refl; opens = λ zone h. h; only = only; kept = mountable-same n start start (record { geometry = refl; contents = refl }) known.zones.lawful refl refl; count = refl }
 
 -- once the next zone is settled, too, one zone more is done
 pub settles-more : (n torn : ℕ) (start now next : DriveState) (before middle after : Survey) (limit : ℕ) → Settles n torn start now before middle limit → SettlesZone n now next middle after torn limit → KeepsMountable n now next → Settles n torn start next before after (limit + 1)
@@ -362,12 +361,12 @@ can-close drive zone start reported known opened is =
 -- a Close that halts keeps the contents and opens no zone
 pub close-halts : (old new : DriveState) (start : ℕ) (fault : PortFault) → SameContents old new → CloseLeaves {V = Unit {0}} old start (Err fault) new → Obeys {V = Unit {0}} old (Err fault) new → IsNotRefused {V = Unit {0}} (Err fault) → KeepsShut old new
 close-halts old new start (port.Refused status) same leaves obeys passed = absurd passed
-close-halts old new start port.Memory same leaves obeys passed = record { geometry = same.geometry; contents_are = same.contents; lawful = obeys.lawful; refused = ap (λ (d : DriveState). d.refused) leaves; opens = close-opens {V = Unit {0}} old new start (Err port.Memory) leaves }
-close-halts old new start port.Stopped same leaves obeys passed = record { geometry = same.geometry; contents_are = same.contents; lawful = obeys.lawful; refused = (obeys.counts refl).refused; opens = close-opens {V = Unit {0}} old new start (Err port.Stopped) leaves }
+close-halts old new start port.Memory same leaves obeys passed = record { geometry = same.geometry; contents_are = same.contents; lawful = obeys.lawful; refused = ap (λ (d : DriveState). d.refused) leaves; durable = ap (λ (d : DriveState). d.durable) leaves; opens = close-opens {V = Unit {0}} old new start (Err port.Memory) leaves }
+close-halts old new start port.Stopped same leaves obeys passed = record { geometry = same.geometry; contents_are = same.contents; lawful = obeys.lawful; refused = (obeys.counts refl).refused; durable = obeys.durable; opens = close-opens {V = Unit {0}} old new start (Err port.Stopped) leaves }
 
 -- a Close that succeeds keeps the contents and opens no zone
 pub close-done : (old new : DriveState) (start : ℕ) → SameContents old new → CloseLeaves {V = Unit {0}} old start (Ok tt) new → Obeys {V = Unit {0}} old (Ok tt) new → ClosedZone old new start → KeepsShut old new
-close-done old new start same leaves obeys done = record { geometry = same.geometry; contents_are = same.contents; lawful = obeys.lawful; refused = done.counts.refused; opens = close-opens {V = Unit {0}} old new start (Ok tt) leaves }
+close-done old new start same leaves obeys done = record { geometry = same.geometry; contents_are = same.contents; lawful = obeys.lawful; refused = done.counts.refused; durable = obeys.durable; opens = close-opens {V = Unit {0}} old new start (Ok tt) leaves }
 
 -- after a Close that succeeds its zone is not open
 pub close-shuts : (old new : DriveState) (zone start : ℕ) → StartsAt old zone start → zone < length old.zones → CloseLeaves {V = Unit {0}} old start (Ok tt) new → IsShut new.zones zone

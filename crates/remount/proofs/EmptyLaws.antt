@@ -21,7 +21,7 @@ use Rattle.drive_survey.specs.Known.{Knows}
 use Rattle.remount.specs.Mount.{AreToEmpty}
 use Rattle.remount.specs.Resets.{KeepsWritten, MayChange, MayReset, OpensNoZone, ResetsAll, reported_empty, set_all}
 use Rattle.drive_survey.specs.Scan.{AreKnown, heads_in, tails_in}
-use Rattle.remount.proofs.KeepLaws.{keeps-mountable-both, keeps-mountable-none, reset-keeps, without-vacant}
+use Rattle.remount.proofs.KeepLaws.{keeps-mountable-both, reset-keeps, without-vacant}
 use Rattle.remount.proofs.SetAllLaws.{cleared-set_all, get-set_all, get_or-set_all_other, map-set_all, set_all-both, set_all-parts}
 
 -- ---- logs and tails

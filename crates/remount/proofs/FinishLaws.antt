@@ -361,5 +361,6 @@ may-finish old new zone P p change = record {
   geometry = change.geometry;
   lawful = change.lawful;
   refused = change.refused;
+  durable = change.durable;
   contents_are = elim change.contents_are as (λ _. (contents new.zones ≡ contents old.zones) ⊎ (Finishes (contents old.zones) (contents new.zones) zone × P)) [ inl same ↦ inl same | inr finishes ↦ inr (finishes, p) ];
 }

@@ -20,7 +20,7 @@ use Rattle.remount.specs.Resets.{MayChange}
 
 -- an unchanged lawful drive stays mountable with its array
 pub keeps-mountable-none : (n : ℕ) (drive : DriveState) → IsLawful drive → KeepsMountable n drive drive
-keeps-mountable-none n drive lawful = record { geometry = refl; lawful = lawful; refused = refl; mountable = λ is. is; array = λ is. refl }
+keeps-mountable-none n drive lawful = record { geometry = refl; lawful = lawful; refused = refl; durable = refl; mountable = λ is. is; array = λ is. refl }
 
 -- two steps that each keep a drive mountable, with its array, keep it so together
 pub keeps-mountable-both : (n : ℕ) (a b c : DriveState) → KeepsMountable n a b → KeepsMountable n b c → KeepsMountable n a c
@@ -28,6 +28,7 @@ keeps-mountable-both n a b c p q = record {
   geometry = q.geometry ∙ p.geometry;
   lawful = q.lawful;
   refused = q.refused ∙ p.refused;
+  durable = q.durable ∙ p.durable;
   mountable = λ is. q.mountable (p.mountable is);
   array = λ is. q.array (p.mountable is) ∙ p.array is;
 }
@@ -65,6 +66,7 @@ reset-keeps n old new zone may change = record {
   geometry = change.geometry;
   lawful = change.lawful;
   refused = change.refused;
+  durable = change.durable;
   mountable = λ is. elim change.contents_are as (λ _. IsMountable new n) [
     | inl same ↦ same-mountable n old new change.geometry change.lawful same is
     | inr resets ↦ record { lawful = change.lawful; holds = rw change.geometry (reset-mounts n old new zone may resets is).mountable }
@@ -95,6 +97,7 @@ finish-keeps n old new zone Changes can change = record {
   geometry = change.geometry;
   lawful = change.lawful;
   refused = change.refused;
+  durable = change.durable;
   mountable = λ is. elim change.contents_are as (λ _. IsMountable new n) [
     | inl same ↦ same-mountable n old new change.geometry change.lawful same is
     | inr changes ↦ (

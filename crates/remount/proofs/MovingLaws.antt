@@ -43,13 +43,14 @@ use Rattle.remount.proofs.MovePlanLaws.{heads-more, move-batch, move-few, move-h
 -- unless the torn zone is half clean beside a torn tail
 mounts-by : (n : ℕ) (start now : DriveState) (torn into : ℕ) → start.geometry.block < 2 ^ 32 → IsOnRepair start.geometry n (contents start.zones) (contents now.zones) torn into
     → (has_torn_tail (content_at (contents now.zones) into) ≡ true → IsHalfClean start.geometry.block n (zone_logs start.geometry (contents now.zones)) torn → ⊥)
-    → now.geometry ≡ start.geometry → IsLawful now → now.refused ≡ start.refused → KeepsMountable n start now
-mounts-by n start now torn into small repair needed geometry lawful refused =
+    → now.geometry ≡ start.geometry → IsLawful now → now.refused ≡ start.refused → now.durable ≡ start.durable → KeepsMountable n start now
+mounts-by n start now torn into small repair needed geometry lawful refused durable =
     let keeps = repair_mounts start.geometry n torn into (contents start.zones) (contents now.zones) small repair needed in
     record {
       geometry = geometry;
       lawful = lawful;
       refused = refused;
+      durable = durable;
       mountable = λ m. record { lawful = lawful; holds = rw geometry keeps.mountable };
       array = λ m. rw geometry keeps.array;
     }
@@ -61,7 +62,7 @@ moving-small n start now torn into made m = let small = m.lawful.geometry.block 
 -- between two Moves a drive is mountable, with the array that it had at the start
 pub moving-mounts : (n : ℕ) (start now : DriveState) (torn into : ℕ) (made : List Batch) → IsMoving n start now torn into made → KeepsMountable n start now
 moving-mounts n start now torn into made m =
-    mounts-by n start now torn into (moving-small n start now torn into made m) m.repair (λ tail half. let bad : false ≡ true = sym m.whole ∙ tail in absurd (cc)) m.geometry m.lawful m.refused
+    mounts-by n start now torn into (moving-small n start now torn into made m) m.repair (λ tail half. let bad : false ≡ true = sym m.whole ∙ tail in absurd (cc)) m.geometry m.lawful m.refused m.durable
 
 -- if no zone is opened, and the contents stay
 moving-kept : (n : ℕ) (start now next : DriveState) (torn into : ℕ) (made : List Batch) → KeepsShut now next → IsMoving n start now torn into made → IsMoving n start next torn into made
@@ -72,6 +73,7 @@ moving-kept n start now next torn into made k m =
       geometry = k.geometry ∙ m.geometry;
       lawful = k.lawful;
       refused = k.refused ∙ m.refused;
+      durable = k.durable ∙ m.durable;
       count = shut-count now next same ∙ m.count;
       repair = rw same m.repair;
       log = rw same m.log;
@@ -240,6 +242,7 @@ moved-more n start now next torn into made b m is t done =
       geometry = t.geometry ∙ m.geometry;
       lawful = t.lawful;
       refused = t.refused ∙ m.refused;
+      durable = t.durable ∙ m.durable;
       count = omega (arith, ap length zones, length-set (contents now.zones) into made_content, length-map next.zones content_of, length-map now.zones content_of, m.count);
       repair = done.repair;
       log = done.log ∙ ap (λ (log : List Batch). log ++ b ∷ []) m.log;
@@ -330,6 +333,6 @@ at-stop n start now next tables plan k heads a lt some = by some
           let few : j < length (batch_blocks g.block b) = omega (arith, less, t.few, long) in
           let small = moving-small n start now plan.torn plan.into moves m in
           let tears = torn_move_repairs g n plan.torn plan.into j (contents start.zones) (contents now.zones) (contents next.zones) b small m.repair is m.whole few (omega (arith, few, long, m.written, move-room g n k (drive_logs start) source plan a.can lt)) (rw m.geometry at t.appends) in
-          mounts-by n start next plan.torn plan.into small tears.repair (λ tail half. torn-half n start now next tables plan k heads a lt tears half) (t.geometry ∙ m.geometry) t.lawful (t.refused ∙ m.refused)
+          mounts-by n start next plan.torn plan.into small tears.repair (λ tail half. torn-half n start now next tables plan k heads a lt tears half) (t.geometry ∙ m.geometry) t.lawful (t.refused ∙ m.refused) (t.durable ∙ m.durable)
           )
     ]

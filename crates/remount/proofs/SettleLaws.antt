@@ -149,10 +149,10 @@ torn-emptied n start now new tables plan heads a geometry lawful resets =
     }
 
 -- after the last Move a Reset of the torn zone, if not refused, keeps the drive mountable
-pub emptied-mountable : (n : ℕ) (start now new : DriveState) (tables : TablesView) (plan : MovePlan) (heads : HeadsView) → IsAtMove n start now tables plan (move_count plan) heads → new.geometry ≡ now.geometry → IsLawful new → new.refused ≡ now.refused → Resets (contents now.zones) (contents new.zones) plan.torn → KeepsMountable n start new
-emptied-mountable n start now new tables plan heads a geometry lawful refused resets =
+pub emptied-mountable : (n : ℕ) (start now new : DriveState) (tables : TablesView) (plan : MovePlan) (heads : HeadsView) → IsAtMove n start now tables plan (move_count plan) heads → new.geometry ≡ now.geometry → IsLawful new → new.refused ≡ now.refused → new.durable ≡ now.durable → Resets (contents now.zones) (contents new.zones) plan.torn → KeepsMountable n start new
+emptied-mountable n start now new tables plan heads a geometry lawful refused durable resets =
     let t = torn-emptied n start now new tables plan heads a (geometry ∙ a.moving.geometry) lawful resets in
-    record { geometry = geometry ∙ a.moving.geometry; lawful = lawful; refused = refused ∙ a.moving.refused; mountable = λ m. t.mountable; array = λ m. t.array }
+    record { geometry = geometry ∙ a.moving.geometry; lawful = lawful; refused = refused ∙ a.moving.refused; durable = durable ∙ a.moving.durable; mountable = λ m. t.mountable; array = λ m. t.array }
 
 -- the torn zone can be used, and starts at this address
 pub record CanEmpty (now : DriveState) (torn start : ℕ) : Type 0 where
@@ -170,12 +170,12 @@ pub reset-halts : (n : ℕ) (start now new : DriveState) (tables : TablesView) (
     → ResetKeeps {V = Unit {0}} now address (Err fault) new → ResetLeaves {V = Unit {0}} now address (Err fault) new → Obeys {V = Unit {0}} now (Err fault) new → IsNotRefused {V = Unit {0}} (Err fault) → KeepsMountable n start new
 reset-halts n start now new tables plan heads address (port.Refused status) a at kept leaves obeys passed = absurd passed
 reset-halts n start now new tables plan heads address port.Memory a at kept leaves obeys passed =
-    mountable-both n start now new (moving-mounts n start now plan.torn plan.into (moves_before (source_of start tables plan.torn) plan (move_count plan)) a.moving) (mountable-same n now new kept obeys.lawful (ap (λ (d : DriveState). d.refused) leaves))
+    mountable-both n start now new (moving-mounts n start now plan.torn plan.into (moves_before (source_of start tables plan.torn) plan (move_count plan)) a.moving) (mountable-same n now new kept obeys.lawful (ap (λ (d : DriveState). d.refused) leaves) (ap (λ (d : DriveState). d.durable) leaves))
 reset-halts n start now new tables plan heads address port.Stopped a at kept leaves obeys passed = by kept
   where
     by : SameContents now new ⊎ ResetContents now new address → KeepsMountable n start new
-    by (inl same) = mountable-both n start now new (moving-mounts n start now plan.torn plan.into (moves_before (source_of start tables plan.torn) plan (move_count plan)) a.moving) (mountable-same n now new same obeys.lawful (obeys.counts refl).refused)
-    by (inr done) = emptied-mountable n start now new tables plan heads a obeys.geometry obeys.lawful (obeys.counts refl).refused (rw at.index at done.contents)
+    by (inl same) = mountable-both n start now new (moving-mounts n start now plan.torn plan.into (moves_before (source_of start tables plan.torn) plan (move_count plan)) a.moving) (mountable-same n now new same obeys.lawful (obeys.counts refl).refused obeys.durable)
+    by (inr done) = emptied-mountable n start now new tables plan heads a obeys.geometry obeys.lawful (obeys.counts refl).refused obeys.durable (rw at.index at done.contents)
 
 -- after the last Move a Reset empties the torn zone, and the Moves stay
 pub reset-done : (n : ℕ) (start now new : DriveState) (tables : TablesView) (plan : MovePlan) (heads : HeadsView) (address : ℕ) → IsAtMove n start now tables plan (move_count plan) heads → StartsAt now plan.torn address

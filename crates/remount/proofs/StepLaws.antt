@@ -33,7 +33,7 @@ use Rattle.remount.specs.Mount.{AreMountedRoles, AreToEmpty, AreWhole, CannotRep
 use Rattle.drive_survey.specs.Reported.{KeepsZones}
 use Rattle.remount.specs.Resets.{CanBeFilled, KeepsGoing, KeepsWritten, ResetsAll}
 use Rattle.drive_survey.specs.Scan.{FailsBy, heads_in}
-use Rattle.drive_survey.specs.Survey.{CanScan, HoldLogs, SurveyFails, Surveys, drive_size}
+use Rattle.drive_survey.specs.Survey.{CanScan, HoldLogs, Surveys, drive_size}
 use Rattle.drive_array.proofs.ClearingLaws.{clearing_keeps, one_clearing}
 use Rattle.drive_survey.proofs.AllScanLaws.{there-is}
 use Rattle.remount.proofs.EmptyLaws.{CanEmpty, knows-cleared, logs-cleared, tails-emptied, vacant-emptied, written-stay}
@@ -54,6 +54,7 @@ closing-keeps old new n k = record {
   geometry = k.geometry;
   lawful = k.lawful;
   refused = k.refused;
+  durable = k.durable;
   mountable = λ is. record { lawful = k.lawful; holds = rw (k.geometry, kept-contents old new k) is.holds };
   array = λ is. rw (k.geometry, kept-contents old new k) refl;
 }

@@ -41,9 +41,9 @@ starts : (drive : DriveState) (zone start : ℕ) (builder : BuilderView) → sta
 starts drive zone start builder is can = rw is (zone-start zone drive.geometry.size can.range.size.0).0
 
 -- it took all of it
-pub takes-all : (old new : DriveState) (zone start address : ℕ) (builder : BuilderView) (bytes : List ℕ) → bytes ≡ builder.bytes → start ≡ zone * old.geometry.size → CanTake old zone builder → Appended old new start bytes address → AppendLeaves old start bytes (Ok address) new → IsLawful new
+pub takes-all : (old new : DriveState) (zone start address : ℕ) (builder : BuilderView) (bytes : List ℕ) → bytes ≡ builder.bytes → start ≡ zone * old.geometry.size → CanTake old zone builder → Appended old new start bytes address → AppendLeaves old start bytes (Ok address) new → IsLawful new → new.durable ≡ old.durable
     → TakesFirst old new zone (built old.geometry.block builder) (batch_size (built old.geometry.block builder))
-takes-all old new zone start address builder bytes bytes-are is can done leaves lawful =
+takes-all old new zone start address builder bytes bytes-are is can done leaves lawful durable =
     let g = old.geometry in
     let b = built g.block builder in
     let s = sized g builder can.range can.heading can.whole in
@@ -53,6 +53,7 @@ takes-all old new zone start address builder bytes bytes-are is can done leaves 
       geometry = done.geometry;
       lawful = lawful;
       refused = done.counts.refused;
+      durable = durable;
       few = omega arith;
       appends = rw all (rw (bytes-are, index, s.cut) at done.contents);
       opens = rw index at (append-opens old new start bytes (Ok address) leaves);
@@ -62,11 +63,11 @@ takes-all old new zone start address builder bytes bytes-are is can done leaves 
 pub takes-some : (old new : DriveState) (zone start : ℕ) (builder : BuilderView) (bytes : List ℕ) (fault : PortFault) → bytes ≡ builder.bytes → start ≡ zone * old.geometry.size → CanTake old zone builder
     → AppendKeeps old start bytes (Err fault) new → AppendLeaves old start bytes (Err fault) new → Obeys {V = ℕ} old (Err fault) new → IsNotRefused {V = ℕ} (Err fault) → TakesSome old new zone (built old.geometry.block builder)
 takes-some old new zone start builder bytes (port.Refused status) bytes-are is can kept leaves obeys passed = absurd passed
-takes-some old new zone start builder bytes port.Memory bytes-are is can kept leaves obeys passed = inl (λ n. mountable-same n old new kept obeys.lawful (ap (λ (d : DriveState). d.refused) leaves))
+takes-some old new zone start builder bytes port.Memory bytes-are is can kept leaves obeys passed = inl (λ n. mountable-same n old new kept obeys.lawful (ap (λ (d : DriveState). d.refused) leaves) (ap (λ (d : DriveState). d.durable) leaves))
 takes-some old new zone start builder bytes port.Stopped bytes-are is can kept leaves obeys passed = by kept
   where
     by : SameContents old new ⊎ AppendedFront old new start bytes → TakesSome old new zone (built old.geometry.block builder)
-    by (inl same) = inl (λ n. mountable-same n old new same obeys.lawful (obeys.counts refl).refused)
+    by (inl same) = inl (λ n. mountable-same n old new same obeys.lawful (obeys.counts refl).refused obeys.durable)
     by (inr some) =
         let g = old.geometry in
         let b = built g.block builder in
@@ -79,6 +80,7 @@ takes-some old new zone start builder bytes port.Stopped bytes-are is can kept l
             geometry = some.geometry;
             lawful = obeys.lawful;
             refused = (obeys.counts refl).refused;
+            durable = obeys.durable;
             few = omega (arith, few, size-blocks g.block builder);
             appends = rw (bytes-are, index, s.cut) at some.contents;
             opens = rw index at (append-opens old new start bytes (Err port.Stopped) leaves);

@@ -18,6 +18,7 @@ pub record KeepsMountable (n : ℕ) (old new : DriveState) : Type 0 where
   pub geometry : new.geometry ≡ old.geometry
   pub lawful : IsLawful new
   pub refused : new.refused ≡ old.refused
+  pub durable : new.durable ≡ old.durable
   pub mountable : IsMountable old n → IsMountable new n
   pub array : IsMountable old n → spelled new n ≡ spelled old n
 

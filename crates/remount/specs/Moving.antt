@@ -45,6 +45,7 @@ pub record KeepsShut (old new : DriveState) : Type 0 where
   pub contents_are : contents new.zones ≡ contents old.zones
   pub lawful : IsLawful new
   pub refused : new.refused ≡ old.refused
+  pub durable : new.durable ≡ old.durable
   pub opens : (zone : ℕ) → IsShut old.zones zone → IsShut new.zones zone
 
 -- A zone without a torn tail was finished: all logs and tails stay.
@@ -95,6 +96,7 @@ pub record TakesFirst (old new : DriveState) (zone : ℕ) (batch : Batch) (j : �
   pub geometry : new.geometry ≡ old.geometry
   pub lawful : IsLawful new
   pub refused : new.refused ≡ old.refused
+  pub durable : new.durable ≡ old.durable
   pub few : j ≤ batch_size batch
   pub appends : Appends (contents old.zones) (contents new.zones) old.geometry.capacity zone (take j (batch_blocks old.geometry.block batch))
   pub opens : (other : ℕ) → other ≢ zone → IsShut old.zones other → IsShut new.zones other
@@ -228,6 +230,7 @@ pub record IsMoving (n : ℕ) (start now : DriveState) (torn into : ℕ) (made :
   pub geometry : now.geometry ≡ start.geometry
   pub lawful : IsLawful now
   pub refused : now.refused ≡ start.refused
+  pub durable : now.durable ≡ start.durable
   pub count : length now.zones ≡ length start.zones
   pub repair : IsOnRepair start.geometry n (contents start.zones) (contents now.zones) torn into
   pub log : zone_log start.geometry (content_at (contents now.zones) into) ≡ made

@@ -24,6 +24,7 @@ pub record MayChange (Changes : List Content → List Content → Type 0) (old n
   pub geometry : new.geometry ≡ old.geometry
   pub lawful : IsLawful new
   pub refused : new.refused ≡ old.refused
+  pub durable : new.durable ≡ old.durable
   pub contents_are : (contents new.zones ≡ contents old.zones) ⊎ Changes (contents old.zones) (contents new.zones)
 
 -- no zone was opened

@@ -97,6 +97,7 @@ places-closed a b c zone batch closes noted placed =
       roles = placed.roles ∙ rw (same.geometry, noted, twice) refl;
       geometry = placed.geometry ∙ same.geometry;
       refused = placed.refused ∙ closes.kept.refused;
+      durable = placed.durable ∙ closes.kept.durable;
       appended = placed.appended ∙ ap (λ (n : ℕ). n + 1) closes.kept.appended;
     }
 
@@ -110,6 +111,7 @@ closes-join a b c zone p q = record {
     agrees = q.kept.agrees;
     same = record { geometry = q.kept.same.geometry ∙ p.kept.same.geometry; contents = q.kept.same.contents ∙ p.kept.same.contents };
     refused = q.kept.refused ∙ p.kept.refused;
+    durable = q.kept.durable ∙ p.kept.durable;
     appended = q.kept.appended ∙ p.kept.appended;
   };
 }
@@ -129,6 +131,7 @@ stops-closed a b c zone batch closes stops =
       mountable = rw (given, same.geometry) at stops.mountable;
       geometry = stops.geometry ∙ same.geometry;
       refused = stops.refused ∙ closes.kept.refused;
+      durable = stops.durable ∙ closes.kept.durable;
       appended = stops.appended ∙ closes.kept.appended;
     }
 
@@ -164,6 +167,7 @@ stops-before a b zone batch stops =
       mountable = λ spare. subst (IsMountable b.drive) given (agrees_mountable b.drive b.tables kept.agrees (subst (λ (n : ℕ). HasSpare n b.tables.given (drive_logs b.drive)) (sym block) (subst (λ (n : ℕ). HasSpare a.drive.geometry.block n (drive_logs b.drive)) (sym given) spare)));
       geometry = kept.same.geometry;
       refused = kept.refused;
+      durable = kept.durable;
       appended = kept.appended;
     }
 
@@ -201,6 +205,7 @@ closes-keeps a b zone closes =
       second = rw tables (same-second a.tables.roles zone);
       geometry = kept.same.geometry;
       refused = kept.refused;
+      durable = kept.durable;
       appended = kept.appended;
     }
 

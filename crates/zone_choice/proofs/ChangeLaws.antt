@@ -42,15 +42,15 @@ use Rattle.zone_choice.proofs.StopLaws.{Left, left-same, left-torn, left-whole}
 
 -- what changes nothing keeps the array
 pub keeps-refl : (drive : DriveState) (tables : TablesView) → Agrees (mounted drive tables) → KeepsArray (mounted drive tables) (mounted drive tables)
-keeps-refl drive tables agrees = record { agrees = agrees; logs = refl; array = refl; places = refl; next = refl; given = refl; spare = λ some. some; sealed = λ zone is. is; second = refl; geometry = refl; refused = refl; appended = refl }
+keeps-refl drive tables agrees = record { agrees = agrees; logs = refl; array = refl; places = refl; next = refl; given = refl; spare = λ some. some; sealed = λ zone is. is; second = refl; geometry = refl; refused = refl; durable = refl; appended = refl }
 
 -- and so does a halt that left the drive
 pub keeps-halt : (old new : DriveState) (tables : TablesView) → new ≡ old → Agrees (mounted old tables) → KeepsArray (mounted old tables) (mounted new tables)
 keeps-halt old new tables same agrees = rw same (keeps-refl old tables agrees)
 
 -- a command that changes no content and opens no zone
-pub keeps-same : (old new : DriveState) (tables : TablesView) → Agrees (mounted old tables) → SameContents old new → OpensNone old.zones new.zones → IsLawful new → new.refused ≡ old.refused → new.appended ≡ old.appended → KeepsArray (mounted old tables) (mounted new tables)
-keeps-same old new tables agrees same opens lawful refused appended = record {
+pub keeps-same : (old new : DriveState) (tables : TablesView) → Agrees (mounted old tables) → SameContents old new → OpensNone old.zones new.zones → IsLawful new → new.refused ≡ old.refused → new.durable ≡ old.durable → new.appended ≡ old.appended → KeepsArray (mounted old tables) (mounted new tables)
+keeps-same old new tables agrees same opens lawful refused durable appended = record {
   agrees = agrees_same old new tables same opens lawful agrees;
   logs = rw (same.geometry, same.contents) refl;
   array = spelled_same old new tables.given same;
@@ -62,12 +62,13 @@ keeps-same old new tables agrees same opens lawful refused appended = record {
   second = refl;
   geometry = same.geometry;
   refused = refused;
+  durable = durable;
   appended = appended;
 }
 
 -- and was counted
-pub keeps-contents : (old new : DriveState) (tables : TablesView) → Agrees (mounted old tables) → SameContents old new → OpensNone old.zones new.zones → IsLawful new → Counts old new 0 → KeepsArray (mounted old tables) (mounted new tables)
-keeps-contents old new tables agrees same opens lawful counts = keeps-same old new tables agrees same opens lawful counts.refused (omega (arith, counts.appended))
+pub keeps-contents : (old new : DriveState) (tables : TablesView) → Agrees (mounted old tables) → SameContents old new → OpensNone old.zones new.zones → IsLawful new → new.durable ≡ old.durable → Counts old new 0 → KeepsArray (mounted old tables) (mounted new tables)
+keeps-contents old new tables agrees same opens lawful durable counts = keeps-same old new tables agrees same opens lawful counts.refused durable (omega (arith, counts.appended))
 
 -- the tables have more room
 pub keeps-room : (drive : DriveState) (old new : TablesView) → SameButReady old new → Agrees (mounted drive old) → KeepsArray (mounted drive old) (mounted drive new)
@@ -83,6 +84,7 @@ keeps-room drive old new room agrees = record {
   second = ap (λ (r : RolesView). option_map (second_with closed) r.second) room.roles;
   geometry = refl;
   refused = refl;
+  durable = refl;
   appended = refl;
 }
 
@@ -241,9 +243,9 @@ told-with old tables zone b size =
 
 -- its Append was done, and tables and drive agree again
 pub place_writes : (old new : DriveState) (tables grown after : TablesView) (zone start address blocks : ℕ) (builder : BuilderView) (bytes : List ℕ) → bytes ≡ builder.bytes → IsBuilt old.geometry.block builder → CanPlace (mounted old tables) zone (built old.geometry.block builder) → roles_alone old.geometry tables.roles zone ≡ tables.roles → start ≡ zone * old.geometry.size
-    → Appended old new start bytes address → PortLeaves old start bytes (Ok address) new → IsLawful new → blocks ≡ batch_size (built old.geometry.block builder) → GrowsTo tables (size_with tables (built old.geometry.block builder)) grown → after ≡ tables_placed grown zone builder address blocks
+    → Appended old new start bytes address → PortLeaves old start bytes (Ok address) new → IsLawful new → new.durable ≡ old.durable → blocks ≡ batch_size (built old.geometry.block builder) → GrowsTo tables (size_with tables (built old.geometry.block builder)) grown → after ≡ tables_placed grown zone builder address blocks
     → Places (mounted old tables) (mounted new after) zone (built old.geometry.block builder)
-place_writes old new tables grown after zone start address blocks builder bytes bytes-are is can alone start-is appended leaves lawful blocks-is grows after-is =
+place_writes old new tables grown after zone start address blocks builder bytes bytes-are is can alone start-is appended leaves lawful durable blocks-is grows after-is =
     let g = old.geometry in
     let b = built g.block builder in
     let s = sized g builder can.agrees.geometry can.heading is in
@@ -271,6 +273,7 @@ place_writes old new tables grown after zone start address blocks builder bytes 
       roles = rw alone refl;
       geometry = appended.geometry;
       refused = appended.counts.refused;
+      durable = durable;
       appended = appended.counts.appended;
     })
 
@@ -302,6 +305,7 @@ stops_inside old new tables zone start builder is can start-is kept leaves obeys
       mountable = rw (← obeys.geometry) left.mountable;
       geometry = obeys.geometry;
       refused = (obeys.counts refl).refused;
+      durable = obeys.durable;
       appended = (obeys.counts refl).appended;
     }
 

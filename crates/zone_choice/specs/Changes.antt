@@ -43,6 +43,7 @@ pub record KeepsArray (before after : MountedView) : Type 0 where
   pub second : option_map (second_with closed) after.tables.roles.second ≡ option_map (second_with closed) before.tables.roles.second
   pub geometry : after.drive.geometry ≡ before.drive.geometry
   pub refused : after.drive.refused ≡ before.drive.refused
+  pub durable : after.drive.durable ≡ before.drive.durable
   pub appended : after.drive.appended ≡ before.drive.appended
 
 -- the size that a disk has with a batch more, which says none below the disk's: that of the batch's header, or the disk's own where that says none
@@ -98,6 +99,7 @@ pub record KeepsContents (before after : MountedView) : Type 0 where
   pub agrees : Agrees after
   pub same : SameContents before.drive after.drive
   pub refused : after.drive.refused ≡ before.drive.refused
+  pub durable : after.drive.durable ≡ before.drive.durable
   pub appended : after.drive.appended ≡ before.drive.appended
 
 -- At an open limit of 1 the zone beside this one, which might be open, was closed, and the tables say so.
@@ -139,6 +141,7 @@ pub record Places (before after : MountedView) (zone : ℕ) (batch : Batch) : Ty
   pub roles : after.tables.roles ≡ wrote (roles_alone before.drive.geometry before.tables.roles zone) zone (batch_size batch)
   pub geometry : after.drive.geometry ≡ before.drive.geometry
   pub refused : after.drive.refused ≡ before.drive.refused
+  pub durable : after.drive.durable ≡ before.drive.durable
   pub appended : after.drive.appended ≡ before.drive.appended + 1
 
 -- Where the next sequence is this or greater, no batch is written any more: so sequences are left for the Moves that may
@@ -180,6 +183,7 @@ pub record StopsInside (before after : MountedView) (zone : ℕ) (batch : Batch)
   pub mountable : HasSpare before.drive.geometry.block before.tables.given (drive_logs after.drive) → IsMountable after.drive before.tables.given
   pub geometry : after.drive.geometry ≡ before.drive.geometry
   pub refused : after.drive.refused ≡ before.drive.refused
+  pub durable : after.drive.durable ≡ before.drive.durable
   pub appended : after.drive.appended ≡ before.drive.appended
 
 -- what an Append of a batch leaves, by its answer: where an allocation fails, the zone beside may have been closed

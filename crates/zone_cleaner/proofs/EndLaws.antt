@@ -65,6 +65,7 @@ carry_stops before after c agrees is stops =
       tables = stops-close before after is.destination.zone (gathered_move (size_of before.tables) before.tables.next c.victim c.gathered) stops;
       geometry = stops.geometry;
       refused = stops.refused;
+      durable = stops.durable;
       appended = stops.appended;
     }
   where
@@ -154,7 +155,7 @@ reset_fails old new tables c start port.Stopped agrees is due start-is gives kep
     opens = reset-opens {V = Unit {0}} old new start (Err port.Stopped) leaves
 
     by : SameContents old new ⊎ ResetContents old new start → StopsClean (mounted old tables) (mounted new tables)
-    by (inl same) = stops_kept (mounted old tables) (mounted new tables) c agrees is (keeps-same old new tables agrees same opens obeys.lawful (obeys.counts refl).refused (obeys.counts refl).appended) refl (obeys.stops refl)
+    by (inl same) = stops_kept (mounted old tables) (mounted new tables) c agrees is (keeps-same old new tables agrees same opens obeys.lawful (obeys.counts refl).refused obeys.durable (obeys.counts refl).appended) refl (obeys.stops refl)
     by (inr done) =
         let index = (zone-start c.victim old.geometry.size agrees.geometry.size.0).0 in
         let after = reset_gives old new tables c agrees is due obeys.geometry obeys.lawful (rw (start-is, index) at done.contents) opens in
@@ -166,13 +167,14 @@ reset_fails old new tables c start port.Stopped agrees is due start-is gives kep
           tables = inl refl;
           geometry = obeys.geometry;
           refused = (obeys.counts refl).refused;
+          durable = obeys.durable;
           appended = (obeys.counts refl).appended;
         }
 
 -- and one that was
 pub reset_done : (old new : DriveState) (tables after : TablesView) (c : CleanView) (start : ℕ) → Agrees (mounted old tables) → IsClean (mounted old tables) c → ResetDue (mounted old tables) c → start ≡ c.victim * old.geometry.size
-    → ResetZone old new start → ResetLeaves {V = Unit {0}} old start (Ok tt) new → IsLawful new → after ≡ record tables { roles = clean_ended tables.roles c.victim } → EmptiesVictim (mounted old tables) (mounted new after) c.victim
-reset_done old new tables after c start agrees is due start-is done leaves lawful after-is =
+    → ResetZone old new start → ResetLeaves {V = Unit {0}} old start (Ok tt) new → IsLawful new → new.durable ≡ old.durable → after ≡ record tables { roles = clean_ended tables.roles c.victim } → EmptiesVictim (mounted old tables) (mounted new after) c.victim
+reset_done old new tables after c start agrees is due start-is done leaves lawful durable after-is =
     let index = (zone-start c.victim old.geometry.size agrees.geometry.size.0).0 in
     let opens : OpensNone old.zones new.zones = reset-opens {V = Unit {0}} old new start (Ok tt) leaves in
     let gives = reset_gives old new tables c agrees is due done.geometry lawful (rw (start-is, index) at done.contents) opens in
@@ -186,6 +188,7 @@ reset_done old new tables after c start agrees is due start-is done leaves lawfu
       roles = refl;
       geometry = done.geometry;
       refused = done.counts.refused;
+      durable = durable;
       appended = omega (arith, done.counts.appended);
     })
 

@@ -32,6 +32,7 @@ stops_kept before after c agrees is kept same stopped = record {
   tables = inl same;
   geometry = kept.geometry;
   refused = kept.refused;
+  durable = kept.durable;
   appended = kept.appended;
 }
 

@@ -21,9 +21,9 @@ holds : (drive : DriveState) (tables : TablesView) (block : ℕ) (at : Place) �
 holds drive tables block at stored = rw stored.place (holds_place drive tables block stored.agrees stored.in_range)
 
 -- a Read that is done
-pub fetch_reads : (old new : DriveState) (tables : TablesView) (block : ℕ) (at : Place) → IsStoredAt (mounted old tables) block at → SameContents old new → IsClosing old.zones new.zones → IsLawful new → Counts old new 0 → OnlyReads (mounted old tables) (mounted new tables)
-fetch_reads old new tables block at stored same closing lawful counts = record {
-  kept = keeps-contents old new tables stored.agrees same (closing-opens old.zones new.zones closing) lawful counts;
+pub fetch_reads : (old new : DriveState) (tables : TablesView) (block : ℕ) (at : Place) → IsStoredAt (mounted old tables) block at → SameContents old new → IsClosing old.zones new.zones → IsLawful new → new.durable ≡ old.durable → Counts old new 0 → OnlyReads (mounted old tables) (mounted new tables)
+fetch_reads old new tables block at stored same closing lawful durable counts = record {
+  kept = keeps-contents old new tables stored.agrees same (closing-opens old.zones new.zones closing) lawful durable counts;
   tables = refl;
   same = same;
   completed = omega (arith, counts.completed);
@@ -47,7 +47,7 @@ fetch_halts old new tables block address returned port.Memory stored gives same 
 fetch_halts old new tables block address returned port.Stopped stored gives same closing obeys passed = record {
   halt = tt;
   reads = record {
-    kept = keeps-same old new tables stored.agrees same (closing-opens old.zones new.zones closing) obeys.lawful (obeys.counts refl).refused (obeys.counts refl).appended;
+    kept = keeps-same old new tables stored.agrees same (closing-opens old.zones new.zones closing) obeys.lawful (obeys.counts refl).refused obeys.durable (obeys.counts refl).appended;
     tables = refl;
     same = same;
     completed = obeys.completed;

@@ -81,7 +81,7 @@ promote_gives drive old new f is none next new-is =
     let cleaned : AgreesWithClean (mounted drive (tables_with old.map (roles_with old.roles.empty (Some f) None) old.next old.given)) None = (agrees-promoted drive old.map old.roles.empty f old.next old.given plain, (is.1.0, tt)) in
     rw same (record {
       cleaned = cleaned;
-      keeps = record { mountable = cleans_mountable (mounted drive (tables_with old.map (roles_with old.roles.empty (Some f) None) old.next old.given)) None cleaned; array = refl; moves = only-same (drive_logs drive) (drive_logs drive) refl; size = refl; trimmed = refl; given = refl; geometry = refl; refused = refl; next = refl; appended = omega arith };
+      keeps = record { mountable = cleans_mountable (mounted drive (tables_with old.map (roles_with old.roles.empty (Some f) None) old.next old.given)) None cleaned; array = refl; moves = only-same (drive_logs drive) (drive_logs drive) refl; size = refl; trimmed = refl; given = refl; geometry = refl; refused = refl; durable = refl; next = refl; appended = omega arith };
       host = refl;
       room = (let alone = rw second at is.1.1 in alone);
     })

@@ -15,7 +15,7 @@ use Rattle.zone_choice.specs.Agreement.{Agrees, HoldsFilling, MountedView, Roles
 use Rattle.drive_array.specs.ZoneLogs.{drive_logs, log_at}
 use Rattle.drive_array.specs.Repair.{HasAtMost}
 use Rattle.drive_array.specs.Reserve.{batch_most, move_blocks}
-use Rattle.zone_choice.specs.Roles.{IsLowestEmpty, IsLowestIn, is_at, is_sealed_at, filling_list, with_destination}
+use Rattle.zone_choice.specs.Roles.{IsLowestEmpty, IsLowestIn, is_at, filling_list, with_destination}
 use Rattle.drive_array.specs.Sizes.{array_of}
 use Rattle.zone_choice.specs.Tables.{IsLeastSealed, TablesView}
 use Rattle.zone_choice.proofs.AgreementLaws.{agrees-roles, vacant-emptied}

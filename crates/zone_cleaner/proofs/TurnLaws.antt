@@ -103,6 +103,7 @@ array_keeps before after new cleaned kept = record {
   given = kept.given;
   geometry = kept.geometry;
   refused = kept.refused;
+  durable = kept.durable;
   next = omega (arith, kept.next, kept.appended);
   appended = omega (arith, kept.appended);
 }
@@ -119,6 +120,7 @@ step-keeps before after c new Move is cleaned done = let moved = move-trims befo
   given = done.0.places.given;
   geometry = done.0.places.geometry;
   refused = done.0.places.refused;
+  durable = done.0.places.durable;
   next = omega (arith, done.0.places.next, done.0.places.appended);
   appended = omega (arith, done.0.places.appended);
 }
@@ -131,6 +133,7 @@ step-keeps before after c new Reset is cleaned done = record {
   given = done.0.given;
   geometry = done.0.geometry;
   refused = done.0.refused;
+  durable = done.0.durable;
   next = omega (arith, done.0.next, done.0.appended);
   appended = omega (arith, done.0.appended);
 }
@@ -163,6 +166,7 @@ fails_give before after c new step faults.Stopped is fails same =
         given = but.given;
         geometry = fails.geometry;
         refused = fails.refused;
+        durable = fails.durable;
         next = omega (arith, but.next, fails.appended);
         appended = omega (arith, fails.appended);
       };
@@ -170,7 +174,7 @@ fails_give before after c new step faults.Stopped is fails same =
     }
 fails_give before after c new step faults.Spent is fails same = let spent = spent-move before after step fails in rw (same, spent.0) (record {
   goes_on = is;
-  keeps = record { mountable = cleans_mountable before (Some c) is; array = refl; moves = only-same (drive_logs before.drive) (drive_logs before.drive) refl; size = refl; trimmed = refl; given = refl; geometry = refl; refused = refl; next = refl; appended = omega arith };
+  keeps = record { mountable = cleans_mountable before (Some c) is; array = refl; moves = only-same (drive_logs before.drive) (drive_logs before.drive) refl; size = refl; trimmed = refl; given = refl; geometry = refl; refused = refl; durable = refl; next = refl; appended = omega arith };
   cause = spent.1;
 })
 
@@ -219,6 +223,7 @@ turn_gives before after None new (Ok done) is leaves =
         given = started.1;
         geometry = rw leaves.0 refl;
         refused = rw leaves.0 refl;
+        durable = rw leaves.0 refl;
         next = omega (arith, started.3, ap (λ (d : DriveState). d.appended) leaves.0);
         appended = omega (arith, ap (λ (d : DriveState). d.appended) leaves.0);
       };
@@ -239,7 +244,7 @@ turns_fewer before after None new is leaves = record { fewer = λ some. absurd (
 
 -- the same before any turn
 pub keeps-none : (disk : MountedView) (clean : Option CleanView) → AgreesWithClean disk clean → KeepsByCleaning disk disk
-keeps-none disk clean is = record { mountable = cleans_mountable disk clean is; array = refl; moves = only-same (drive_logs disk.drive) (drive_logs disk.drive) refl; size = refl; trimmed = refl; given = refl; geometry = refl; refused = refl; next = refl; appended = omega arith }
+keeps-none disk clean is = record { mountable = cleans_mountable disk clean is; array = refl; moves = only-same (drive_logs disk.drive) (drive_logs disk.drive) refl; size = refl; trimmed = refl; given = refl; geometry = refl; refused = refl; durable = refl; next = refl; appended = omega arith }
 
 -- what two turns keep
 pub keeps-more : (a b c : MountedView) → KeepsByCleaning a b → KeepsByCleaning b c → KeepsByCleaning a c
@@ -252,6 +257,7 @@ keeps-more a b c p q = record {
   given = q.given ∙ p.given;
   geometry = q.geometry ∙ p.geometry;
   refused = q.refused ∙ p.refused;
+  durable = q.durable ∙ p.durable;
   next = omega (arith, p.next, q.next);
   appended = omega (arith, p.appended, q.appended);
 }

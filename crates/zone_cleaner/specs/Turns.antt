@@ -78,6 +78,7 @@ pub record EmptiesVictim (before after : MountedView) (victim : ℕ) : Type 0 wh
   pub roles : after.tables.roles ≡ clean_ended before.tables.roles victim
   pub geometry : after.drive.geometry ≡ before.drive.geometry
   pub refused : after.drive.refused ≡ before.drive.refused
+  pub durable : after.drive.durable ≡ before.drive.durable
   pub appended : after.drive.appended ≡ before.drive.appended
 
 abbrev pub StepDone : Step → MountedView → CleanView → MountedView → Option CleanView → Type 0
@@ -110,6 +111,7 @@ pub record StopsClean (before after : MountedView) : Type 0 where
   pub tables : MayClose before after.tables
   pub geometry : after.drive.geometry ≡ before.drive.geometry
   pub refused : after.drive.refused ≡ before.drive.refused
+  pub durable : after.drive.durable ≡ before.drive.durable
   pub appended : after.drive.appended ≡ before.drive.appended
 
 -- What a step leaves that was not done, by its fault. Out of memory, the array is the same. Only a Move needs a

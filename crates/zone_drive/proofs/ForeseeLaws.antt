@@ -38,6 +38,18 @@ use Rattle.zone_drive.proofs.SendLaws.{are-all, zones_of-sent}
 use Rattle.drive_port.proofs.ClosingLaws.{IsClosing-refl}
 use Rattle.zone_drive.proofs.SubmitLaws.{closes-chosen}
 
+-- whether a drive is lawful does not depend on what is durable of it
+pub lawful-durable : (drive : DriveState) (durable : List (List Zone)) → IsLawful (record drive { durable = durable }) → IsLawful drive
+lawful-durable drive durable lawful = record {
+  geometry = lawful.geometry;
+  count = lawful.count;
+  zones = lawful.zones;
+  active = lawful.active;
+  open_zones = lawful.open_zones;
+  completed = lawful.completed;
+  stopped = lawful.stopped;
+}
+
 -- what is given on a drive, which is then lawful, is what is foreseen
 pub foresees-by : (old new : MemoryDrive) (command : Result Command DecodeFault) (bytes returned : List ℕ) (reply : Reply) → Gives old command bytes reply returned new → IsLawful new.state
     → Foresees old command bytes reply.status
@@ -52,7 +64,8 @@ foresees-by old new command bytes returned reply gives lawful = record {
       returned_is = refl;
       after = IsClosing-refl (performed old.habit old.state.geometry old.state.zones command bytes).zones;
     };
-    lawful = rw (ap (λ (o : Outcome). o.zones) gives.outcome) (subst (λ (d : DriveState). IsLawful d) (ap (λ (d : MemoryDrive). d.state) gives.others) lawful);
+    lawful = rw (ap (λ (o : Outcome). o.zones) gives.outcome)
+        (lawful-durable (record old.state { zones = new.state.zones }) new.state.durable (subst (λ (d : DriveState). IsLawful d) (ap (λ (d : MemoryDrive). d.state) gives.others) lawful));
   };
 }
 
@@ -74,11 +87,11 @@ or-true true b e = refl
 or-true false b e = e
 
 -- a drive whose zones are stored so
-module _ (geometry : Geometry) (zones : List StoredZone) (completed refused appended : ℕ) (habit : Habit) (halted : Bool) (in_range : IsInRange geometry) (are : AreZones geometry zones) (most : completed ≤ 2 ^ 63) where
+module _ (geometry : Geometry) (zones : List StoredZone) (durable : List (List Zone)) (completed refused appended : ℕ) (habit : Habit) (halted : Bool) (in_range : IsInRange geometry) (are : AreZones geometry zones) (most : completed ≤ 2 ^ 63) where
   -- the drive with these zones, counts and habit
   abbrev pub drive : MemoryDrive
   drive = record {
-    state = record { geometry = geometry; zones = zones_of geometry.block zones; completed = completed; refused = refused; appended = appended; stopped = halted || nat_le (2 ^ 63) completed };
+    state = record { geometry = geometry; zones = zones_of geometry.block zones; durable = durable; completed = completed; refused = refused; appended = appended; stopped = halted || nat_le (2 ^ 63) completed };
     habit = habit;
   }
 

@@ -14,4 +14,4 @@ pub mod GroupLaws
 pub mod TableLaws
 pub mod ChangeLaws
 pub mod ForeseeLaws
-pub mod LeftLaws
+pub mod DurableLaws

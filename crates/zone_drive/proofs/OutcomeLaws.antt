@@ -1,5 +1,5 @@
 -- What a command gives, by its checks and its effect.
-use Rattle.std.proofs.Common.{◌≡◌, ◌≢◌, ℕ, false, true, map, ◌+◌, ◌/◌, ◌%◌, ◌≤◌, List, [], length, Option, Some, None, Result, Ok, Err, refl, ◌∙◌}
+use Rattle.std.proofs.Common.{◌≡◌, ◌≢◌, ℕ, false, true, map, ◌+◌, ◌/◌, ◌%◌, ◌≤◌, List, [], length, Option, Some, None, Result, Ok, Err, refl, sym, ap, ◌∙◌}
 use Rattle.nvme_wire.specs.declared.command.Command.{Command}
 use Rattle.nvme_wire.specs.declared.command.DecodeFault.{DecodeFault}
 use Rattle.nvme_wire.specs.declared.command.Command.TheVariants.{Append, Flush, Read, Send, Write}
@@ -12,11 +12,12 @@ use Rattle.zone_states.specs.declared.geometry.Geometry.{Geometry}
 use Rattle.zone_states.specs.Checks.{first_failing}
 use Rattle.zone_states.specs.Zone.{Zone}
 use Rattle.drive_port.specs.Drive.{open_count}
+use Rattle.drive_port.specs.Durable.{Hardens, IsDurable}
 use Rattle.drive_port.specs.Step.{Outcome, bytes_from, decode_status, done, outcome, read_checks, sent_zone, unless_refused, write_effect, zone_at}
 use Rattle.zone_drive.specs.declared.habit.Habit.{Habit}
 use Rattle.zone_drive.specs.declared.reply.Reply.{Reply}
 use Rattle.zone_drive.specs.Choice.{Gives, RoomGives, performed, wants_open_resource, with_room}
-use Rattle.zone_drive.specs.Habits.{MemoryDrive, with_zones}
+use Rattle.zone_drive.specs.Habits.{MemoryDrive, with_durable, with_zones}
 use Rattle.zone_drive.specs.Sending.{Opens, send_first, sent_to}
 use Rattle.zone_drive.specs.Writing.{WritesAfter, append_first, write_first}
 use Rattle.zone_drive.proofs.OpeningLaws.{AllOther, by_choice, opening, opening-done, opening-no_room, opening-refused, other}
@@ -59,9 +60,9 @@ AllOther-write : (geometry : Geometry) (zone : Zone) (slba blocks : ℕ) (bytes 
 AllOther-write geometry zone slba blocks bytes = (refl, (refl, (refl, (refl, (refl, (refl, (refl, (refl, tt))))))))
 
 -- a command that is refused, and leaves the drive
-pub gives-same : (old : MemoryDrive) (command : Result Command DecodeFault) (bytes : List ℕ) (status : Status)
+pub gives-same : (old : MemoryDrive) (command : Result Command DecodeFault) (bytes : List ℕ) (status : Status) → Hardens command old.state old.state
     → performed old.habit old.state.geometry old.state.zones command bytes ≡ record { status = status; value = 0; returned = []; zones = old.state.zones } → Gives old command bytes (record { status = status; value = 0 }) [] old
-gives-same old command bytes status is = record { outcome = is; others = refl }
+gives-same old command bytes status hardens is = record { outcome = is; hardens = hardens; others = refl }
 
 -- an Append that fails one of its first checks
 pub append-refused : (old : MemoryDrive) (zslba blocks : ℕ) (bytes : List ℕ) (status : Status)
@@ -70,7 +71,7 @@ pub append-refused : (old : MemoryDrive) (zslba blocks : ℕ) (bytes : List ℕ)
 append-refused old zslba blocks bytes status e =
     let index = zslba / old.state.geometry.size in
     let first = λ (zone : Zone). append_first old.state.geometry zone zslba blocks bytes in
-    gives-same old (Ok (Append zslba blocks)) bytes status
+    gives-same old (Ok (Append zslba blocks)) bytes status refl
     (performed-Append old.habit old.state.geometry old.state.zones zslba blocks bytes
     ∙ opening-refused old.habit old.state.geometry first (append_effect old.state.geometry zslba blocks bytes) index old.state.zones status (AllOther-append old.state.geometry (zone_at old.state.zones index) zslba blocks bytes) e)
 
@@ -92,7 +93,7 @@ pub append-ended : (old new : MemoryDrive) (zslba blocks : ℕ) (bytes : List �
 append-ended old new zslba blocks bytes (Some status) passed count most (needs, same) =
     let index = zslba / old.state.geometry.size in
     let first = λ (zone : Zone). append_first old.state.geometry zone zslba blocks bytes in
-    rw same (gives-same old (Ok (Append zslba blocks)) bytes status
+    rw same (gives-same old (Ok (Append zslba blocks)) bytes status refl
     (performed-Append old.habit old.state.geometry old.state.zones zslba blocks bytes
     ∙ opening-no_room old.habit old.state.geometry first (append_effect old.state.geometry zslba blocks bytes) index old.state.zones status passed needs))
 append-ended old new zslba blocks bytes None passed count most (closing, needs, changed) =
@@ -102,6 +103,7 @@ append-ended old new zslba blocks bytes None passed count most (closing, needs, 
       outcome = performed-Append old.habit old.state.geometry old.state.zones zslba blocks bytes
           ∙ opening-done old.habit old.state.geometry first (append_effect old.state.geometry zslba blocks bytes) index old.state.zones closing (λ middle. refl) most passed needs
           ∙ rw (zone-with_room old.habit old.state.geometry old.state.zones index closing needs, count) refl;
+      hardens = refl;
       others = refl;
     })
 
@@ -112,7 +114,7 @@ pub write-refused : (old : MemoryDrive) (slba blocks : ℕ) (bytes : List ℕ) (
 write-refused old slba blocks bytes status e =
     let index = slba / old.state.geometry.size in
     let first = λ (zone : Zone). write_first old.state.geometry zone slba blocks bytes in
-    gives-same old (Ok (Write slba blocks)) bytes status
+    gives-same old (Ok (Write slba blocks)) bytes status refl
     (performed-Write old.habit old.state.geometry old.state.zones slba blocks bytes
     ∙ opening-refused old.habit old.state.geometry first (write_done old.state.geometry slba blocks bytes) index old.state.zones status (AllOther-write old.state.geometry (zone_at old.state.zones index) slba blocks bytes) e)
 
@@ -124,7 +126,7 @@ pub write-ended : (old new : MemoryDrive) (slba blocks : ℕ) (bytes : List ℕ)
 write-ended old new slba blocks bytes (Some status) passed count most (needs, same) =
     let index = slba / old.state.geometry.size in
     let first = λ (zone : Zone). write_first old.state.geometry zone slba blocks bytes in
-    rw same (gives-same old (Ok (Write slba blocks)) bytes status
+    rw same (gives-same old (Ok (Write slba blocks)) bytes status refl
     (performed-Write old.habit old.state.geometry old.state.zones slba blocks bytes
     ∙ opening-no_room old.habit old.state.geometry first (write_done old.state.geometry slba blocks bytes) index old.state.zones status passed needs))
 write-ended old new slba blocks bytes None passed count most (closing, needs, changed) =
@@ -134,6 +136,7 @@ write-ended old new slba blocks bytes None passed count most (closing, needs, ch
       outcome = performed-Write old.habit old.state.geometry old.state.zones slba blocks bytes
           ∙ opening-done old.habit old.state.geometry first (write_done old.state.geometry slba blocks bytes) index old.state.zones closing (λ middle. refl) most passed needs
           ∙ rw count refl;
+      hardens = refl;
       others = refl;
     })
 
@@ -170,7 +173,7 @@ refused-other : (old : MemoryDrive) (slba : ℕ) (action : Action) (bytes : List
 refused-other old slba action bytes status apart e =
     let checks = send_first old.state.geometry (zone_at old.state.zones (slba / old.state.geometry.size)) slba action in
     let is : outcome old.state.geometry old.state.zones (Ok (Send slba action false)) bytes ≡ unless_refused (Some status) old.state.zones (done [] old.state.zones) = outcome-Send old.state.geometry old.state.zones slba action bytes apart ∙ rw (← e) refl in
-    gives-same old (Ok (Send slba action false)) bytes status
+    gives-same old (Ok (Send slba action false)) bytes status refl
     (performed-plain old.habit old.state.geometry old.state.zones (Ok (Send slba action false)) bytes _ is (other checks status (send-other old.state.geometry (zone_at old.state.zones (slba / old.state.geometry.size)) slba action) e))
 
 -- an action that fails one of its first checks
@@ -179,7 +182,7 @@ pub send-refused : (old : MemoryDrive) (slba : ℕ) (action : Action) (bytes : L
     → Gives old (Ok (Send slba action false)) bytes (record { status = status; value = 0 }) [] old
 send-refused old slba Open bytes status e =
     let index = slba / old.state.geometry.size in
-    gives-same old (Ok (Send slba Open false)) bytes status
+    gives-same old (Ok (Send slba Open false)) bytes status refl
     (performed-Open old.habit old.state.geometry old.state.zones slba bytes
     ∙ opening-refused old.habit old.state.geometry (λ zone. send_first old.state.geometry zone slba Open) (λ middle. done [] (sent_to middle index Open)) index old.state.zones status (send-other old.state.geometry (zone_at old.state.zones index) slba Open) e)
 send-refused old slba Close bytes status e = refused-other old slba Close bytes status (λ (same : Close ≡ Open). cc same) e
@@ -194,7 +197,7 @@ pub open-ended : (old new : MemoryDrive) (slba : ℕ) (bytes : List ℕ) (refusa
     → Gives old (Ok (Send slba Open false)) bytes (ended refusal 0) [] new
 open-ended old new slba bytes (Some status) passed most (needs, same) =
     let index = slba / old.state.geometry.size in
-    rw same (gives-same old (Ok (Send slba Open false)) bytes status
+    rw same (gives-same old (Ok (Send slba Open false)) bytes status refl
     (performed-Open old.habit old.state.geometry old.state.zones slba bytes
     ∙ opening-no_room old.habit old.state.geometry (λ zone. send_first old.state.geometry zone slba Open) (λ middle. done [] (sent_to middle index Open)) index old.state.zones status passed needs))
 open-ended old new slba bytes None passed most (closing, needs, changed) =
@@ -202,6 +205,7 @@ open-ended old new slba bytes None passed most (closing, needs, changed) =
     rw changed (record {
       outcome = performed-Open old.habit old.state.geometry old.state.zones slba bytes
           ∙ opening-done old.habit old.state.geometry (λ zone. send_first old.state.geometry zone slba Open) (λ middle. done [] (sent_to middle index Open)) index old.state.zones closing (λ middle. refl) most passed needs;
+      hardens = refl;
       others = refl;
     })
 
@@ -212,7 +216,7 @@ pub send-done : (old new : MemoryDrive) (slba : ℕ) (action : Action) (bytes : 
     → Gives old (Ok (Send slba action false)) bytes (record { status = Success; value = 0 }) [] new
 send-done old new slba action bytes apart passed changed =
     let is : outcome old.state.geometry old.state.zones (Ok (Send slba action false)) bytes ≡ done [] (sent_to old.state.zones (slba / old.state.geometry.size) action) = outcome-Send old.state.geometry old.state.zones slba action bytes apart ∙ rw (← passed) refl in
-    rw changed (record { outcome = performed-plain old.habit old.state.geometry old.state.zones (Ok (Send slba action false)) bytes _ is refl; others = refl })
+    rw changed (record { outcome = performed-plain old.habit old.state.geometry old.state.zones (Ok (Send slba action false)) bytes _ is refl; hardens = refl; others = refl })
 
 -- ---- a Read
 
@@ -226,7 +230,7 @@ pub read-refused : (old : MemoryDrive) (slba blocks : ℕ) (bytes : List ℕ) (s
 read-refused old slba blocks bytes status e =
     let zone = zone_at old.state.zones (slba / old.state.geometry.size) in
     let is = outcome-Read old.state.geometry old.state.zones slba blocks bytes (Some status) e in
-    gives-same old (Ok (Read slba blocks)) bytes status
+    gives-same old (Ok (Read slba blocks)) bytes status refl
     (performed-plain old.habit old.state.geometry old.state.zones (Ok (Read slba blocks)) bytes _ is (other (read_checks old.state.geometry zone slba blocks) status (read-other old.state.geometry zone slba blocks) e))
 
 -- a Read that is done returns what the blocks hold
@@ -236,7 +240,7 @@ pub read-done : (old : MemoryDrive) (slba blocks : ℕ) (bytes returned : List �
     → Gives old (Ok (Read slba blocks)) bytes (record { status = Success; value = 0 }) returned old
 read-done old slba blocks bytes returned passed shown =
     let is : outcome old.state.geometry old.state.zones (Ok (Read slba blocks)) bytes ≡ done returned old.state.zones = outcome-Read old.state.geometry old.state.zones slba blocks bytes None passed ∙ rw shown refl in
-    record { outcome = performed-plain old.habit old.state.geometry old.state.zones (Ok (Read slba blocks)) bytes _ is refl; others = refl }
+    record { outcome = performed-plain old.habit old.state.geometry old.state.zones (Ok (Read slba blocks)) bytes _ is refl; hardens = refl; others = refl }
 
 -- ---- the other commands
 
@@ -258,13 +262,20 @@ all-performed habit geometry zones slba action bytes = refl
 
 -- an entry that is no command
 pub gives-fault : (old : MemoryDrive) (fault : DecodeFault) (bytes : List ℕ) → Gives old (Err fault) bytes (record { status = decode_status fault; value = 0 }) [] old
-gives-fault old fault bytes = record { outcome = fault-performed old.habit old.state.geometry old.state.zones fault bytes; others = refl }
+gives-fault old fault bytes = record { outcome = fault-performed old.habit old.state.geometry old.state.zones fault bytes; hardens = refl; others = refl }
 
 -- a Flush
-pub gives-flush : (old : MemoryDrive) (bytes : List ℕ) → Gives old (Ok Flush) bytes (record { status = Success; value = 0 }) [] old
-gives-flush old bytes = record { outcome = flush-performed old.habit old.state.geometry old.state.zones bytes; others = refl }
+pub gives-flush : (old new : MemoryDrive) (bytes : List ℕ) → new ≡ with_durable old new.state.durable → IsDurable new.state
+    → Gives old (Ok Flush) bytes (record { status = Success; value = 0 }) [] new
+gives-flush old new bytes others durable =
+    let same : new.state.zones ≡ old.state.zones = ap (λ (d : MemoryDrive). d.state.zones) others in
+    record {
+      outcome = flush-performed old.habit old.state.geometry old.state.zones bytes ∙ ap (λ (zones : List Zone). record { status = Success; value = 0; returned = []; zones = zones }) (sym same);
+      hardens = durable;
+      others = others ∙ ap (λ (zones : List Zone). with_durable (with_zones old zones) new.state.durable) (sym same);
+    }
 
 -- an action on all zones
 pub gives-all : (old new : MemoryDrive) (slba : ℕ) (action : Action) (bytes : List ℕ) → new ≡ with_zones old (map (sent_zone action) old.state.zones)
     → Gives old (Ok (Send slba action true)) bytes (record { status = Success; value = 0 }) [] new
-gives-all old new slba action bytes changed = rw changed (record { outcome = all-performed old.habit old.state.geometry old.state.zones slba action bytes; others = refl })
+gives-all old new slba action bytes changed = rw changed (record { outcome = all-performed old.habit old.state.geometry old.state.zones slba action bytes; hardens = refl; others = refl })

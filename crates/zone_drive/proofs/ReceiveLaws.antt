@@ -47,7 +47,7 @@ pub receive-refused : (old : MemoryDrive) (slba dwords : ℕ) (options : Reporti
     → Gives old (Ok (Receive slba dwords options partial)) bytes (record { status = LbaOutOfRange; value = 0 }) [] old
 receive-refused old slba dwords options partial bytes past =
     let e : Some LbaOutOfRange ≡ first_failing (receive_checks old.state.geometry slba) = rw (le-leb _ _ past) refl in
-    gives-same old (Ok (Receive slba dwords options partial)) bytes LbaOutOfRange
+    gives-same old (Ok (Receive slba dwords options partial)) bytes LbaOutOfRange refl
     (performed-plain old.habit old.state.geometry old.state.zones (Ok (Receive slba dwords options partial)) bytes _ (outcome-Receive old.state.geometry old.state.zones slba dwords options partial bytes (Some LbaOutOfRange) e) refl)
 
 -- and else it is given
@@ -58,5 +58,6 @@ receive-reported old slba dwords options partial bytes returned below is =
     let e : None ≡ first_failing (receive_checks old.state.geometry slba) = rw (lt-leb _ _ below) refl in
     rw is (record {
       outcome = performed-plain old.habit old.state.geometry old.state.zones (Ok (Receive slba dwords options partial)) bytes _ (outcome-Receive old.state.geometry old.state.zones slba dwords options partial bytes None e) refl;
+      hardens = refl;
       others = refl;
     })

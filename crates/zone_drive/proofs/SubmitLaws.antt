@@ -11,15 +11,17 @@ use Rattle.zone_states.specs.Zone.{Zone}
 use Rattle.drive_port.specs.declared.device.Halt.{Halt}
 use Rattle.drive_port.specs.declared.device.Halt.TheVariants.{Memory, Stopped}
 use Rattle.drive_port.specs.Drive.{ClosesOne, DriveState, IsClosing}
+use Rattle.drive_port.specs.Durable.{MayHarden}
 use Rattle.drive_port.specs.Halting.{Halts}
 use Rattle.drive_port.specs.Step.{Completes, Outcome, is_append, is_success, one_if, outcome}
 use Rattle.drive_port.proofs.ClosingLaws.{IsClosing-refl}
 use Rattle.zone_drive.specs.declared.reply.Reply.{Reply}
 use Rattle.zone_drive.specs.declared.habit.Habit.{Habit}
 use Rattle.zone_drive.specs.declared.habit.Habit.TheVariants as habits
-use Rattle.zone_drive.specs.Choice.{Gives, chosen, close_lowest, wants_open_resource}
+use Rattle.zone_drive.specs.Choice.{Gives, Keeps, chosen, close_lowest, wants_open_resource}
 use Rattle.zone_drive.specs.Counts.{counted}
 use Rattle.zone_drive.specs.Habits.{MemoryDrive, close_implicit, closed_zone, makes_room, settled, with_zones}
+use Rattle.zone_drive.proofs.DurableLaws.{hardens-settled, may_harden-as}
 
 -- ---- the choice is a closing
 
@@ -91,21 +93,41 @@ completes old middle closing new entry bytes returned completion reply gives set
         completed = ap (λ (d : DriveState). d.completed) ends ∙ ap (λ (d : DriveState). d.completed + 1) others;
         refused = ap (λ (d : DriveState). d.refused) ends ∙ ap (λ (d : DriveState). d.refused + one_if (not (is_success reply.status))) others;
         appended = ap (λ (d : DriveState). d.appended) ends ∙ ap (λ (d : DriveState). d.appended + one_if (is_append command && is_success reply.status)) others;
+        hardens = hardens-settled command middle.habit old.state middle.state new.state (ap (λ (d : DriveState). d.durable) ends) (ap (λ (d : DriveState). d.zones) ends) gives.hardens;
       };
     }
 
 -- ---- a halt
 
--- The device is out of memory, and nothing changed; or what holds its zones has stopped, and nothing else changed.
+-- The device is out of memory, and nothing changed; or what holds its zones has stopped. Then nothing else changed, but
+-- what a Flush may have made durable.
 pub halts-noted : (old new : DriveState) (command : Result Command DecodeFault) (bytes : List ℕ) (halt : Halt) → old.stopped ≡ false
-    → (halt ≡ Memory → new ≡ old) → (halt ≡ Stopped → new ≡ record old { stopped = true }) → Halts old command bytes halt new
-halts-noted old new command bytes Memory going same stops = (going, same refl)
-halts-noted old new command bytes Stopped going same stops =
+    → (halt ≡ Memory → new ≡ old) → (halt ≡ Stopped → new ≡ record old { stopped = true; durable = new.durable }) → (halt ≡ Stopped → MayHarden command old new)
+    → Halts old command bytes halt new
+halts-noted old new command bytes Memory going same stops hardens = (going, same refl)
+halts-noted old new command bytes Stopped going same stops hardens =
     let is = stops refl in
     record {
       already = λ (e : old.stopped ≡ true). absurd (cc (sym going ∙ e));
       stopped = ap (λ (d : DriveState). d.stopped) is;
       geometry = ap (λ (d : DriveState). d.geometry) is;
-      counts = rw is (record { completed = refl; refused = refl; appended = refl });
-      left = inl (rw is (IsClosing-refl old.zones));
+      counts = record {
+        completed = ap (λ (d : DriveState). d.completed) is;
+        refused = ap (λ (d : DriveState). d.refused) is;
+        appended = ap (λ (d : DriveState). d.appended) is;
+      };
+      left = inl (rw (ap (λ (d : DriveState). d.zones) is) (IsClosing-refl old.zones));
+      hardens = hardens refl;
     }
+
+-- what the stop leaves of a drive that was kept
+pub noted-stop : (old middle : MemoryDrive) (new : DriveState) (command : Result Command DecodeFault) → Keeps old command middle → new ≡ record middle.state { stopped = true }
+    → new ≡ record old.state { stopped = true; durable = new.durable }
+noted-stop old middle new command keeps is =
+    is ∙ ap (λ (d : MemoryDrive). record d.state { stopped = true }) keeps.others
+    ∙ ap (λ (durable : List (List Zone)). record old.state { stopped = true; durable = durable }) (sym (ap (λ (d : DriveState). d.durable) is))
+
+pub noted-hardens : (old middle : MemoryDrive) (new : DriveState) (command : Result Command DecodeFault) → Keeps old command middle → new ≡ record middle.state { stopped = true }
+    → MayHarden command old.state new
+noted-hardens old middle new command keeps is =
+    may_harden-as command old.state middle.state new (ap (λ (d : DriveState). d.durable) is) (ap (λ (d : DriveState). d.zones) is) keeps.hardens

@@ -13,7 +13,8 @@ use Rattle.zone_states.specs.Transition.{is_state}
 use Rattle.zone_states.specs.Zone.{Zone}
 use Rattle.zone_drive.specs.declared.habit.Habit.{Habit}
 use Rattle.zone_drive.specs.declared.reply.Reply.{Reply}
-use Rattle.zone_drive.specs.Habits.{MemoryDrive, closed_zone, makes_room, settled, with_zones}
+use Rattle.zone_drive.specs.Habits.{MemoryDrive, closed_zone, makes_room, settled, with_durable, with_zones}
+use Rattle.drive_port.specs.Durable.{Hardens, MayHarden}
 use Rattle.drive_port.specs.Step.{Outcome, outcome, resource_checks, zone_at}
 
 -- the zones with the lowest implicitly opened one closed, if any
@@ -41,12 +42,19 @@ chosen habit geometry zones command bytes =
 abbrev pub performed : Habit → Geometry → List Zone → Result Command DecodeFault → List ℕ → Outcome
 performed habit geometry zones command bytes = outcome geometry (chosen habit geometry zones command bytes) command bytes
 
--- The command was done on the drive as old: this reply, these bytes, and the drive as new, on which nothing but the zones changed.
+-- The command was done on the drive as old: this reply, these bytes, and the drive as new. Of the drive nothing changed
+-- but the zones and, by a Flush, what is durable of them.
 pub record Gives (old : MemoryDrive) (command : Result Command DecodeFault) (bytes : List ℕ) (reply : Reply) (returned : List ℕ)
     (new : MemoryDrive) : Type 0 where
   pub outcome : performed old.habit old.state.geometry old.state.zones command bytes
       ≡ record { status = reply.status; value = reply.value; returned = returned; zones = new.state.zones }
-  pub others : new ≡ with_zones old new.state.zones
+  pub hardens : Hardens command old.state new.state
+  pub others : new ≡ with_durable (with_zones old new.state.zones) new.state.durable
+
+-- The command was not done on the drive as old, and left it as new. A Flush may have made the zones durable.
+pub record Keeps (old : MemoryDrive) (command : Result Command DecodeFault) (new : MemoryDrive) : Type 0 where
+  pub hardens : MayHarden command old.state new.state
+  pub others : new ≡ with_durable old new.state.durable
 
 -- An entry is answered by what its command gives on this drive, and by nothing else. Then the drive closes what its habit says.
 pub record AnswersByChoice (old : MemoryDrive) (entry bytes completion returned : List ℕ) (new : MemoryDrive) : Type 0 where

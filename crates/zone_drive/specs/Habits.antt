@@ -19,6 +19,10 @@ made state = record { state = state; habit = habits.Lazy }
 abbrev pub with_zones : MemoryDrive → List Zone → MemoryDrive
 with_zones drive zones = record drive { state = record drive.state { zones = zones } }
 
+-- a drive of which these zones are durable, and nothing else changed
+abbrev pub with_durable : MemoryDrive → List (List Zone) → MemoryDrive
+with_durable drive durable = record drive { state = record drive.state { durable = durable } }
+
 -- a zone after the controller closed it
 abbrev pub closed_zone : Zone → Zone
 closed_zone zone = record zone { state = Closed }

@@ -4,10 +4,9 @@ ghost use Rattle.nvme_wire.specs.Entry.{IsAdmitted, decode_of};
 ghost use Rattle.drive_port.specs.Drive.{IsLawful};
 ghost use Rattle.drive_port.specs.Halting.{Adds, SubmitAdds, SubmitGives};
 ghost use Rattle.drive_port.specs.Step.{decode_status};
-ghost use Rattle.zone_drive.specs.Choice.{AnswersByChoice, Gives};
+ghost use Rattle.zone_drive.specs.Choice.{AnswersByChoice, Gives, Keeps};
 ghost use Rattle.zone_drive.specs.Memory.{may_allocate};
 ghost use Rattle.zone_drive.specs.Counts.{counted};
-ghost use Rattle.zone_drive.specs.Held.{LeavesJust, LeavesOrNow};
 
 use crate::held::HeldZones;
 use crate::reply::Reply;
@@ -30,12 +29,10 @@ impl<Z: HeldZones + Drop> ZoneDrive<Z> {
     fn flush(&mut self) -> Result<Reply, Halt>
         ensures ok { (bytes : List ℕ) → IfOk result (λ reply.
             Gives self.old.drive (Ok Command.Flush) bytes reply [] self.new.drive) }
-        ensures kept { OnErr result (self.new.drive ≡ self.old.drive) }
+        ensures kept { OnErr result (Keeps self.old.drive (Ok Command.Flush) self.new.drive) }
         ensures only { IfErr result (λ halt. halt ≡ Halt.Stopped) }
         ensures stops { OnErr result (IsTrue Z.may_stop) }
         ensures halted { self.new.halted ≡ self.old.halted }
-        ensures leaves { LeavesOrNow Z.leaves (Z.stored self.old.held) self.old.held self.new.held }
-        ensures flushed { OnOk result (LeavesJust Z.leaves (Z.stored self.old.held) self.new.held) }
     {
         self.zones.flush()?;
         Ok(Reply::done(0))
@@ -50,13 +47,10 @@ impl<Z: HeldZones + Drop> ZoneDrive<Z> {
             into.new.items) }
         ensures allocates { IsErrOf result Halt.Memory → may_allocate (Ok command) ≡ true }
         ensures returned { OnErr result (into.new.items ≡ into.old.items) }
-        ensures kept { OnErr result (self.new.drive ≡ self.old.drive) }
+        ensures kept { OnErr result (Keeps self.old.drive (Ok command) self.new.drive) }
         ensures memory { IsErrOf result Halt.Memory → self.new ≡ self.old }
         ensures stops { IsErrOf result Halt.Stopped → IsTrue Z.may_stop }
         ensures halted { self.new.halted ≡ self.old.halted }
-        ensures leaves { LeavesOrNow Z.leaves (Z.stored self.old.held) self.old.held self.new.held }
-        ensures flushed { OnOk result (command ≡ Command.Flush
-            → LeavesJust Z.leaves (Z.stored self.old.held) self.new.held) }
     {
         match command {
             Command::Flush => Ok(self.flush()?),
@@ -87,13 +81,10 @@ impl<Z: HeldZones + Drop> ZoneDrive<Z> {
             into.new.items) }
         ensures allocates { IsErrOf result Halt.Memory → may_allocate command ≡ true }
         ensures returned { OnErr result (into.new.items ≡ into.old.items) }
-        ensures kept { OnErr result (self.new.drive ≡ self.old.drive) }
+        ensures kept { OnErr result (Keeps self.old.drive command self.new.drive) }
         ensures memory { IsErrOf result Halt.Memory → self.new ≡ self.old }
         ensures stops { IsErrOf result Halt.Stopped → IsTrue Z.may_stop }
         ensures halted { self.new.halted ≡ self.old.halted }
-        ensures leaves { LeavesOrNow Z.leaves (Z.stored self.old.held) self.old.held self.new.held }
-        ensures flushed { OnOk result (command ≡ Ok Command.Flush
-            → LeavesJust Z.leaves (Z.stored self.old.held) self.new.held) }
     {
         match command {
             Ok(command) => self.execute(command, bytes, into),
@@ -159,12 +150,6 @@ impl<Z: HeldZones + Drop> ZoneDrive<Z> {
             ≡ self.new.halted || nat_le (2 ^ 63) self.new.drive.state.completed }
         ensures halts { IsTrue self.new.halted → IsTrue Z.may_stop }
         ensures kept { OnErr result ((self.new ≡ self.old) ⊎ IsTrue Z.may_stop) }
-
-        // An open after a loss of power finds what it might have found before, or the zones before this command; after a
-        // Flush that succeeded just these.
-        ensures leaves { LeavesOrNow Z.leaves (Z.stored self.old.held) self.old.held self.new.held }
-        ensures flushed { OnOk result (decode_of entry.now ≡ Ok Command.Flush
-            → LeavesJust Z.leaves (Z.stored self.old.held) self.new.held) }
     {
         if self.stopped() {
             return Err(Halt::Stopped);
@@ -217,9 +202,6 @@ impl<Z: HeldZones + Drop> Device for ZoneDrive<Z> {
             self.new.drive.state }
         ensures was_lawful { IsLawful self.old.drive.state }
         ensures lawful { IsLawful self.new.drive.state }
-        ensures leaves { LeavesOrNow Z.leaves (Z.stored self.old.held) self.old.held self.new.held }
-        ensures flushed { OnOk result (decode_of entry.now ≡ Ok Command.Flush
-            → LeavesJust Z.leaves (Z.stored self.old.held) self.new.held) }
     {
         into.clear();
         self.answer(entry, bytes, into)
@@ -231,9 +213,6 @@ impl<Z: HeldZones + Drop> Device for ZoneDrive<Z> {
             self.new.drive.state }
         ensures was_lawful { IsLawful self.old.drive.state }
         ensures lawful { IsLawful self.new.drive.state }
-        ensures leaves { LeavesOrNow Z.leaves (Z.stored self.old.held) self.old.held self.new.held }
-        ensures flushed { OnOk result (decode_of entry.now ≡ Ok Command.Flush
-            → LeavesJust Z.leaves (Z.stored self.old.held) self.new.held) }
     {
         self.answer(entry, &[], into)
     }

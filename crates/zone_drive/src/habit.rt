@@ -1,7 +1,6 @@
 ghost use Rattle.std.specs.Prelude.{◌≡◌, true, IfNone, IfSome};
 ghost use Rattle.zone_drive.specs.Choice.{IsLowestOpened, close_lowest};
 ghost use Rattle.zone_drive.specs.Habits.{makes_room, settled, with_zones};
-ghost use Rattle.zone_drive.specs.Held.{LeavesNoMore};
 
 use crate::held::HeldZones;
 use crate::zone_drive::ZoneDrive;
@@ -39,7 +38,6 @@ impl<Z: HeldZones + Drop> ZoneDrive<Z> {
         ensures settled { self.new.drive
             ≡ with_zones self.old.drive (settled self.old.drive.habit self.old.drive.state.zones) }
         ensures halted { self.new.halted ≡ self.old.halted }
-        ensures leaves { LeavesNoMore Z.leaves self.old.held self.new.held }
     {
         if self.habit == Habit::Closing {
             self.zones.close_implicit();

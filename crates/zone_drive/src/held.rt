@@ -6,7 +6,7 @@ ghost use Rattle.zone_states.specs.Stored.{StoredZone, stored_write, zone_stored
 ghost use Rattle.zone_states.specs.Transition.{is_active, is_open};
 ghost use Rattle.zone_states.specs.Writing.{append_bytes_checks};
 ghost use Rattle.zone_drive.specs.Groups.{is_implicit};
-ghost use Rattle.zone_drive.specs.Held.{LeavesJust, LeavesNoMore, LeavesOrNow};
+ghost use Rattle.zone_drive.specs.Held.{DurableJust, DurableOrNow};
 ghost use Rattle.zone_drive.specs.Stored.{with_zeros};
 ghost use Rattle.zone_drive.specs.Table.{closed_in, closed_stored, sent_in, sent_stored, stored_at};
 
@@ -24,8 +24,9 @@ pub trait HeldZones {
     /// The zones, as they are stored.
     ghost stored: { Self → List StoredZone };
 
-    /// The zones that an open may find after a loss of power at this moment.
-    ghost leaves: { Self → List StoredZone → Type 0 };
+    /// The zones that an open may find after a loss of power at this moment, as a restart leaves them. There is one
+    /// list for each way that it may end. There is none where nothing is said of a loss of power.
+    ghost durable: { Self → List (List StoredZone) };
 
     /// Whether it may answer `Stopped`.
     ghost may_stop: { Bool };
@@ -75,7 +76,7 @@ pub trait HeldZones {
         ensures err { OnErr result (stored self.new ≡ stored self.old) }
         ensures memory { IsErrOf result Halt.Memory → self.new ≡ self.old }
         ensures stops { IsErrOf result Halt.Stopped → IsTrue may_stop }
-        ensures leaves { LeavesOrNow leaves (stored self.old) self.old self.new };
+        ensures durable { durable self.new ≡ durable self.old };
 
     /// Does an action of a Zone Management Send to one zone. Nothing changes where it is refused.
     fn apply(&mut self, index: usize, action: Action) -> Result<(), Halt>
@@ -85,7 +86,7 @@ pub trait HeldZones {
         ensures err { OnErr result (stored self.new ≡ stored self.old) }
         ensures only { IfErr result (λ halt. halt ≡ Halt.Stopped) }
         ensures stops { OnErr result (IsTrue may_stop) }
-        ensures leaves { LeavesOrNow leaves (stored self.old) self.old self.new };
+        ensures durable { durable self.new ≡ durable self.old };
 
     /// Does an action of a Zone Management Send to all zones that it selects, or to none.
     fn apply_to_all(&mut self, action: Action) -> Result<(), Halt>
@@ -94,27 +95,27 @@ pub trait HeldZones {
         ensures err { OnErr result (stored self.new ≡ stored self.old) }
         ensures only { IfErr result (λ halt. halt ≡ Halt.Stopped) }
         ensures stops { OnErr result (IsTrue may_stop) }
-        ensures leaves { LeavesOrNow leaves (stored self.old) self.old self.new };
+        ensures durable { durable self.new ≡ durable self.old };
 
     /// Closes an implicitly opened zone, if one is named, as the controller does by itself.
     fn close(&mut self, closing: Option<usize>)
         requires { IfSome closing (λ low. low < length (stored self.old)) }
         ensures shape { shape self.new ≡ shape self.old }
         ensures closed { stored self.new ≡ closed_in (stored self.old) closing }
-        ensures leaves { LeavesNoMore leaves self.old self.new };
+        ensures durable { durable self.new ≡ durable self.old };
 
     /// Closes all implicitly opened zones, as the controller does by itself.
     fn close_implicit(&mut self)
         ensures shape { shape self.new ≡ shape self.old }
         ensures closed { stored self.new ≡ map closed_stored (stored self.old) }
-        ensures leaves { LeavesNoMore leaves self.old self.new };
+        ensures durable { durable self.new ≡ durable self.old };
 
-    /// Makes sure that an open after a loss of power finds the zones as they are.
+    /// Makes sure that an open after a loss of power finds the zones as they are. No other call changes what it finds.
     fn flush(&mut self) -> Result<(), Halt>
         ensures shape { shape self.new ≡ shape self.old }
         ensures stored { stored self.new ≡ stored self.old }
         ensures only { IfErr result (λ halt. halt ≡ Halt.Stopped) }
         ensures stops { OnErr result (IsTrue may_stop) }
-        ensures just { OnOk result (LeavesJust leaves (stored self.old) self.new) }
-        ensures leaves { LeavesOrNow leaves (stored self.old) self.old self.new };
+        ensures just { OnOk result (DurableJust (stored self.old) (durable self.new)) }
+        ensures durable { DurableOrNow (stored self.old) (durable self.old) (durable self.new) };
 }

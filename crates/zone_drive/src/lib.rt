@@ -18,13 +18,14 @@
 //! * Where the step leaves a choice, the drive makes it by its habit (`specs/Choice.antt`). A drive is
 //!   made `Lazy`: it closes the lowest implicitly opened zone where a command needs an open resource and
 //!   none is left, and no other zone ever. It stops once it has completed 2^63 commands.
-//! * What an open may find after a loss of power is what it might have found before the command, or the zones before
-//!   the command. After a Flush that succeeded it is just the zones that are there (`specs/Held.antt`).
+//! * What holds the zones says which of them are durable: what an open may find after a loss of power. Only a Flush
+//!   changes that. After one that succeeded these are just the zones that are there. One inside which the drive stopped
+//!   leaves what was durable before, or these zones (`Gives` and `Keeps` in `specs/Choice.antt`, `specs/Held.antt`).
 //! * Only a Read, a Write, an Append and a Receive may be out of memory (`specs/Memory.antt`), and then
 //!   nothing changed.
-//! * `Drive` is the drive over zones in memory, which never stop. After a loss of power an open finds nothing of it. It
-//!   can be made of any zones that a drive of its geometry can have (`AreZones` in `specs/Stored.antt`), and shows
-//!   its zones at any time.
+//! * `Drive` is the drive over zones in memory, which never stop. It says nothing of a loss of power. It can be made of
+//!   any zones that a drive of its geometry can have (`AreZones` in `specs/Stored.antt`), and shows its zones at any
+//!   time.
 //!
 //! Each command has a file of its own.
 //!

@@ -15,8 +15,8 @@ use std::alloc::AllocError;
 use std::marker::Model;
 use zone_states::{Action, Geometry, Zone, ZoneState};
 
-/// Zones in memory, with the resources that they hold counted as they change. They never stop, and after a loss of
-/// power an open finds none of them.
+/// Zones in memory, with the resources that they hold counted as they change. They never stop, and say nothing of a
+/// loss of power.
 #[derive(Drop)]
 pub struct MemoryZones {
     geometry: Geometry,
@@ -74,7 +74,7 @@ impl HeldZones for MemoryZones {
 
     ghost stored = { λ z. z.zones };
 
-    ghost leaves = { λ _ _. ⊥ };
+    ghost durable = { λ _. [] };
 
     ghost may_stop = { false };
 

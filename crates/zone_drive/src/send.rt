@@ -5,7 +5,6 @@ ghost use Rattle.drive_port.specs.Drive.{open_count};
 ghost use Rattle.drive_port.specs.Step.{sent_zone, zone_at};
 ghost use Rattle.zone_drive.specs.Choice.{Gives};
 ghost use Rattle.zone_drive.specs.Habits.{with_zones};
-ghost use Rattle.zone_drive.specs.Held.{LeavesOrNow};
 ghost use Rattle.zone_drive.specs.Sending.{Opens, send_first, sent_to};
 
 use crate::held::HeldZones;
@@ -42,7 +41,6 @@ impl<Z: HeldZones + Drop> ZoneDrive<Z> {
         ensures stops { OnErr result (IsTrue Z.may_stop) }
         ensures only { IfErr result (λ halt. halt ≡ Halt.Stopped) }
         ensures halted { self.new.halted ≡ self.old.halted }
-        ensures leaves { LeavesOrNow Z.leaves (Z.stored self.old.held) self.old.held self.new.held }
     {
         let closing = match self.room_for(number) {
             Ok(closing) => closing,
@@ -63,7 +61,6 @@ impl<Z: HeldZones + Drop> ZoneDrive<Z> {
         ensures stops { OnErr result (IsTrue Z.may_stop) }
         ensures only { IfErr result (λ halt. halt ≡ Halt.Stopped) }
         ensures halted { self.new.halted ≡ self.old.halted }
-        ensures leaves { LeavesOrNow Z.leaves (Z.stored self.old.held) self.old.held self.new.held }
     {
         self.zones.apply(number as usize, action)?;
         Ok(())
@@ -77,7 +74,6 @@ impl<Z: HeldZones + Drop> ZoneDrive<Z> {
         ensures stops { OnErr result (IsTrue Z.may_stop) }
         ensures only { IfErr result (λ halt. halt ≡ Halt.Stopped) }
         ensures halted { self.new.halted ≡ self.old.halted }
-        ensures leaves { LeavesOrNow Z.leaves (Z.stored self.old.held) self.old.held self.new.held }
     {
         if let Some(status) = self.send_refusal(slba, action) {
             return Ok(Reply::refused(status));
@@ -103,7 +99,6 @@ impl<Z: HeldZones + Drop> ZoneDrive<Z> {
         ensures stops { OnErr result (IsTrue Z.may_stop) }
         ensures only { IfErr result (λ halt. halt ≡ Halt.Stopped) }
         ensures halted { self.new.halted ≡ self.old.halted }
-        ensures leaves { LeavesOrNow Z.leaves (Z.stored self.old.held) self.old.held self.new.held }
     {
         self.zones.apply_to_all(action)?;
         Ok(())
@@ -117,7 +112,6 @@ impl<Z: HeldZones + Drop> ZoneDrive<Z> {
         ensures stops { OnErr result (IsTrue Z.may_stop) }
         ensures only { IfErr result (λ halt. halt ≡ Halt.Stopped) }
         ensures halted { self.new.halted ≡ self.old.halted }
-        ensures leaves { LeavesOrNow Z.leaves (Z.stored self.old.held) self.old.held self.new.held }
     {
         if all {
             self.send_to_all(action)?;

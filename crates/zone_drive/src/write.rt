@@ -5,7 +5,6 @@ ghost use Rattle.zone_states.specs.Writing.{append_bytes_checks, data_checks};
 ghost use Rattle.drive_port.specs.Drive.{open_count};
 ghost use Rattle.drive_port.specs.Step.{zone_at};
 ghost use Rattle.zone_drive.specs.Choice.{Gives};
-ghost use Rattle.zone_drive.specs.Held.{LeavesOrNow};
 ghost use Rattle.zone_drive.specs.Writing.{WritesAfter, append_first, write_first};
 
 use crate::held::HeldZones;
@@ -93,7 +92,6 @@ impl<Z: HeldZones + Drop> ZoneDrive<Z> {
         ensures memory { IsErrOf result Halt.Memory → self.new ≡ self.old }
         ensures stops { IsErrOf result Halt.Stopped → IsTrue Z.may_stop }
         ensures halted { self.new.halted ≡ self.old.halted }
-        ensures leaves { LeavesOrNow Z.leaves (Z.stored self.old.held) self.old.held self.new.held }
     {
         let closing = match self.room_for(number) {
             Ok(closing) => closing,
@@ -112,7 +110,6 @@ impl<Z: HeldZones + Drop> ZoneDrive<Z> {
         ensures memory { IsErrOf result Halt.Memory → self.new ≡ self.old }
         ensures stops { IsErrOf result Halt.Stopped → IsTrue Z.may_stop }
         ensures halted { self.new.halted ≡ self.old.halted }
-        ensures leaves { LeavesOrNow Z.leaves (Z.stored self.old.held) self.old.held self.new.held }
     {
         if let Some(status) = self.append_refusal(zslba, blocks, bytes) {
             return Ok(Reply::refused(status));
@@ -134,7 +131,6 @@ impl<Z: HeldZones + Drop> ZoneDrive<Z> {
         ensures memory { IsErrOf result Halt.Memory → self.new ≡ self.old }
         ensures stops { IsErrOf result Halt.Stopped → IsTrue Z.may_stop }
         ensures halted { self.new.halted ≡ self.old.halted }
-        ensures leaves { LeavesOrNow Z.leaves (Z.stored self.old.held) self.old.held self.new.held }
     {
         if let Some(status) = self.write_refusal(slba, blocks, bytes) {
             return Ok(Reply::refused(status));

@@ -1,7 +1,7 @@
-ghost use Rattle.std.specs.Prelude.{◌≡◌, false, IfErr, IsTrue, OnErr, OnOk};
+ghost use Rattle.std.specs.Prelude.{◌≡◌, false, IsTrue, OnErr, OnOk, map};
 ghost use Rattle.zone_states.specs.Geometry.{IsInRange};
 ghost use Rattle.drive_port.specs.Run.{restarted};
-ghost use Rattle.zone_drive.specs.Held.{LeavesOrNow, LeavesZones};
+ghost use Rattle.zone_drive.specs.Held.{AreDurable};
 ghost use Rattle.zone_drive.specs.Stored.{AreZones, unused, zones_of};
 ghost use Rattle.zone_drive.specs.Habits.{made};
 
@@ -29,8 +29,8 @@ pub struct ZoneDrive<Z: HeldZones + Drop> {
 }
 
 impl<Z: HeldZones + Drop> Model for ZoneDrive<Z> {
-    ghost use Rattle.std.specs.Prelude.{◌≡◌, ◌||◌, nat_le, ◌^◌, ◌≤◌, IsTrue};
-    ghost use Rattle.zone_drive.specs.Held.{HeldDrive, LeavesZones};
+    ghost use Rattle.std.specs.Prelude.{◌≡◌, ◌||◌, nat_le, ◌^◌, ◌≤◌, IsTrue, map};
+    ghost use Rattle.zone_drive.specs.Held.{AreDurable, HeldDrive};
 
     ghost Value = { HeldDrive Z };
 
@@ -42,6 +42,7 @@ impl<Z: HeldZones + Drop> Model for ZoneDrive<Z> {
         state = record {
           geometry = d.geometry;
           zones = zones_of d.geometry.block (Z.stored d.zones);
+          durable = map (zones_of d.geometry.block) (Z.durable d.zones);
           completed = d.completed;
           refused = d.refused;
           appended = d.appended;
@@ -56,7 +57,7 @@ impl<Z: HeldZones + Drop> Model for ZoneDrive<Z> {
     ghost invariant = { λ d. IsInRange d.geometry × AreZones d.geometry (Z.stored d.zones)
         × (Z.shape d.zones ≡ d.geometry) × (IsTrue d.halted → IsTrue Z.may_stop)
         × (d.completed ≤ 2 ^ 63) × (d.refused ≤ d.completed) × (d.appended ≤ d.completed)
-        × LeavesZones Z.leaves d.geometry d.zones };
+        × AreDurable d.geometry (Z.durable d.zones) };
 }
 
 impl<Z: HeldZones + Drop> ZoneDrive<Z> {
@@ -65,9 +66,11 @@ impl<Z: HeldZones + Drop> ZoneDrive<Z> {
         requires in_range { IsInRange geometry }
         requires zones { AreZones geometry (Z.stored zones) }
         requires shape { Z.shape zones ≡ geometry }
-        requires left { LeavesZones Z.leaves geometry zones }
+        requires durable { AreDurable geometry (Z.durable zones) }
         ensures { result ≡ record {
-          drive = made (unused geometry (zones_of geometry.block (Z.stored zones)));
+          drive = made (record (unused geometry (zones_of geometry.block (Z.stored zones))) {
+            durable = map (zones_of geometry.block) (Z.durable zones);
+          });
           held = zones;
           halted = false;
         } }
@@ -104,7 +107,9 @@ impl<Z: HeldZones + Drop> ZoneDrive<Z> {
         ensures zones { AreZones self.drive.state.geometry (Z.stored result) }
         ensures stored { zones_of self.drive.state.geometry.block (Z.stored result) ≡ self.drive.state.zones }
         ensures shape { Z.shape result ≡ self.drive.state.geometry }
-        ensures left { LeavesZones Z.leaves self.drive.state.geometry result }
+        ensures durable { map (zones_of self.drive.state.geometry.block) (Z.durable result)
+            ≡ self.drive.state.durable }
+        ensures left { AreDurable self.drive.state.geometry (Z.durable result) }
     {
         self.zones
     }

@@ -40,13 +40,13 @@ left-is-found left can =
 -- each call is a step
 pub calls-are-steps : CallsAreSteps
 calls-are-steps = record {
-  calls = λ old new asked result a. record { flat = a.flat; keeps = (a.kept, a.cause) };
-  reads = λ old new first n result bytes a. (a.flat.shown, a.flat.bytes_are, record { flat = a.flat.flat; keeps = (a.kept, a.cause) });
+  calls = λ old new asked result a. record { flat = a.flat; keeps = (a.kept, a.durable, a.cause) };
+  reads = λ old new first n result bytes a. (a.flat.shown, a.flat.bytes_are, record { flat = a.flat.flat; keeps = (a.kept, a.durable, a.cause) });
   remounts = λ old new result r. record { flat = r.flat; keeps = r };
 }
 
 -- after a step the drive can still be mounted, and no command was refused
-step-can : (old new : DiskView) (step : Step) → CanMountAgain old → Steps old step new → CanMountAgain new
+pub step-can : (old new : DiskView) (step : Step) → CanMountAgain old → Steps old step new → CanMountAgain new
 step-can old new (call asked answer) can s = called-can old new can s.keeps.0
 step-can old new (remount result) can s = remounted-can old new result can s.keeps
 

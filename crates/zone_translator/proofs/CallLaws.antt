@@ -85,7 +85,7 @@ status-refused Reserve = refl
 status-refused Unmounted = refl
 
 -- what is left of a disk by a refusal
-flat-refused : (old new : DiskView) (fault : DiskFault) → disk_size new ≡ disk_size old → new.status ≡ status_left fault → new.drive.geometry ≡ old.drive.geometry → flat_of new ≡ record (flat_of old) { array = disk_array new; status = status_after (Err fault) }
+pub flat-refused : (old new : DiskView) (fault : DiskFault) → disk_size new ≡ disk_size old → new.status ≡ status_left fault → new.drive.geometry ≡ old.drive.geometry → flat_of new ≡ record (flat_of old) { array = disk_array new; status = status_after (Err fault) }
 flat-refused old new fault size status geometry = flat-is old new (disk_array new) (disk_size old) (status_after (Err fault)) refl size (status ∙ status-refused fault) geometry
 
 -- ---- causes

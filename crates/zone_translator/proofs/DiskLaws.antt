@@ -33,7 +33,7 @@ use Rattle.zone_translator.specs.Flat.{IsAfterFront, IsFront, grow}
 use Rattle.zone_translator.specs.Read.{IsBlockFault, IsReadFault}
 use Rattle.zone_translator.proofs.WriteLaws.{front-none}
 use Rattle.zone_translator.proofs.RoomLaws.{room-stops}
-use Rattle.zone_translator.specs.View.{AreBelowNext, DiskView, KeepsDisk, disk_turns, flat_of, given_size, disk_places}
+use Rattle.zone_translator.specs.View.{AreBelowNext, DiskView, KeepsDisk, KeepsDurable, disk_turns, flat_of, given_size, disk_places}
 
 -- what a disk of these parts is seen as
 abbrev pub view_of : MountedView → Option CleanView → DiskStatus → DiskView
@@ -58,33 +58,39 @@ pub below-next : (b : MountedView) (clean : Option CleanView) (is : DiskStatus) 
 below-next b clean is serves = λ e. serves.0.sound.numbers
 
 -- what a part of a call keeps, a disk keeps
-pub keeps-disk : (a b : MountedView) (clean clean' : Option CleanView) (was is : DiskStatus) → (is ≡ statuses.Unmounted → was ≡ statuses.Unmounted) → AreBelowNext (view_of b clean' is) → Keeps a b → KeepsDisk (view_of a clean was) (view_of b clean' is)
+pub keeps-disk : (a b : MountedView) (clean clean' : Option CleanView) (was is : DiskStatus) → (is ≡ statuses.Unmounted → was ≡ statuses.Unmounted) → AreBelowNext (view_of b clean' is) → Keeps a b → KeepsDurable (view_of a clean was) (view_of b clean' is)
 keeps-disk a b clean clean' was is unmounted below keeps = record {
-  given = keeps.given;
-  geometry = keeps.geometry;
-  mountable = keeps.mountable;
-  refused = keeps.refused;
-  next = keeps.next;
-  appended = keeps.appended;
-  below = λ was_below. below;
-  unmounted = unmounted;
+  kept = record {
+    given = keeps.given;
+    geometry = keeps.geometry;
+    mountable = keeps.mountable;
+    refused = keeps.refused;
+    next = keeps.next;
+    appended = keeps.appended;
+    below = λ was_below. below;
+    unmounted = unmounted;
+  };
+  durable = keeps.durable;
 }
 
 -- turns of cleaning keep the disk
-pub cleaned-disk : (a b : MountedView) (clean clean' : Option CleanView) (was is : DiskStatus) → (is ≡ statuses.Unmounted → was ≡ statuses.Unmounted) → AreBelowNext (view_of b clean' is) → KeepsByCleaning a b → KeepsDisk (view_of a clean was) (view_of b clean' is)
+pub cleaned-disk : (a b : MountedView) (clean clean' : Option CleanView) (was is : DiskStatus) → (is ≡ statuses.Unmounted → was ≡ statuses.Unmounted) → AreBelowNext (view_of b clean' is) → KeepsByCleaning a b → KeepsDurable (view_of a clean was) (view_of b clean' is)
 cleaned-disk a b clean clean' was is unmounted below keeps = record {
-  given = keeps.given;
-  geometry = keeps.geometry;
-  mountable = keeps.mountable;
-  refused = keeps.refused;
-  next = keeps.next;
-  appended = keeps.appended;
-  below = λ was_below. below;
-  unmounted = unmounted;
+  kept = record {
+    given = keeps.given;
+    geometry = keeps.geometry;
+    mountable = keeps.mountable;
+    refused = keeps.refused;
+    next = keeps.next;
+    appended = keeps.appended;
+    below = λ was_below. below;
+    unmounted = unmounted;
+  };
+  durable = keeps.durable;
 }
 
 -- what a disk keeps where only commands went that change nothing
-pub kept-disk : (a b : MountedView) (clean : Option CleanView) (was is : DiskStatus) → (is ≡ statuses.Unmounted → was ≡ statuses.Unmounted) → AgreesWithClean a clean → KeepsArray a b → KeepsDisk (view_of a clean was) (view_of b clean is)
+pub kept-disk : (a b : MountedView) (clean : Option CleanView) (was is : DiskStatus) → (is ≡ statuses.Unmounted → was ≡ statuses.Unmounted) → AgreesWithClean a clean → KeepsArray a b → KeepsDurable (view_of a clean was) (view_of b clean is)
 kept-disk a b clean was is unmounted serves kept = cleaned-disk a b clean clean was is unmounted (below-next b clean is (cleaned_kept a b clean serves kept)) (cleaning_kept a b clean serves kept)
 
 -- and as many turns are left
@@ -120,6 +126,13 @@ kept-join a b c p q = record {
 -- what changes nothing keeps it
 pub kept-refl : (a : DiskView) → IsMountable a.drive (given_size a) → KeepsDisk a a
 kept-refl a mountable = record { given = refl; geometry = refl; mountable = mountable; refused = refl; next = refl; appended = omega arith; below = λ below. below; unmounted = λ e. e }
+
+-- the same with what is durable
+pub still-join : (a b c : DiskView) → KeepsDurable a b → KeepsDurable b c → KeepsDurable a c
+still-join a b c p q = record { kept = kept-join a b c p.kept q.kept; durable = q.durable ∙ p.durable }
+
+pub still-refl : (a : DiskView) → IsMountable a.drive (given_size a) → KeepsDurable a a
+still-refl a mountable = record { kept = kept-refl a mountable; durable = refl }
 
 -- ---- the parts of a disk
 
@@ -177,7 +190,7 @@ holds-read a b clean Unmounted fits serves kept cause = absurd cause
 -- the parts of the disk, and what it keeps
 pub record Refused (a b : MountedView) (clean clean' : Option CleanView) (fault : DiskFault) (was : DiskStatus) : Type 0 where
   pub holds : Holds b clean' (status_left fault)
-  pub kept : KeepsDisk (view_of a clean was) (view_of b clean' (status_left fault))
+  pub kept : KeepsDurable (view_of a clean was) (view_of b clean' (status_left fault))
   pub size : size_of b.tables ≡ size_of a.tables
 
 refused-serving : (a b : MountedView) (clean clean' : Option CleanView) (fault : DiskFault) (was : DiskStatus) → FitsReserve a.drive.geometry a.tables.given → status_left fault ≡ statuses.Serving → KeepsByCleaning a b × AgreesWithClean b clean' → Refused a b clean clean' fault was
@@ -347,8 +360,8 @@ read-stops a b clean was is block fault status serves tables why = record {
 
 -- a read of nothing keeps all
 pub read-none : (disk : DiskView) → IsMountable disk.drive (given_size disk) → KeepsByRead disk disk
-read-none disk mountable = record { kept = kept-refl disk mountable; array = refl; size = refl; places = refl; turns = refl }
+read-none disk mountable = record { kept = still-refl disk mountable; array = refl; size = refl; places = refl; turns = refl }
 
 -- two reads keep all
 pub read-join : (a b c : DiskView) → KeepsByRead a b → KeepsByRead b c → KeepsByRead a c
-read-join a b c p q = record { kept = kept-join a b c p.kept q.kept; array = q.array ∙ p.array; size = q.size ∙ p.size; places = q.places ∙ p.places; turns = q.turns ∙ p.turns }
+read-join a b c p q = record { kept = still-join a b c p.kept q.kept; array = q.array ∙ p.array; size = q.size ∙ p.size; places = q.places ∙ p.places; turns = q.turns ∙ p.turns }

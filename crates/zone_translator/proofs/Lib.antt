@@ -7,9 +7,11 @@ pub mod CutLaws
 pub mod ReadLaws
 pub mod ReportLaws
 pub mod DiskLaws
+pub mod FlushLaws
 pub mod MountLaws
 pub mod WriteLaws
 pub mod GrowthLaws
 pub mod CallLaws
 pub mod BackLaws
 pub mod AgainLaws
+pub mod LossLaws

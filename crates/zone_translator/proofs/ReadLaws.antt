@@ -46,13 +46,13 @@ place_halts old new tables block address returned (port.Refused status) agrees l
 place_halts old new tables block address returned port.Memory agrees lt at gives same closing obeys passed = record { halt = tt; kept = keeps-halt old new tables gives.1.1 agrees; cause = tt }
 place_halts old new tables block address returned port.Stopped agrees lt at gives same closing obeys passed = record {
   halt = tt;
-  kept = keeps-same old new tables agrees same (closing-opens old.zones new.zones closing) obeys.lawful (obeys.counts refl).refused (obeys.counts refl).appended;
+  kept = keeps-same old new tables agrees same (closing-opens old.zones new.zones closing) obeys.lawful (obeys.counts refl).refused obeys.durable (obeys.counts refl).appended;
   cause = obeys.stops refl;
 }
 
 -- and one that was done
-pub place_kept : (old new : DriveState) (tables : TablesView) → Agrees (mounted old tables) → SameContents old new → IsClosing old.zones new.zones → IsLawful new → Counts old new 0 → KeepsArray (mounted old tables) (mounted new tables)
-place_kept old new tables agrees same closing lawful counts = keeps-contents old new tables agrees same (closing-opens old.zones new.zones closing) lawful counts
+pub place_kept : (old new : DriveState) (tables : TablesView) → Agrees (mounted old tables) → SameContents old new → IsClosing old.zones new.zones → IsLawful new → new.durable ≡ old.durable → Counts old new 0 → KeepsArray (mounted old tables) (mounted new tables)
+place_kept old new tables agrees same closing lawful durable counts = keeps-contents old new tables agrees same (closing-opens old.zones new.zones closing) lawful durable counts
 
 -- it shows the block of the array
 pub place_shown : (drive : DriveState) (tables : TablesView) (block address : ℕ) (shown : List ℕ) → Agrees (mounted drive tables) → block < size_of tables → places.At address ≡ get_or tables.map.places block places.None

@@ -74,6 +74,7 @@ retire-stops a b clean is leaves =
       given = given;
       geometry = kept.geometry;
       refused = kept.refused;
+      durable = kept.durable;
       next = omega (arith, ap (λ (t : TablesView). t.next) leaves.0, kept.appended);
       appended = omega (arith, kept.appended);
     }
@@ -104,7 +105,7 @@ retire_clean V a b clean Unmounted is leaves = stays-cleaning {V = V} a b clean 
 pub room-stops : (a b : MountedView) → KeepsByCleaning a b → b.drive.stopped ≡ true → StopKeeps a b
 room-stops a b kept stopped = record {
   stopped = stopped;
-  keeps = record { mountable = kept.mountable; given = kept.given; geometry = kept.geometry; refused = kept.refused; next = kept.next; appended = kept.appended };
+  keeps = record { mountable = kept.mountable; given = kept.given; geometry = kept.geometry; refused = kept.refused; durable = kept.durable; next = kept.next; appended = kept.appended };
   size = kept.size;
 }
 
@@ -154,6 +155,7 @@ keeps-seal drive tables new host agrees is new-is some is_full =
       second = refl;
       geometry = refl;
       refused = refl;
+      durable = refl;
       appended = refl;
     })
 
@@ -168,8 +170,8 @@ finished_host old new tables host start agrees is start-is some room geometry fi
 
 -- and so does finishing it
 pub keeps-finish : (old new : DriveState) (tables after : TablesView) (host : Filling) (start : ℕ) → Agrees (mounted old tables) → tables.roles.host ≡ Some host → start ≡ host.zone * old.geometry.size → 1 ≤ host.written → host.written < old.geometry.capacity
-    → Finished old new start → OpensNone old.zones new.zones → IsLawful new → after ≡ record tables { roles = sealed tables.roles } → KeepsArray (mounted old tables) (mounted new after)
-keeps-finish old new tables after host start agrees is start-is some room finished opens lawful after-is =
+    → Finished old new start → OpensNone old.zones new.zones → IsLawful new → new.durable ≡ old.durable → after ≡ record tables { roles = sealed tables.roles } → KeepsArray (mounted old tables) (mounted new after)
+keeps-finish old new tables after host start agrees is start-is some room finished opens lawful durable after-is =
     let done = finished_host old new tables host start agrees is start-is some room finished.geometry finished.contents opens lawful in
     rw after-is (record {
       agrees = done.0;
@@ -183,6 +185,7 @@ keeps-finish old new tables after host start agrees is start-is some room finish
       second = refl;
       geometry = finished.geometry;
       refused = finished.counts.refused;
+      durable = durable;
       appended = omega (arith, finished.counts.appended);
     })
 
@@ -203,7 +206,7 @@ finish_halts old new tables host start port.Stopped agrees is start-is some room
     opens = finish-opens {V = Unit {0}} old new start (Err port.Stopped) leaves
 
     by : SameContents old new ⊎ FinishedContents old new start → (after : TablesView) × KeepsArray (mounted old tables) (mounted new after)
-    by (inl same) = (tables, keeps-same old new tables agrees same opens obeys.lawful (obeys.counts refl).refused (obeys.counts refl).appended)
+    by (inl same) = (tables, keeps-same old new tables agrees same opens obeys.lawful (obeys.counts refl).refused obeys.durable (obeys.counts refl).appended)
     by (inr finished) =
         let after = record tables { roles = sealed tables.roles } in
         let done = finished_host old new tables host start agrees is start-is some room finished.geometry finished.contents opens obeys.lawful in (
@@ -220,6 +223,7 @@ finish_halts old new tables host start port.Stopped agrees is start-is some room
             second = refl;
             geometry = finished.geometry;
             refused = (obeys.counts refl).refused;
+            durable = obeys.durable;
             appended = (obeys.counts refl).appended;
           },
         )
@@ -240,6 +244,7 @@ keeps-take drive tables new zone agrees is lowest two new-is =
       second = refl;
       geometry = refl;
       refused = refl;
+      durable = refl;
       appended = refl;
     })
 

@@ -239,6 +239,7 @@ keeps-placed a b c clean zone batch kept placed is = record {
   given = placed.given ∙ kept.given;
   geometry = placed.geometry ∙ kept.geometry;
   refused = placed.refused ∙ kept.refused;
+  durable = placed.durable ∙ kept.durable;
   next = omega (arith, kept.next, placed.next, placed.appended);
   appended = omega (arith, kept.appended, placed.appended);
 }
@@ -282,6 +283,7 @@ append_stops a b c zone batch kept stops mountable =
         given = same.given ∙ kept.given;
         geometry = stops.geometry ∙ kept.geometry;
         refused = stops.refused ∙ kept.refused;
+        durable = stops.durable ∙ kept.durable;
         next = omega (arith, kept.next, same.next, stops.appended);
         appended = omega (arith, kept.appended, stops.appended);
       };

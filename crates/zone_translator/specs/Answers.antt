@@ -1,6 +1,6 @@
 -- What the calls of a disk promise.
 use Rattle.std.specs.Prelude.{◌≡◌, ◌⊎◌, ℕ, ◌+◌, ◌-◌, ◌*◌, ◌<◌, ◌≤◌, Bool, true, false, List, length}
-use Rattle.std.specs.Prelude.{slice_index_or, Some, None, IfErr, IfSome, OnOk, OnErr, Result, Err}
+use Rattle.std.specs.Prelude.{slice_index_or, Some, None, IfErr, IfSome, OnOk, OnErr, Result, Ok, Err}
 use Rattle.logical_map.specs.declared.place.Place.{Place}
 use Rattle.logical_map.specs.declared.place.Place.TheVariants as places
 use Rattle.drive_survey.specs.declared.fault.MountFault.{MountFault}
@@ -9,6 +9,7 @@ use Rattle.drive_survey.specs.Scan.{IsInterruption}
 use Rattle.zone_states.specs.Geometry.{IsInRange}
 use Rattle.drive_port.specs.Calls.{block_count, data_blocks}
 use Rattle.drive_port.specs.Drive.{DriveState}
+use Rattle.drive_port.specs.Durable.{IsDurable, MayBeDurable}
 use Rattle.zone_choice.specs.Changes.{sequence_end}
 use Rattle.drive_array.specs.Mountable.{IsMountable}
 use Rattle.drive_array.specs.Reserve.{FitsReserve}
@@ -22,7 +23,7 @@ use Rattle.zone_translator.specs.Batches.{LogsAreCut, blocks_of}
 use Rattle.zone_translator.specs.Calls.{IsTurn, Reads, is_known}
 use Rattle.zone_translator.specs.Changes.{Names, batch_commands}
 use Rattle.zone_translator.specs.Cleaning.{AreNewer, log_in_zone}
-use Rattle.zone_translator.specs.Flat.{Call, FlatCall, FlatRemount, read, with_nothing, write}
+use Rattle.zone_translator.specs.Flat.{Call, FlatCall, FlatRemount, flush, read, with_nothing, write}
 use Rattle.zone_translator.specs.Mount.{MountsDisk}
 use Rattle.zone_translator.specs.View.{CompletesAtMost, DiskCause, DiskView, KeepsDisk, disk_size, disk_turns, flat_of, given_size}
 use Rattle.zone_translator.specs.View.{logs_of, mounted_of, most_batches, next_sequence, disk_places, size_on}
@@ -51,12 +52,20 @@ write_commands trim disk n = most_batches trim disk n * batch_commands disk.driv
 
 -- ---- every call
 
+-- What is durable of the drive after a call. A flush that is done made durable what the drive holds; one that was
+-- refused may have done so. No other call changes what is durable.
+abbrev pub HardensBy : DiskView → Call → Result (Unit {0}) DiskFault → DiskView → Type 0
+HardensBy old flush (Ok done) new = IsDurable new.drive
+HardensBy old flush (Err fault) new = MayBeDurable old.drive new.drive
+HardensBy old call result new = new.drive.durable ≡ old.drive.durable
+
 -- The answer is a flat array's, and so is the array afterwards. An answer that is known before anything is done
 -- changes nothing. Whatever the answer, the drive can be mounted again, and a refusal has its cause.
 pub record Answers (old : DiskView) (call : Call) (result : Result (Unit {0}) DiskFault) (new : DiskView) : Type 0 where
   pub flat : FlatCall (flat_of old) call (with_nothing result) (flat_of new)
   pub untouched : is_known (flat_of old) call ≡ true → new ≡ old
   pub kept : KeepsDisk old new
+  pub durable : HardensBy old call result new
   pub cause : IfErr result (DiskCause new)
 
 -- ---- reads
@@ -71,6 +80,7 @@ pub record AnswersRead (old : DiskView) (first n : ℕ) (result : Result (Unit {
   pub flat : Reads (flat_of old) first n result bytes (flat_of new)
   pub untouched : is_known (flat_of old) (read first n) ≡ true → new ≡ old
   pub kept : KeepsDisk old new
+  pub durable : new.drive.durable ≡ old.drive.durable
   pub cause : IfErr result (DiskCause new)
   pub stops : old.status ≡ statuses.Serving → result ≡ Err Stopped → HasData (disk_places old) first n
 

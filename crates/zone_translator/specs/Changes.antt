@@ -85,6 +85,7 @@ pub record Keeps (before after : MountedView) : Type 0 where
   pub given : after.tables.given ≡ before.tables.given
   pub geometry : after.drive.geometry ≡ before.drive.geometry
   pub refused : after.drive.refused ≡ before.drive.refused
+  pub durable : after.drive.durable ≡ before.drive.durable
   pub next : after.tables.next + before.drive.appended ≡ before.tables.next + after.drive.appended
   pub appended : before.drive.appended ≤ after.drive.appended
 

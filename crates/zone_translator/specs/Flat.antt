@@ -44,11 +44,12 @@ pub record FlatDisk : Type 0 where
 -- ---- calls
 
 -- what a host asks of a disk: to show n blocks from a given one on, to write these blocks from a given one on, to have
--- that many blocks, to clean for one turn, or to report the drive's zones
+-- that many blocks, to make its array durable, to clean for one turn, or to report the drive's zones
 pub data Call : Type 0 where
   read : ℕ → ℕ → Call
   write : ℕ → List (List ℕ) → Call
   grow : ℕ → Call
+  flush : Call
   idle : Call
   report : Call
 

@@ -1,13 +1,14 @@
 -- What holds of the flat disk, and of a disk whose drive stops.
-use Rattle.std.specs.Prelude.{◌≡◌, ◌⊎◌, ℕ, ◌+◌, ◌<◌, ◌≤◌, List, [], ◌∷◌, length, slice_index_or, IfErr, Ok, Result}
+use Rattle.std.specs.Prelude.{◌≡◌, ◌⊎◌, ℕ, ◌+◌, ◌<◌, ◌≤◌, List, [], ◌∷◌, Contains, length, map, slice_index_or, IfErr, Ok, Err, Result}
 use Rattle.std.specs.List.{concat}
+use Rattle.zone_states.specs.Zone.{Zone}
 use Rattle.drive_port.specs.Drive.{DriveState}
-use Rattle.drive_port.specs.Run.{restarted}
+use Rattle.drive_port.specs.Run.{restarted, restarted_zone}
 use Rattle.drive_survey.specs.Scan.{IsInterruption}
 use Rattle.drive_survey.specs.declared.fault.MountFault.{MountFault}
 use Rattle.remount.specs.Mount.{IsToMount}
-use Rattle.zone_translator.specs.Answers.{Answers, AnswersRead, IsMounted, Remounts}
-use Rattle.zone_translator.specs.Flat.{Answer, Call, FlatCall, FlatDisk, FlatRemount, read, replaced, with_nothing, write}
+use Rattle.zone_translator.specs.Answers.{Answers, AnswersRead, HardensBy, IsMounted, Remounts}
+use Rattle.zone_translator.specs.Flat.{Answer, Call, FlatCall, FlatDisk, FlatRemount, flush, read, replaced, with_nothing, write}
 use Rattle.zone_translator.specs.Mount.{GivesBack, MountsDisk}
 use Rattle.zone_translator.specs.View.{DiskCause, DiskView, KeepsDisk, disk_array, flat_of, given_size}
 use Rattle.zone_translator.specs.declared.fault.DiskFault.{DiskFault}
@@ -64,9 +65,9 @@ abbrev pub FlatStep : FlatDisk → Step → FlatDisk → Type 0
 FlatStep old (call asked answer) new = FlatCall old asked answer new
 FlatStep old (remount result) new = FlatRemount old result new
 
--- what of the drive a call keeps, which is refused only for a cause, and what a remount keeps
+-- what of the drive a call keeps, and makes durable, which is refused only for a cause; and what a remount keeps
 abbrev pub KeepsByStep : DiskView → Step → DiskView → Type 0
-KeepsByStep old (call asked answer) new = KeepsDisk old new × IfErr answer.result (DiskCause new)
+KeepsByStep old (call asked answer) new = KeepsDisk old new × HardensBy old asked answer.result new × IfErr answer.result (DiskCause new)
 KeepsByStep old (remount result) new = Remounts old result new
 
 -- a disk is called, or mounted again
@@ -97,3 +98,28 @@ pub record ListLeaves (old : DriveState) (first : DiskView) (steps : List Step) 
 abbrev pub ListIsFound : Type 0
 ListIsFound =
     (old : DriveState) (n : ℕ) (first last : DiskView) (steps : List Step) → IsMounted old n first → AllSteps Steps first steps last → ListLeaves old first steps last
+
+-- ---- a loss of power
+
+-- A loss of power leaves these zones: those of the disk's drive, on which a mount finds the disk's array.
+pub record LeavesDisk (disk : DiskView) (zones : List Zone) : Type 0 where
+  pub zones_are : zones ≡ map restarted_zone disk.drive.zones
+  pub found : FindsAgain disk
+
+-- What it leaves after a flush of a disk: the disk, if the flush was done; if it was refused, the disk or what it might
+-- have left before.
+abbrev pub LeftAfter : (List Zone → Type 0) → Result (Unit {0}) DiskFault → DiskView → List Zone → Type 0
+LeftAfter Before (Ok done) disk zones = LeavesDisk disk zones
+LeftAfter Before (Err fault) disk zones = Before zones ⊎ LeavesDisk disk zones
+
+-- What it leaves after a list of steps: the disk of the last flush that was done, or that of a flush after it that was
+-- refused. Where no flush was done it may also leave what it might have left before the first step.
+abbrev pub LossLeaves : (List Zone → Type 0) → (first : DiskView) → (steps : List Step) → (last : DiskView) → AllSteps Steps first steps last → List Zone → Type 0
+LossLeaves Before first [] last all zones = Before zones
+LossLeaves Before first (call flush answer ∷ steps) last all zones = LossLeaves (LeftAfter Before answer.result all.0) all.0 steps last all.2 zones
+LossLeaves Before first (step ∷ steps) last all zones = LossLeaves Before all.0 steps last all.2 zones
+
+abbrev pub LossIsFound : Type 0
+LossIsFound =
+    (old : DriveState) (n : ℕ) (first last : DiskView) (steps : List Step) → IsMounted old n first → (all : AllSteps Steps first steps last)
+    → (zones : List Zone) → Contains last.drive.durable zones → LossLeaves (Contains old.durable) first steps last all zones

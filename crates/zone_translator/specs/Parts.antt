@@ -12,7 +12,7 @@ use Rattle.zone_translator.specs.Calls.{status_left}
 use Rattle.zone_translator.specs.Changes.{IsCause, Names}
 use Rattle.zone_translator.specs.Flat.{IsFront, replaced}
 use Rattle.zone_translator.specs.Read.{IsReadFault}
-use Rattle.zone_translator.specs.View.{DiskView, KeepsDisk, disk_array, disk_size, disk_turns, next_sequence, disk_places, size_on}
+use Rattle.zone_translator.specs.View.{DiskView, KeepsDurable, disk_array, disk_size, disk_turns, next_sequence, disk_places, size_on}
 
 -- One batch of a write took as many of the blocks that are left: they are in the array, and their records on the drive.
 pub record WroteSome (old : DiskView) (rest : Rest) (new : DiskView) (count : ℕ) : Type 0 where
@@ -31,7 +31,7 @@ pub record RefusedSome (old : DiskView) (rest : Rest) (new : DiskView) (fault : 
 
 -- a read changes nothing that a disk is asked for
 pub record KeepsByRead (old new : DiskView) : Type 0 where
-  pub kept : KeepsDisk old new
+  pub kept : KeepsDurable old new
   pub array : disk_array new ≡ disk_array old
   pub size : disk_size new ≡ disk_size old
   pub places : disk_places new ≡ disk_places old

@@ -89,6 +89,11 @@ pub record KeepsDisk (old new : DiskView) : Type 0 where
   pub below : AreBelowNext old → AreBelowNext new
   pub unmounted : new.status ≡ statuses.Unmounted → old.status ≡ statuses.Unmounted
 
+-- a call that is no flush also keeps what is durable of the drive
+pub record KeepsDurable (old new : DiskView) : Type 0 where
+  pub kept : KeepsDisk old new
+  pub durable : new.drive.durable ≡ old.drive.durable
+
 -- why a call was refused; of a range and of a size the call itself tells
 abbrev pub DiskCause : DiskView → DiskFault → Type 0
 DiskCause disk OutOfRange = Unit {0}

@@ -15,14 +15,16 @@ ghost use Rattle.zone_translator.specs.Batches.{CanWrite, HasBlocks, KeepsCut, i
 ghost use Rattle.zone_translator.specs.Calls.{IsSound, ReportsAll, answer_before, done_of, refusal_before, status_left};
 ghost use Rattle.zone_translator.specs.Changes.{batch_commands};
 ghost use Rattle.zone_translator.specs.Cleaning.{KeepsCleaning};
-ghost use Rattle.zone_translator.specs.Flat.{answer_while, fill, grow, idle, known_growth, known_range, report, trim};
+ghost use Rattle.zone_translator.specs.Flat.{answer_while, fill, flush, grow, idle, known_growth, known_range};
+ghost use Rattle.zone_translator.specs.Flat.{report, trim};
 ghost use Rattle.zone_translator.specs.Mount.{GivesBack};
 ghost use Rattle.zone_translator.specs.Parts.{KeepsByRead, ReadStops, RefusedSome, WroteSome};
-ghost use Rattle.zone_translator.specs.View.{CompletesAtMost, DiskCause, HasLive, KeepsDisk, disk_array};
+ghost use Rattle.zone_translator.specs.View.{CompletesAtMost, DiskCause, HasLive, KeepsDurable, disk_array};
 ghost use Rattle.zone_translator.specs.View.{disk_places, disk_size, disk_turns, flat_of, mounted_of};
 ghost use Rattle.zone_translator.specs.declared.status.DiskStatus.TheVariants.{Serving};
 
 use crate::fault::DiskFault;
+use crate::flush::flush_drive;
 use crate::read::read_block;
 use crate::report::report_all;
 use crate::status::DiskStatus;
@@ -197,7 +199,7 @@ impl<D: Device + Drop> Disk<D> {
         ensures wrote { IfOk result (WroteSome self.old rest.entry self.new) }
         ensures err { IfErr result (RefusedSome self.old rest.entry self.new) }
         // Whatever it answers, the drive can be mounted, and the size is the same. Its batch is as long as it can be.
-        ensures kept { KeepsDisk self.old self.new }
+        ensures kept { KeepsDurable self.old self.new }
         ensures size { disk_size self.new ≡ disk_size self.old }
         ensures cut { KeepsCut self.old.drive rest.entry self.new.drive }
         // It adds no turns to a clean that ran, and costs at most the commands of one batch.
@@ -404,6 +406,25 @@ impl<D: Device + Drop> Disk<D> {
             &mut self.batch,
             blocks,
         ) {
+            Ok(()) => Ok(()),
+            Err(fault) => {
+                self.status = status_of(fault);
+                Err(fault)
+            }
+        }
+    }
+
+    /// Makes the array durable, by a Flush of the drive: a loss of power leaves it, as far as the drive says what such a
+    /// loss leaves.
+    ///
+    /// After a refusal the array is the same, and a loss of power leaves what it might have left before, or this array.
+    pub fn flush(&mut self) -> Result<(), DiskFault>
+        ensures answers { Answers self.old flush result self.new }
+        ensures turns { disk_turns self.new ≡ disk_turns self.old }
+        ensures completed { CompletesAtMost self.old 1 self.new }
+    {
+        self.check_serving()?;
+        match flush_drive(&mut self.mounted) {
             Ok(()) => Ok(()),
             Err(fault) => {
                 self.status = status_of(fault);

@@ -1,8 +1,8 @@
 //! What holds of the flat disk, whose answers every call of `Disk` gives, and of a disk whose drive stops. Each
 //! function carries laws as its contract, and changes nothing.
 
-ghost use Rattle.zone_translator.specs.Laws.{CalledCan, CallsAreSteps, LeftIsFound, ListIsFound, MountedCan};
-ghost use Rattle.zone_translator.specs.Laws.{RemountedCan, WriteKeepsOthers, WrittenReadsBack};
+ghost use Rattle.zone_translator.specs.Laws.{CalledCan, CallsAreSteps, LeftIsFound, ListIsFound, LossIsFound};
+ghost use Rattle.zone_translator.specs.Laws.{MountedCan, RemountedCan, WriteKeepsOthers, WrittenReadsBack};
 ghost use Rattle.zone_translator.specs.View.{flat_of};
 
 use crate::disk::Disk;
@@ -38,4 +38,10 @@ pub fn lists_are_found()
     // A list has these steps: each call of a disk with its answer, and each remount with its result.
     ensures steps { CallsAreSteps }
     ensures found { ListIsFound }
+{}
+
+/// After a loss of power the array of the last flush is found again: the last one that was done, or one after it that was
+/// refused. That is said of a drive that says what a loss of power leaves.
+pub fn flushed_is_found()
+    ensures { LossIsFound }
 {}

@@ -13,6 +13,7 @@
 //! disk.trim(6, 1)?;                // block 6 reads as zeros
 //! disk.grow(9)?;                   // one block more
 //! disk.read(2, 3, &mut shown)?;    // blocks 2 to 4
+//! disk.flush()?;                   // a loss of power leaves these blocks, if the drive says what one leaves
 //! disk.remount()?;                 // the same blocks, found again on the drive
 //! let drive = disk.into_device();
 //! ```
@@ -20,13 +21,15 @@
 //! What is promised, whatever the drive does that obeys its rules: each call answers as a flat array of
 //! blocks would (`FlatCall` and `FlatRemount` in specs/Flat); the drive can be mounted again, its newest records hold
 //! that array, at the exit of every call; no command that the disk sends is refused by the drive
-//! (`KeepsDisk` in specs/View). A refused write has written a front of its blocks, and nothing else.
+//! (`KeepsDisk` in specs/View). A refused write has written a front of its blocks, and nothing else. Only a `flush`
+//! changes what a loss of power leaves (`HardensBy` in specs/Answers).
 //!
 //! Tests: the rows of `worked_runs`, with a stop at every place.
 #![tactic(auto)]
 
 mod disk;
 mod fault;
+mod flush;
 pub mod laws;
 mod read;
 mod report;

@@ -1,4 +1,4 @@
-//! The program, without any way to a device.
+//! The program, without any way to a device, or to a drive that stays in its file.
 //!
 //! ```text
 //! $ zonedisk format --image my.drive --block 512 --zones 4 --size 8 --capacity 6 --transfer 4 --active 2 --open 2
@@ -13,7 +13,8 @@
 //!
 //! The lines are `read`, `fill`, `write`, `trim`, `idle`, `grow` and `remount`, as `docs/formats.md` describes them.
 //! `zonedisk_program` has all that the program does, and what is promised of it. Here it is run with [`NoDevices`]:
-//! each job on a device is refused, and standard error says which program has a way.
+//! each job on a device or on a drive that stays in its file is refused, and standard error says which program has a
+//! way.
 #![tactic(auto)]
 
 use std::io;
@@ -21,5 +22,5 @@ use std::process::ExitCode;
 use zonedisk_program::{NoDevices, run_program};
 
 fn main(rt: HostRuntime) -> io::Result<ExitCode> {
-    run_program(&rt, &NoDevices)
+    run_program(&rt, &NoDevices, &NoDevices)
 }

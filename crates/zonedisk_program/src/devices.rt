@@ -1,4 +1,4 @@
-// Jobs on the drive behind a device.
+// Jobs on the drive behind a device, or on one that stays in its file.
 
 ghost use Rattle.std.specs.Prelude.{◌≡◌, ◌⊎◌, codes, false};
 ghost use Rattle.std.specs.Io.KnownBytes.{Appends};
@@ -10,11 +10,12 @@ use block_copies::ExportFault;
 use copy_jobs::{CopyFault, CopyJob, ExportJob, ImportJob, import_mounted};
 use device_jobs::{
     DeviceFault, DeviceJob, DeviceRun, Devices, FormatFault, NamedDrive, OpenDevice, SendFault,
-    answer_report, check_device, explain_run, explain_sent, export_device, format_device,
+    answer_report, check_device, explain_run, explain_sent, export_device, format_device, harden,
     inform_device, run_device, run_fault, send_lines, serve_client, write_device_fault,
 };
+use disk_files::write_out;
 use disk_jobs::{
-    Counted, Explained, Gate, JobInput, LineCount, ProgramFault, Stop, Watched, run_told,
+    Counted, Explained, Gate, Habit, JobInput, LineCount, ProgramFault, Stop, Watched, run_told,
 };
 use disk_runs::RunFault;
 use drive_port::{Device, Geometry};
@@ -56,20 +57,27 @@ fn send<W: Write>(output: &mut W) -> Result<(), ProgramFault> {
     output.flush().or(Err(ProgramFault::Run(RunFault::Output)))
 }
 
-/// Makes durable what a drive has completed, after a job that ended so. People are told if that fails.
-fn sync_after<R: Eprint, M: Medium>(
-    rt: &R,
-    path: &str,
-    ended: ExitCode,
-    medium: &mut M,
-) -> ExitCode {
-    if medium.sync().is_ok() {
-        return ended;
-    }
+/// Says that what a drive has completed may not be durable.
+fn unsynced<R: Eprint>(rt: &R, path: &str) -> ExitCode {
     let _ = eprintln!(rt;
         "zonedisk: {path}: the sync at the end failed: a loss of power may lose what was done"
     );
     ExitCode::FAILURE
+}
+
+/// Makes durable what a drive has completed, after a job that ended so. People are told if that fails.
+fn sync_after<R: Eprint, D: Device, M: Medium>(
+    rt: &R,
+    alloc: Global,
+    path: &str,
+    ended: ExitCode,
+    drive: &mut D,
+    medium: &mut M,
+) -> ExitCode {
+    if harden(alloc, drive, medium).is_ok() {
+        return ended;
+    }
+    unsynced(rt, path)
 }
 
 /// Says why a drive is not formatted, or where that is not known to be done.
@@ -96,7 +104,7 @@ fn do_format<R: Eprint, D: Devices, W: Write>(
 ) -> ExitCode
     ensures { D.has_way devices.now ≡ false → exit_status result ≡ 1 }
 {
-    let open = match devices.open(alloc, path) {
+    let open = match devices.open(alloc, path, Habit::Lazy) {
         Ok(open) => open,
         Err(fault) => return refuse_lines(rt, path, fault, output),
     };
@@ -112,7 +120,27 @@ fn do_format<R: Eprint, D: Devices, W: Write>(
     if output.flush().is_err() {
         return refuse_format(rt, named, FormatFault::Output, output);
     }
-    sync_after(rt, path, ExitCode::SUCCESS, &mut medium)
+    sync_after(rt, alloc, path, ExitCode::SUCCESS, &mut drive, &mut medium)
+}
+
+/// Makes a new drive that stays in its file.
+fn do_create<R: Eprint, D: Devices, W: Write>(
+    rt: &R,
+    devices: &D,
+    path: &str,
+    geometry: &Geometry,
+    output: &mut W,
+) -> ExitCode
+    ensures { D.has_way devices.now ≡ false → exit_status result ≡ 1 }
+{
+    if let Err(fault) = devices.create(path, geometry) {
+        return refuse_lines(rt, path, fault, output);
+    }
+    if write_out(output, b"ok\n").is_ok() && output.flush().is_ok() {
+        return ExitCode::SUCCESS;
+    }
+    let _ = eprintln!(rt; "zonedisk: {path}: the drive was made, but standard output failed");
+    ExitCode::FAILURE
 }
 
 /// How a run ended, as the program tells it.
@@ -123,14 +151,14 @@ fn run_end(ran: Result<(), RunFault>, geometry: &Geometry) -> Result<(), Program
     }
 }
 
-/// Answers a trace over a drive. Its lines are on standard input.
+/// Answers a trace over a drive. Its lines are on standard input. The drive is given back.
 fn answer_lines<R: Eprint + Input, D: Device + Drop, W: Write>(
     rt: &R,
     alloc: Global,
     drive: D,
     job: &DeviceRun,
     output: &mut W,
-) -> ExitCode {
+) -> (D, ExitCode) {
     let gate = Gate::open();
     let count = LineCount::new();
     let counted = job.progress.then_some(Counted::Lines);
@@ -140,13 +168,13 @@ fn answer_lines<R: Eprint + Input, D: Device + Drop, W: Write>(
     let ended = run_end(ran, &drive.geometry()).and(send(output));
     tell_size(rt, alloc, &job.device, Some(job.blocks), mounting.disk);
     let Err(fault) = ended else {
-        return ExitCode::SUCCESS;
+        return (drive, ExitCode::SUCCESS);
     };
     let code = fail(alloc, fault, output);
     if let Ok(text) = explain_run(alloc, job, fault, &mut input, mounting) {
         let _ = eprintln!(rt; "zonedisk: {text}");
     }
-    code
+    (drive, code)
 }
 
 /// Mounts the drive, and answers a trace. It ends with a sync, unless the drive has to stop before.
@@ -159,16 +187,16 @@ fn do_run<R: Eprint + Input, D: Devices, W: Write>(
 ) -> ExitCode
     ensures { D.has_way devices.now ≡ false → exit_status result ≡ 1 }
 {
-    match devices.open(alloc, &job.device) {
+    match devices.open(alloc, &job.device, job.habit) {
         Ok(open) => {
             let OpenDevice {
                 drive,
                 mut medium,
                 ..
             } = open;
-            let ended = answer_lines(rt, alloc, drive, job, output);
+            let (mut drive, ended) = answer_lines(rt, alloc, drive, job, output);
             if job.stop == Stop::NEVER {
-                sync_after(rt, &job.device, ended, &mut medium)
+                sync_after(rt, alloc, &job.device, ended, &mut drive, &mut medium)
             } else {
                 ended
             }
@@ -188,7 +216,7 @@ fn do_report<R: Eprint, D: Devices, W: Write>(
 ) -> ExitCode
     ensures { D.has_way devices.now ≡ false → exit_status result ≡ 1 }
 {
-    let mut drive = match devices.open(alloc, path) {
+    let mut drive = match devices.open(alloc, path, Habit::Lazy) {
         Ok(open) => open.drive,
         Err(fault) => return refuse_lines(rt, path, fault, output),
     };
@@ -209,11 +237,12 @@ fn do_nvme<R: Eprint + Input, D: Devices, W: Write>(
     devices: &D,
     path: &str,
     explain: bool,
+    habit: Habit,
     output: &mut W,
 ) -> ExitCode
     ensures { D.has_way devices.now ≡ false → exit_status result ≡ 1 }
 {
-    let mut drive = match devices.open_raw(alloc, path) {
+    let mut drive = match devices.open_raw(alloc, path, habit) {
         Ok(drive) => drive,
         Err(fault) => return refuse_lines(rt, path, fault, output),
     };
@@ -246,7 +275,7 @@ fn do_nbd<R: Eprint + Input + Print, D: Devices>(
 ) -> ExitCode
     ensures { D.has_way devices.now ≡ false → exit_status result ≡ 1 }
 {
-    let open = match devices.open(alloc, &job.image) {
+    let open = match devices.open(alloc, &job.image, job.habit) {
         Ok(open) => open,
         Err(fault) => return refuse(rt, &job.image, fault),
     };
@@ -256,8 +285,12 @@ fn do_nbd<R: Eprint + Input + Print, D: Devices>(
     if let Some(text) = &served.statistics {
         let _ = eprint!(rt; "{text}");
     }
+    let ended = match served.flushed {
+        Ok(()) => ExitCode::SUCCESS,
+        Err(_) => unsynced(rt, &job.image),
+    };
     let Err(fault) = served.session else {
-        return ExitCode::SUCCESS;
+        return ended;
     };
     if let Ok(text) = nbd_jobs::explain(alloc, job, fault) {
         let _ = eprintln!(rt; "zonedisk: {text}");
@@ -296,7 +329,7 @@ fn do_check<R: Eprint, D: Devices, W: Write>(
 ) -> ExitCode
     ensures { D.has_way devices.now ≡ false → exit_status result ≡ 1 }
 {
-    let mut drive = match devices.open(alloc, &job.image) {
+    let mut drive = match devices.open(alloc, &job.image, Habit::Lazy) {
         Ok(open) => open.drive,
         Err(fault) => return refuse(rt, &job.image, fault),
     };
@@ -314,7 +347,7 @@ fn do_info<R: Eprint, D: Devices, W: Write>(
 ) -> ExitCode
     ensures { D.has_way devices.now ≡ false → exit_status result ≡ 1 }
 {
-    let mut drive = match devices.open(alloc, &job.image) {
+    let mut drive = match devices.open(alloc, &job.image, Habit::Lazy) {
         Ok(open) => open.drive,
         Err(fault) => return refuse(rt, &job.image, fault),
     };
@@ -340,16 +373,16 @@ fn export<R: Eprint + Print, D: Device + Drop>(
     exported.and(sent.or(Err(CopyFault::Export(ExportFault::Output))))
 }
 
-/// Writes blocks of standard input to a drive.
+/// Writes blocks of standard input to a drive, which is given back.
 fn import<R: Eprint + Input, D: Device + Drop>(
     rt: &R,
     alloc: Global,
     drive: D,
     job: &ImportJob,
-) -> Result<(), CopyFault> {
+) -> (D, Result<(), CopyFault>) {
     let mut input = Watched::new(rt.reader(), rt, counted(job.progress));
-    let (_drive, taken) = import_mounted(alloc, job, drive, &mut input);
-    taken.map(|_count| ())
+    let (drive, taken) = import_mounted(alloc, job, drive, &mut input);
+    (drive, taken.map(|_count| ()))
 }
 
 /// Tells how a copy ended. Why it is not whole goes to standard error.
@@ -377,7 +410,7 @@ fn do_copy<R: Eprint + Input + Print, D: Devices>(
 ) -> ExitCode
     ensures { D.has_way devices.now ≡ false → exit_status result ≡ 1 }
 {
-    let open = match devices.open(alloc, job.image()) {
+    let open = match devices.open(alloc, job.image(), Habit::Lazy) {
         Ok(open) => open,
         Err(fault) => return refuse(rt, job.image(), fault),
     };
@@ -391,8 +424,9 @@ fn do_copy<R: Eprint + Input + Print, D: Devices>(
             end_copy(rt, alloc, job, export(rt, alloc, drive, export_job))
         }
         CopyJob::Import(import_job) => {
-            let ended = end_copy(rt, alloc, job, import(rt, alloc, drive, import_job));
-            sync_after(rt, job.image(), ended, &mut medium)
+            let (mut drive, imported) = import(rt, alloc, drive, import_job);
+            let ended = end_copy(rt, alloc, job, imported);
+            sync_after(rt, alloc, job.image(), ended, &mut drive, &mut medium)
         }
     }
 }
@@ -412,13 +446,16 @@ pub fn do_device<R: Eprint + Input + Print, D: Devices, W: Write>(
         DeviceJob::Format { device, force } => {
             do_format(rt, alloc, devices, device, *force, output)
         }
+        DeviceJob::Create { image, geometry } => do_create(rt, devices, image, geometry, output),
         DeviceJob::Run(job) => do_run(rt, alloc, devices, job, output),
         DeviceJob::Report { device, state } => {
             do_report(rt, alloc, devices, device, *state, output)
         }
-        DeviceJob::Nvme { device, explain } => {
-            do_nvme(rt, alloc, devices, device, *explain, output)
-        }
+        DeviceJob::Nvme {
+            device,
+            explain,
+            habit,
+        } => do_nvme(rt, alloc, devices, device, *explain, *habit, output),
         DeviceJob::Nbd(job) => do_nbd(rt, alloc, devices, job),
         DeviceJob::Check(job) => do_check(rt, alloc, devices, job, output),
         DeviceJob::Info(job) => do_info(rt, alloc, devices, job, output),

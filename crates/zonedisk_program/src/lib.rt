@@ -3,33 +3,45 @@
 //!
 //! ```text
 //! fn main(rt: HostRuntime) -> io::Result<ExitCode> {
-//!     run_program(&rt, &NoDevices)
+//!     run_program(&rt, &NoDevices, &NoDevices)
 //! }
 //! ```
 //!
-//! [`run_program`] is the whole program over any way to devices, so that programs with different ways share all else.
+//! [`run_program`] is the whole program over any two ways: one to devices, and one to drives that stay in their files.
+//! So programs with different ways share all else.
 //! [`task_of`] reads the words of the command line, and each job is done by its crate: [`do_job`], [`do_nbd_job`],
-//! [`do_export`], [`do_import`] and [`do_tool_job`] on the drive in a file, and those of `device_jobs` on the drive of
-//! a device. What people are told goes to standard error: what a fault is, what a status means with `nvme --explain`,
-//! and what to know of the size of a disk.
+//! [`do_export`], [`do_import`] and [`do_tool_job`] on the drive whose image is in a file, and those of `device_jobs`
+//! on the drive of a device. What people are told goes to standard error: what a fault is, what a status means with
+//! `nvme --explain`, and what to know of the size of a disk.
+//!
+//! A file that is named by `--image` may hold a drive that stays in it. The first bytes of the file say so. Then the
+//! task becomes a job on a device with that path ([`in_place`]), and the second way opens it.
 //!
 //! # What is promised
 //!
 //! [`do_device`] ends each job on a device with the exit status 1 if there is no way to any. So does the program with
-//! each task that is such a job. What the replies are is promised by the crates of the jobs. The texts, the files and
-//! the exit status 0 are tested, and that a format is forced only where that was asked for.
+//! each task that is such a job, or becomes one. [`in_place`] says which job a task becomes (`specs/InPlace.antt`). One
+//! that becomes none is refused with the exit status 1. What the replies are is promised by the crates of the jobs. The
+//! texts, the files and the exit status 0 are tested, and that a format is forced only where that was asked for.
 #![tactic(auto)]
 
-ghost use Rattle.zonedisk_program.specs.Ends.{EndsTask};
+ghost use Rattle.std.specs.Prelude.{◌≡◌, false};
+ghost use Rattle.std.specs.Process.{exit_status};
+ghost use Rattle.zonedisk_program.specs.Ends.{EndsAsked, EndsTask, is_new, reaches};
 
+mod counterpart;
 mod devices;
 mod files;
+mod in_file;
 
+pub use crate::counterpart::in_place;
 pub use crate::devices::do_device;
 use crate::files::{copy, do_lines, do_nbd, fail, use_tool};
+use crate::in_file::{begins_in_place, refuse_in_place};
 use clap::error::ErrorKind;
 pub use command_line::{Task, task_of};
 pub use copy_jobs::{do_export, do_import};
+use device_jobs::DeviceJob;
 pub use device_jobs::{Devices, NoDevices};
 use disk_jobs::ProgramFault;
 pub use disk_jobs::do_job;
@@ -63,55 +75,131 @@ fn fill_streams<F: Files>(files: &F) -> [io::Result<F::File>; 3] {
     ]
 }
 
-/// Does a task. What a job with lines writes goes through a buffer. A job on a device ends with the status of a fault
-/// if there is no way to any.
-fn do_task<R: Eprint + Files<File = fs::File> + Input + Print, D: Devices, W: io::Write>(
+/// Whether a job makes a new drive that stays in its file.
+fn is_new(job: &DeviceJob) -> bool
+    ensures { result ≡ is_new job.now }
+{
+    matches!(job, DeviceJob::Create { .. })
+}
+
+/// Does a job on a device, or makes a new drive in a file. It ends with the status of a fault if there is no way to it.
+fn do_named<R: Eprint + Input + Print, D: Devices, F: Devices, W: io::Write>(
     rt: &R,
     alloc: Global,
     devices: &D,
-    task: &Task,
+    files: &F,
+    job: &DeviceJob,
     output: &mut W,
 ) -> ExitCode
-    ensures { EndsTask (D.has_way devices.now) task.now result }
+    ensures { reaches (record { devices = D.has_way devices.now; files = F.has_way files.now }) job.now ≡ false
+        → exit_status result ≡ 1 }
+{
+    if is_new(job) {
+        return do_device(rt, alloc, files, job, output);
+    }
+    do_device(rt, alloc, devices, job, output)
+}
+
+/// Does a task, whatever its file holds. What a job with lines writes goes through a buffer.
+fn do_as_it_is<
+    R: Eprint + Files<File = fs::File> + Input + Print,
+    D: Devices,
+    F: Devices,
+    W: io::Write,
+>(rt: &R, alloc: Global, devices: &D, files: &F, task: &Task, output: &mut W) -> ExitCode
+    ensures { EndsTask (record { devices = D.has_way devices.now; files = F.has_way files.now }) task.now result }
 {
     match task {
         Task::Lines(job) => do_lines(rt, alloc, job, output),
         Task::Nbd(job) => do_nbd(rt, alloc, job, &mut io::writer(rt)),
         Task::Copy(job) => copy(rt, alloc, job),
         Task::Tool(job) => use_tool(rt, alloc, job, output),
-        Task::Device(job) => do_device(rt, alloc, devices, job, output),
+        Task::Device(job) => do_named(rt, alloc, devices, files, job, output),
     }
 }
 
-/// Does what the words of the command line ask for, with this way to devices.
+/// Does a task. Where its file begins as a drive does that stays in it, the task is done on that drive.
+fn do_asked<
+    R: Eprint + Files<File = fs::File> + Input + Print,
+    D: Devices,
+    F: Devices,
+    W: io::Write,
+>(
+    rt: &R,
+    alloc: Global,
+    devices: &D,
+    files: &F,
+    begins: bool,
+    task: Task,
+    output: &mut W,
+) -> ExitCode
+    ensures { EndsAsked begins (record { devices = D.has_way devices.now; files = F.has_way files.now }) task result }
+{
+    if !begins {
+        return do_as_it_is(rt, alloc, devices, files, &task, output);
+    }
+    match in_place(task) {
+        Ok(job) => do_device(rt, alloc, files, &job, output),
+        Err(task) => refuse_in_place(rt, &task, output),
+    }
+}
+
+/// Does a task, with this way to devices, and this one to drives that stay in their files. A job on a device, or on a new
+/// drive in a file, ends with the status of a fault if there is no way to it.
+pub fn do_task<
+    R: Eprint + Files<File = fs::File> + Input + Print,
+    D: Devices,
+    F: Devices,
+    W: io::Write,
+>(rt: &R, alloc: Global, devices: &D, files: &F, task: Task, output: &mut W) -> ExitCode
+    ensures { EndsTask (record { devices = D.has_way devices.now; files = F.has_way files.now }) task result }
+{
+    let begins = begins_in_place(rt, &task);
+    do_asked(rt, alloc, devices, files, begins, task, output)
+}
+
+/// The task that the words of the command line ask for; or the exit status where there is none, which was told.
+fn asked<R: Env + Alloc<A = Global> + Eprint, W: io::Write>(
+    rt: &R,
+    alloc: Global,
+    output: &mut W,
+) -> Result<Task, ExitCode> {
+    let words = match words(rt) {
+        Ok(words) => words,
+        Err(error) if error.kind() == io::ErrorKind::OutOfMemory => {
+            return Err(fail(alloc, OUT_OF_MEMORY, output));
+        }
+        Err(_) => {
+            let _ = eprintln!(rt; "error: a word of the command line is not UTF-8");
+            return Err(ExitCode::from(REFUSED));
+        }
+    };
+    match task_of(alloc, &words) {
+        Ok(task) => Ok(task),
+        Err(error) if error.kind() == ErrorKind::OutOfMemory => {
+            Err(fail(alloc, OUT_OF_MEMORY, output))
+        }
+        Err(error) => {
+            let _ = eprint!(rt; "{error}");
+            Err(ExitCode::from(REFUSED))
+        }
+    }
+}
+
+/// Does what the words of the command line ask for, with this way to devices, and this one to drives that stay in their
+/// files.
 pub fn run_program<
     R: Env + Alloc<A = Global> + Eprint + Files<File = fs::File> + Input + Print,
     D: Devices,
->(rt: &R, devices: &D) -> io::Result<ExitCode> {
+    F: Devices,
+>(rt: &R, devices: &D, files: &F) -> io::Result<ExitCode> {
     let _streams = fill_streams(rt);
     let alloc = rt.alloc();
     let Ok(mut output) = BufWriter::new(alloc, io::writer(rt)) else {
         return Ok(fail(alloc, OUT_OF_MEMORY, &mut io::writer(rt)));
     };
-    let words = match words(rt) {
-        Ok(words) => words,
-        Err(error) if error.kind() == io::ErrorKind::OutOfMemory => {
-            return Ok(fail(alloc, OUT_OF_MEMORY, &mut output));
-        }
-        Err(_) => {
-            let _ = eprintln!(rt; "error: a word of the command line is not UTF-8");
-            return Ok(ExitCode::from(REFUSED));
-        }
-    };
-    let task = match task_of(alloc, &words) {
-        Ok(task) => task,
-        Err(error) if error.kind() == ErrorKind::OutOfMemory => {
-            return Ok(fail(alloc, OUT_OF_MEMORY, &mut output));
-        }
-        Err(error) => {
-            let _ = eprint!(rt; "{error}");
-            return Ok(ExitCode::from(REFUSED));
-        }
-    };
-    Ok(do_task(rt, alloc, devices, &task, &mut output))
+    match asked(rt, alloc, &mut output) {
+        Ok(task) => Ok(do_task(rt, alloc, devices, files, task, &mut output)),
+        Err(code) => Ok(code),
+    }
 }

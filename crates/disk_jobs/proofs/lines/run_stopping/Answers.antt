@@ -29,6 +29,7 @@ returns-clause-runs g c =
       leaves = rw c.stopping.ensures at leaves;
       geometry = ap (λ (d : DriveState). d.geometry) c.into_inner-2.ensures;
       zones = ap (λ (d : DriveState). d.zones) c.into_inner-2.ensures;
+      durable = ap (λ (d : DriveState). d.durable) c.into_inner-2.ensures;
     }
 
 -- the drive was not mounted
@@ -43,6 +44,7 @@ returns-in-Err-clause-runs g c =
       leaves = inl none;
       geometry = ap (λ (d : DriveState). d.geometry) c.into_inner.ensures;
       zones = ap (λ (d : DriveState). d.zones) c.into_inner.ensures;
+      durable = ap (λ (d : DriveState). d.durable) c.into_inner.ensures;
     }
 
 -- the disk is told that was mounted

@@ -34,6 +34,7 @@ returns-clause-runs g c =
         leaves = rw (c.new.ensures, c.stopping-device.ensures) at leaves;
         geometry = ap (λ (d : DriveState). d.geometry) c.into_inner-2.ensures ∙ ap (λ (d : DriveState). d.geometry) c.into_inner-device-2.ensures ∙ ap (λ (d : DriveState). d.geometry) c.into_device.ensures;
         zones = ap (λ (d : DriveState). d.zones) c.into_inner-2.ensures ∙ ap (λ (d : DriveState). d.zones) c.into_inner-device-2.ensures ∙ ap (λ (d : DriveState). d.zones) c.into_device.ensures;
+        durable = ap (λ (d : DriveState). d.durable) c.into_inner-2.ensures ∙ ap (λ (d : DriveState). d.durable) c.into_inner-device-2.ensures ∙ ap (λ (d : DriveState). d.durable) c.into_device.ensures;
       };
       tells = c.tell_after-told.ensures;
     }
@@ -54,6 +55,7 @@ returns-in-Err-clause-runs g c =
         leaves = inl none;
         geometry = ap (λ (d : DriveState). d.geometry) c.into_inner.ensures ∙ ap (λ (d : DriveState). d.geometry) c.into_inner-device.ensures;
         zones = ap (λ (d : DriveState). d.zones) c.into_inner.ensures ∙ ap (λ (d : DriveState). d.zones) c.into_inner-device.ensures;
+        durable = ap (λ (d : DriveState). d.durable) c.into_inner.ensures ∙ ap (λ (d : DriveState). d.durable) c.into_inner-device.ensures;
       };
       tells = (refl, refl);
     }

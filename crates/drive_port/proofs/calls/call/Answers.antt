@@ -1,11 +1,5 @@
-use Rattle.drive_port.proofs.CallLaws.{call-completed, call-obeys, is-completion}
+use Rattle.drive_port.proofs.CallLaws.{call-obeys}
 use Rattle.drive_port.proofs.calls.call.Goals as goal
 
-pub answer_of-requires : goal.answer_of-requires
-answer_of-requires g c = is-completion _ _ _ _ _ _ c.encode-entry.ensures.id c.in_ok-completion.ensures.gives.1
-
-pub returns-clause-gives : goal.returns-clause-gives
-returns-clause-gives g c = call-completed _ _ _ _ _ _ _ _ c.encode-entry.ensures.id c.encode-entry.ensures.again c.answer_of.ensures c.in_ok-completion.ensures.gives
-
 pub returns-clause-obeys : goal.returns-clause-obeys
-returns-clause-obeys g c = call-obeys _ _ c.args.command.now c.args.bytes.now _ _ c.submit.ensures.was_lawful c.submit.ensures.lawful (returns-clause-gives g c)
+returns-clause-obeys g c = call-obeys _ _ c.args.command.now c.args.bytes.now _ _ c.requires.other c.submit.ensures.was_lawful c.submit.ensures.lawful c.submit.ensures.gives

@@ -10,4 +10,4 @@ returns-clause-gives g c =
     adds-also _ _ _ _ (λ returned. call-completed _ _ _ _ _ _ _ _ c.encode-entry.ensures.id c.encode-entry.ensures.again c.answer_of.ensures) c.in_ok-completion.ensures.gives
 
 pub returns-clause-obeys : goal.returns-clause-obeys
-returns-clause-obeys g c = call-obeys _ _ c.args.command.now [] _ _ c.submit_extending.ensures.was_lawful c.submit_extending.ensures.lawful (returns-clause-gives g c).given
+returns-clause-obeys g c = call-obeys _ _ c.args.command.now [] _ _ c.requires.other c.submit_extending.ensures.was_lawful c.submit_extending.ensures.lawful (returns-clause-gives g c).given

@@ -9,6 +9,7 @@ returns-clause-serves g c = record {
   serves = rw c.stopping.ensures at c.serve_counted-ended.ensures.serves;
   geometry = ap (λ (d : DriveState). d.geometry) c.into_inner.ensures;
   zones = ap (λ (d : DriveState). d.zones) c.into_inner.ensures;
+  durable = ap (λ (d : DriveState). d.durable) c.into_inner.ensures;
 }
 
 pub returns-clause-tells : goal.returns-clause-tells

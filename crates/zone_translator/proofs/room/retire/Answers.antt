@@ -57,4 +57,4 @@ returns-clause-leaves g c =
     let few = host-few _ t c.args.host host agrees in
     let other = rw (c.geometry-geometry.ensures, ← c.disk.view_is) at c.if-host-geometry.false in
     rw (← c.disk.view_is) (keeps-finish _ _ t _ c.args.host _ agrees host (rw (c.start_of.ensures, c.geometry-geometry.ensures, ← c.disk.view_is) refl) (omega (arith, capacity, agrees.geometry.capacity)) (omega (arith, few, other))
-    c.in_default.ensures.finished (finish-opens {V = Unit {0}} (g.D.Device.drive c.disk.inside.device) (g.D.Device.drive c.finish.new.device) _ (Ok tt) c.in_default.ensures.leaves) c.finish.ensures.obeys.lawful c.seal-2.ensures)
+    c.in_default.ensures.finished (finish-opens {V = Unit {0}} (g.D.Device.drive c.disk.inside.device) (g.D.Device.drive c.finish.new.device) _ (Ok tt) c.in_default.ensures.leaves) c.finish.ensures.obeys.lawful c.finish.ensures.obeys.durable c.seal-2.ensures)

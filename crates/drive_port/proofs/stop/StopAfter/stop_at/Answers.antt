@@ -5,15 +5,15 @@ use Rattle.drive_port.proofs.ClosingLaws.{IsClosing-refl}
 use Rattle.drive_port.proofs.StopLaws.{stopping, stops-appended, stops-here, stops-refused, stops-stopped, torn-admitted, torn_at-some}
 use Rattle.drive_port.proofs.stop.StopAfter.stop_at.Goals as goal
 
-pub call-requires : goal.call-requires
-call-requires g c =
+pub call-requires-clause-admitted : goal.call-requires-clause-admitted
+call-requires-clause-admitted g c =
     torn-admitted c.decode.result c.in-Some.start c.self.inside.tear (torn_at-some _ c.self.inside.tear c.decode.result _ c.in-Some.start (sym c.in-Some.ensures)) c.decode.ensures.admitted
 
 pub returns-in_default-clause-halts : goal.returns-in_default-clause-halts
 returns-in_default-clause-halts g c =
     let inner = g.D.Device.drive c.self.inside.device in
     let s = stopping inner c.self.inside.limit c.self.inside.tear c.self.inside.uncounted c.self.inside.progress in
-    rw (← c.self.view_is) (stops-here s (record s { progress = Over }) (decode_of c.args.entry.now) c.args.bytes.now (rw (← c.self.view_is) at c.requires.going) refl refl refl refl refl (inl (IsClosing-refl inner.zones)))
+    rw (← c.self.view_is) (stops-here s (record s { progress = Over }) (decode_of c.args.entry.now) c.args.bytes.now (rw (← c.self.view_is) at c.requires.going) refl refl refl refl refl (inl (IsClosing-refl inner.zones)) refl)
 
 pub returns-in-Ok-clause-halts : goal.returns-in-Ok-clause-halts
 returns-in-Ok-clause-halts g c =

@@ -13,7 +13,7 @@ loop-low-preserved g c =
     let step = closes-step (filed g.F.FileBytes.seen c.loop-low.self) c.in-Some.low c.in-Some.ensures in (
       rw c.close_one.ensures.closed step.rest ∙ c.loop-low.invariant.0,
       c.close_one.ensures.shape ∙ c.loop-low.invariant.1,
-      λ found left. c.loop-low.invariant.2 found (c.close_one.ensures.leaves found left),
+      c.close_one.ensures.durable ∙ c.loop-low.invariant.2,
     )
 
 pub returns-clause-closed : goal.returns-clause-closed

@@ -1,7 +1,7 @@
-use Rattle.std.proofs.Common.{◌≡◌, ◌∙◌, length, ap, map, arith}
+use Rattle.std.proofs.Common.{◌≡◌, ◌∙◌, length, sym, ap, map, arith}
 use Rattle.zone_drive.specs.Table.{sent_stored}
 use Rattle.file_drive.specs.InFile.{AreWithin}
-use Rattle.file_drive.proofs.ServedLaws.{filed-same, zones-kept}
+use Rattle.file_drive.proofs.ServedLaws.{filed-same, length-safe, zones-kept}
 use Rattle.file_drive.proofs.StoreLaws.{all-sent, on-err}
 use Rattle.file_drive.proofs.zones.FileZones.act_on_all.Goals as goal
 
@@ -27,8 +27,10 @@ returns-clause-ok g c =
     let count : length now.entries ≡ now.shape.zones = (rw (← c.self.view_is) c.self.invariant.1) in
     let within : AreWithin now.shape now.entries = (rw (← c.self.view_is) c.self.invariant.2) in
     let last = rw c.write_spare.ensures.shape at c.pick_spare.ensures.zones in
-    rw (c.pick_spare.ensures.shape, c.in_ok-pick_spare.ensures.ok, c.write_spare.ensures.shape, c.write_spare.ensures.entries)
-    (all-sent now.shape (g.F.FileBytes.seen c.pick_spare.new.self.file) 0 c.args.action now.entries
+    let many : length now.safe ≡ length now.entries =
+    rw (← c.self.view_is) (length-safe c.self.inside.geometry (g.F.FileBytes.seen c.self.inside.file) c.self.inside.entries.items c.self.inside.live c.self.inside.flushed _ c.self.invariant.4 ∙ sym c.self.invariant.1) in
+    rw (c.pick_spare.ensures.shape, c.in_ok-pick_spare.ensures.ok, c.write_spare.ensures.shape, c.write_spare.ensures.entries, c.write_spare.ensures.safe)
+    (all-sent now.shape (g.F.FileBytes.seen c.pick_spare.new.self.file) 0 c.args.action now.safe now.entries many
     ∙ ap (map (sent_stored c.args.action))
     (zones-kept now.shape (g.F.FileBytes.seen c.write_spare.new.self.file) (g.F.FileBytes.seen c.pick_spare.new.self.file) 0 now.entries last (omega (arith, count)) within
     ∙ zones-kept now.shape (g.F.FileBytes.seen now.file) (g.F.FileBytes.seen c.write_spare.new.self.file) 0 now.entries c.write_spare.ensures.zones (omega (arith, count)) within))

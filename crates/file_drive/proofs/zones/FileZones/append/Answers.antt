@@ -1,11 +1,12 @@
-use Rattle.std.proofs.Common.{◌≡◌, ◌+◌, ◌/◌, ◌*◌, ◌≤◌, ◌∙◌, length, ap, arith}
+use Rattle.std.proofs.Common.{◌≡◌, ◌+◌, ◌/◌, ◌*◌, ◌≤◌, ◌∙◌, length, refl, ap, arith}
 use Rattle.std.proofs.Math.Nat.{mul-le-mul_right}
 use Rattle.zone_drive.proofs.ZonesLaws.{block-some}
-use Rattle.file_drive.specs.InFile.{AreWithin, FiledZones, KeepsOthers, entry_at}
+use Rattle.file_drive.specs.InFile.{AreWithin, FiledZones, entry_at, flushed_at}
 use Rattle.file_drive.specs.Layout.{file_length}
 use Rattle.file_drive.specs.Tables.{appended}
 use Rattle.file_drive.specs.declared.entry.Entry.{Entry}
-use Rattle.file_drive.proofs.ServedLaws.{filed-same, small-capacity, zones-kept}
+use Rattle.file_drive.proofs.ApartLaws.{apart-more}
+use Rattle.file_drive.proofs.ServedLaws.{small-capacity, zones-kept}
 use Rattle.file_drive.proofs.StoreLaws.{append-fits, append-stored, entry-read, filed-low, on-err, others-kept}
 use Rattle.file_drive.proofs.zones.FileZones.append.Goals as goal
 
@@ -24,16 +25,8 @@ appended-entry-requires g c =
     let is = entry-read c.self.inside.entries.items c.args.index c.index.result.now low' c.index.ensures in
     omega (arith, ap (λ (e : Entry). e.written) is, fits.1, small-capacity c.self.inside.geometry c.self.invariant.0)
 
-pub clear-requires : goal.clear-requires
-clear-requires g c = filed-low g.F.FileBytes.seen c.args.self.now c.args.index c.requires.in_range
-
 pub write_data-requires-clause-in_range : goal.write_data-requires-clause-in_range
-write_data-requires-clause-in_range g c = rw c.clear.ensures.entries (filed-low g.F.FileBytes.seen c.args.self.now c.args.index c.requires.in_range)
-
-pub returns-in_err-clear-clause-err : goal.returns-in_err-clear-clause-err
-returns-in_err-clear-clause-err g c =
-    on-err c.from_residual.result _
-    (filed-same g.F.FileBytes.seen c.args.self.now c.clear.new.self c.clear.ensures.shape c.clear.ensures.entries c.clear.ensures.zones (rw (← c.self.view_is) c.self.invariant.1) (rw (← c.self.view_is) c.self.invariant.2))
+write_data-requires-clause-in_range g c = filed-low g.F.FileBytes.seen c.args.self.now c.args.index c.requires.in_range
 
 pub write_data-requires-clause-room : goal.write_data-requires-clause-room
 write_data-requires-clause-room g c =
@@ -44,7 +37,7 @@ write_data-requires-clause-room g c =
     (block-some c.self.inside.geometry c.self.invariant.0) (rw (← c.self.view_is) at c.requires.checks) in
     let is = entry-read c.self.inside.entries.items c.args.index c.index.result.now low' c.index.ensures in
     let most = mul-le-mul_right c.self.inside.geometry.block fits.1 in
-    rw (c.clear.ensures.entries, c.clear.ensures.shape, ← c.self.view_is) (omega (arith, fits.0, most))
+    rw (← c.self.view_is) (omega (arith, fits.0, most))
 
 pub returns-in_err-write_data-clause-err : goal.returns-in_err-write_data-clause-err
 returns-in_err-write_data-clause-err g c =
@@ -54,19 +47,14 @@ returns-in_err-write_data-clause-err g c =
     let fits = append-fits c.self.inside.geometry (g.F.FileBytes.seen c.self.inside.file) c.self.inside.entries.items c.args.index c.args.bytes.now c.self.invariant.4.long c.self.invariant.1 c.self.invariant.2 low'
     (block-some c.self.inside.geometry c.self.invariant.0) (rw (← c.self.view_is) at c.requires.checks) in
     let is = entry-read c.self.inside.entries.items c.args.index c.index.result.now low' c.index.ensures in
-    let others = rw (c.clear.ensures.shape, c.clear.ensures.entries) at c.write_data.ensures.others in
-    let keeps : KeepsOthers now.shape c.args.index (entry_at now.entries c.args.index).written (g.F.FileBytes.seen now.file) (g.F.FileBytes.seen c.write_data.new.self.file) =
-    λ number written less few other. others number written less few other ∙ c.clear.ensures.zones number written less few in
-    on-err c.from_residual-in_err-write_data.result _
-    (rw (c.write_data.ensures.shape, c.write_data.ensures.entries, c.clear.ensures.shape, c.clear.ensures.entries)
+    let keeps = c.write_data.ensures.others in
+    on-err c.from_residual.result _
+    (rw (c.write_data.ensures.shape, c.write_data.ensures.entries)
     (others-kept now.shape (g.F.FileBytes.seen now.file) (g.F.FileBytes.seen c.write_data.new.self.file) now.entries c.args.index keeps (rw (← c.self.view_is) c.self.invariant.1) (rw (← c.self.view_is) c.self.invariant.2) low))
-
-pub returns-in_err-write_data-clause-leaves : goal.returns-in_err-write_data-clause-leaves
-returns-in_err-write_data-clause-leaves g c = λ found left. c.clear.ensures.leaves found (c.write_data.ensures.leaves found left)
 
 pub put-requires-clause-in_range : goal.put-requires-clause-in_range
 put-requires-clause-in_range g c =
-    rw (c.write_data.ensures.entries, c.clear.ensures.entries) (filed-low g.F.FileBytes.seen c.args.self.now c.args.index c.requires.in_range)
+    rw c.write_data.ensures.entries (filed-low g.F.FileBytes.seen c.args.self.now c.args.index c.requires.in_range)
 
 pub put-requires-clause-within : goal.put-requires-clause-within
 put-requires-clause-within g c =
@@ -76,7 +64,18 @@ put-requires-clause-within g c =
     let fits = append-fits c.self.inside.geometry (g.F.FileBytes.seen c.self.inside.file) c.self.inside.entries.items c.args.index c.args.bytes.now c.self.invariant.4.long c.self.invariant.1 c.self.invariant.2 low'
     (block-some c.self.inside.geometry c.self.invariant.0) (rw (← c.self.view_is) at c.requires.checks) in
     let is = entry-read c.self.inside.entries.items c.args.index c.index.result.now low' c.index.ensures in
-    rw (c.write_data.ensures.shape, c.clear.ensures.shape, ← c.self.view_is, c.appended-entry.ensures, is) fits.1
+    rw (c.write_data.ensures.shape, ← c.self.view_is, c.appended-entry.ensures, is) fits.1
+
+pub put-requires-clause-apart : goal.put-requires-clause-apart
+put-requires-clause-apart g c =
+    let inside = c.self.inside in
+    let low = filed-low g.F.FileBytes.seen c.args.self.now c.args.index c.requires.in_range in
+    let low' = rw (← c.self.view_is) at low in
+    let is = entry-read inside.entries.items c.args.index c.index.result.now low' c.index.ensures in
+    let last = flushed_at inside.safe.items c.args.index in
+    let entry = entry_at inside.entries.items c.args.index in
+    rw (c.write_data.ensures.safe, ← c.self.view_is, c.appended-entry.ensures, is)
+    (apart-more last entry (appended inside.geometry entry (length c.args.bytes.now / inside.geometry.block)) refl (omega arith) (c.self.invariant.8 c.args.index low'))
 
 pub returns-in_err-put-clause-err : goal.returns-in_err-put-clause-err
 returns-in_err-put-clause-err g c =
@@ -86,18 +85,13 @@ returns-in_err-put-clause-err g c =
     let fits = append-fits c.self.inside.geometry (g.F.FileBytes.seen c.self.inside.file) c.self.inside.entries.items c.args.index c.args.bytes.now c.self.invariant.4.long c.self.invariant.1 c.self.invariant.2 low'
     (block-some c.self.inside.geometry c.self.invariant.0) (rw (← c.self.view_is) at c.requires.checks) in
     let is = entry-read c.self.inside.entries.items c.args.index c.index.result.now low' c.index.ensures in
-    let others = rw (c.clear.ensures.shape, c.clear.ensures.entries) at c.write_data.ensures.others in
-    let keeps : KeepsOthers now.shape c.args.index (entry_at now.entries c.args.index).written (g.F.FileBytes.seen now.file) (g.F.FileBytes.seen c.write_data.new.self.file) =
-    λ number written less few other. others number written less few other ∙ c.clear.ensures.zones number written less few in
+    let keeps = c.write_data.ensures.others in
     let count : length now.entries ≡ now.shape.zones = rw (← c.self.view_is) c.self.invariant.1 in
-    let same = rw (c.write_data.ensures.shape, c.clear.ensures.shape) at c.put.ensures.zones in
+    let same = rw c.write_data.ensures.shape at c.put.ensures.zones in
     on-err c.from_residual-in_err-put.result _
-    (rw (c.put.ensures.shape, c.in_err-put.ensures.err, c.write_data.ensures.shape, c.write_data.ensures.entries, c.clear.ensures.shape, c.clear.ensures.entries)
+    (rw (c.put.ensures.shape, c.in_err-put.ensures.err, c.write_data.ensures.shape, c.write_data.ensures.entries)
     (zones-kept now.shape (g.F.FileBytes.seen c.write_data.new.self.file) (g.F.FileBytes.seen c.put.new.self.file) 0 now.entries same (omega (arith, count)) (rw (← c.self.view_is) c.self.invariant.2)
     ∙ others-kept now.shape (g.F.FileBytes.seen now.file) (g.F.FileBytes.seen c.write_data.new.self.file) now.entries c.args.index keeps (rw (← c.self.view_is) c.self.invariant.1) (rw (← c.self.view_is) c.self.invariant.2) low))
-
-pub returns-in_err-put-clause-leaves : goal.returns-in_err-put-clause-leaves
-returns-in_err-put-clause-leaves g c = λ found left. c.clear.ensures.leaves found (c.write_data.ensures.leaves found (c.put.ensures.leaves found left))
 
 pub returns-clause-ok : goal.returns-clause-ok
 returns-clause-ok g c =
@@ -107,11 +101,9 @@ returns-clause-ok g c =
     let fits = append-fits c.self.inside.geometry (g.F.FileBytes.seen c.self.inside.file) c.self.inside.entries.items c.args.index c.args.bytes.now c.self.invariant.4.long c.self.invariant.1 c.self.invariant.2 low'
     (block-some c.self.inside.geometry c.self.invariant.0) (rw (← c.self.view_is) at c.requires.checks) in
     let is = entry-read c.self.inside.entries.items c.args.index c.index.result.now low' c.index.ensures in
-    let others = rw (c.clear.ensures.shape, c.clear.ensures.entries) at c.write_data.ensures.others in
-    let keeps : KeepsOthers now.shape c.args.index (entry_at now.entries c.args.index).written (g.F.FileBytes.seen now.file) (g.F.FileBytes.seen c.write_data.new.self.file) =
-    λ number written less few other. others number written less few other ∙ c.clear.ensures.zones number written less few in
-    let same = rw (c.write_data.ensures.shape, c.clear.ensures.shape) at c.put.ensures.zones in
-    let put = rw (c.clear.ensures.shape, c.clear.ensures.entries) at c.in_ok-write_data.ensures.data in
+    let keeps = c.write_data.ensures.others in
+    let same = rw c.write_data.ensures.shape at c.put.ensures.zones in
+    let put = c.in_ok-write_data.ensures.data in
     let count : length now.entries ≡ now.shape.zones = rw (← c.self.view_is) c.self.invariant.1 in
     let within : AreWithin now.shape now.entries = rw (← c.self.view_is) c.self.invariant.2 in
     let long : length (g.F.FileBytes.seen now.file) ≡ file_length now.shape = rw (← c.self.view_is) c.self.invariant.4.long in
@@ -122,9 +114,6 @@ returns-clause-ok g c =
     let entry = c.appended-entry.ensures
     ∙ ap (λ (e : Entry). appended c.self.inside.geometry e (length c.args.bytes.now / c.self.inside.geometry.block)) is
     ∙ ap (λ (z : FiledZones _). appended z.shape (entry_at z.entries c.args.index) (length c.args.bytes.now / z.shape.block)) c.self.view_is in
-    rw (c.put.ensures.shape, c.in_ok-put.ensures.ok, c.write_data.ensures.shape, c.write_data.ensures.entries, c.clear.ensures.shape, c.clear.ensures.entries, entry)
+    rw (c.put.ensures.shape, c.in_ok-put.ensures.ok, c.write_data.ensures.shape, c.write_data.ensures.entries, entry)
     (append-stored now.shape (g.F.FileBytes.seen now.file) (g.F.FileBytes.seen c.write_data.new.self.file) (g.F.FileBytes.seen c.put.new.self.file)
     now.entries c.args.index c.args.bytes.now blocks count within low long some whole room keeps put same)
-
-pub returns-clause-leaves : goal.returns-clause-leaves
-returns-clause-leaves g c = λ found left. c.clear.ensures.leaves found (c.write_data.ensures.leaves found (c.put.ensures.leaves found left))

@@ -10,21 +10,21 @@ returns-clause-just g c = λ found left.
     (rw (← c.self.view_is) c.self.invariant.1) (rw (← c.self.view_is) c.self.invariant.2) in
     c.in_ok-pick_other.ensures.just found left ∙ ap (map restarted_stored) same
 
-pub returns-clause-leaves : goal.returns-clause-leaves
-returns-clause-leaves g c = λ found left.
+pub returns-clause-durable : goal.returns-clause-durable
+returns-clause-durable g c = λ found left.
     let same = filed-same g.F.FileBytes.seen c.args.self.now c.write_other.new.self c.write_other.ensures.shape c.write_other.ensures.entries c.write_other.ensures.zones
     (rw (← c.self.view_is) c.self.invariant.1) (rw (← c.self.view_is) c.self.invariant.2) in
-    elim (c.pick_other.ensures.leaves found left) [
-      | inl before ↦ inl (c.write_other.ensures.leaves found before)
+    elim (c.pick_other.ensures.durable found left) [
+      | inl before ↦ inl (rw (← c.write_other.ensures.durable) before)
       | inr there ↦ inr (there ∙ ap (map restarted_stored) same)
     ]
 
-pub returns-in_err-pick_other-clause-leaves : goal.returns-in_err-pick_other-clause-leaves
-returns-in_err-pick_other-clause-leaves g c = λ found left.
+pub returns-in_err-pick_other-clause-durable : goal.returns-in_err-pick_other-clause-durable
+returns-in_err-pick_other-clause-durable g c = λ found left.
     let same = filed-same g.F.FileBytes.seen c.args.self.now c.write_other.new.self c.write_other.ensures.shape c.write_other.ensures.entries c.write_other.ensures.zones
     (rw (← c.self.view_is) c.self.invariant.1) (rw (← c.self.view_is) c.self.invariant.2) in
-    elim (c.pick_other.ensures.leaves found left) [
-      | inl before ↦ inl (c.write_other.ensures.leaves found before)
+    elim (c.pick_other.ensures.durable found left) [
+      | inl before ↦ inl (rw (← c.write_other.ensures.durable) before)
       | inr there ↦ inr (there ∙ ap (map restarted_stored) same)
     ]
 

@@ -1,22 +1,23 @@
-use Rattle.std.proofs.Common.{rules, ◌≡◌, ◌-◌, ◌∙◌, map, sym, arith}
+use Rattle.std.proofs.Common.{rules, ◌≡◌, ◌-◌, ◌∙◌, Some, length, map, refl, sym, arith}
 use Rattle.std.specs.Int.{w64, to_le_bytes}
-use Rattle.std.proofs.lemmas.List.{length-map}
 use Rattle.sqlite_disk.specs.Disk.{Holds}
 use Rattle.file_drive.specs.InFile.{Words}
 use Rattle.file_drive.specs.Layout.{at_live}
-use Rattle.file_drive.specs.Tables.{sent_entry, word_of}
+use Rattle.file_drive.specs.Tables.{next_entries, word_of}
+use Rattle.file_drive.proofs.ApartLaws.{apart-next, length-next, within-next}
 use Rattle.file_drive.proofs.PartLaws.{word-held}
-use Rattle.file_drive.proofs.ServedLaws.{promised-opens, served-switch, switch-leaves, switch-promise, switch-same, within-sent}
-use Rattle.file_drive.proofs.StoreLaws.{sent-few}
+use Rattle.file_drive.proofs.ServedLaws.{durable-same, length-safe, length-spare, promised-durable, served-switch, switch-promise, switch-promises, switch-same}
 use Rattle.file_drive.proofs.zones.FileZones.pick_spare.Goals as goal
 
-pub returns-then-is_err-clause-leaves : goal.returns-then-is_err-clause-leaves
-returns-then-is_err-clause-leaves g c = λ found left.
+pub returns-then-is_err-clause-durable : goal.returns-then-is_err-clause-durable
+returns-then-is_err-clause-durable g c =
     let inside = c.self.inside in
     let held = c.self.invariant in
     let words : Words = record { spare = inside.spare.items; safe = inside.safe.items; other = inside.other.items } in
     let served = held.6 c.if-self.false in
-    rw (← c.self.view_is) (switch-leaves inside.geometry g.F.FileBytes.seen g.F.FileBytes.may_leave inside.file c.write_word.new.self inside.entries.items inside.live inside.flushed words held.4 held.5.within served.1 c.write_word.ensures.others c.write_word.ensures.leaves (g.F.FileBytes.seen_may_stay inside.file) found left)
+    rw (← c.self.view_is)
+    (durable-same inside.geometry (g.F.FileBytes.seen inside.file) (g.F.FileBytes.seen c.write_word.new.self) inside.safe.items inside.other.items inside.other.items inside.unsure (held.9 c.if-self.false)
+    (switch-promises inside.geometry g.F.FileBytes.seen g.F.FileBytes.may_leave inside.file c.write_word.new.self inside.entries.items inside.live inside.flushed words held.4 held.5.within served.1 c.write_word.ensures.others c.write_word.ensures.leaves))
 
 pub invariant_of-self : goal.invariant_of-self
 invariant_of-self g c =
@@ -33,7 +34,9 @@ invariant_of-self g c =
       rw same held.4,
       held.5,
       λ e. absurd (cc e),
-      promised-opens inside.geometry g.F.FileBytes.seen g.F.FileBytes.may_leave c.write_word.new.self inside.flushed inside.safe.items held.5 promise,
+      promised-durable inside.geometry g.F.FileBytes.seen g.F.FileBytes.may_leave c.write_word.new.self inside.flushed inside.safe.items inside.other.items inside.unsure held.5 promise,
+      held.8,
+      λ e. absurd (cc e),
     )
 
 pub invariant_of-self-2 : goal.invariant_of-self-2
@@ -44,19 +47,23 @@ invariant_of-self-2 g c =
     let words : Words = record { spare = inside.spare.items; safe = inside.safe.items; other = inside.other.items } in
     let served = held.6 c.if-self.false in
     let spared = rw (← c.self.view_is) at c.requires in
-    let next = map (sent_entry c.args.action) inside.entries.items in
+    let next = next_entries (Some c.args.action) inside.safe.items inside.entries.items in
+    let many : length inside.safe.items ≡ length inside.entries.items =
+    length-safe inside.geometry (g.F.FileBytes.seen inside.file) inside.entries.items inside.live inside.flushed words held.4 ∙ sym held.1 in
     let spare : inside.spare.items ≡ map word_of next = sym held.4.spare_words ∙ rw held.4.live_is at spared in
     let is = word-held (g.F.FileBytes.seen c.write_word.new.self) at_live (1 - inside.live) (omega arith) put in
     let switched = served-switch inside.geometry g.F.FileBytes.seen g.F.FileBytes.may_leave inside.file c.write_word.new.self inside.entries.items inside.live inside.flushed words held.4 held.5.within served.1 c.write_word.ensures.others c.write_word.ensures.leaves next spare is in
     let promise = switch-promise inside.geometry g.F.FileBytes.seen g.F.FileBytes.may_leave inside.file c.write_word.new.self inside.entries.items inside.live inside.flushed words held.4 held.5.within served.1 c.write_word.ensures.others c.write_word.ensures.leaves in (
       held.0,
-      rw c.send_to_each.ensures (length-map inside.entries.items (sent_entry c.args.action) ∙ held.1),
-      rw c.send_to_each.ensures (within-sent inside.geometry c.args.action inside.entries.items (sent-few inside.geometry c.args.action) held.2),
-      rw c.deref-2.ensures.value at c.of-self-inside.ensures,
-      rw (c.send_to_each.ensures, c.note_words.ensures, c.deref.ensures.value) switched,
+      rw (c.send_to_each.ensures, c.deref-2.ensures.value) (length-next (Some c.args.action) inside.safe.items inside.entries.items ∙ held.1),
+      rw (c.send_to_each.ensures, c.deref-2.ensures.value) (within-next inside.geometry (Some c.args.action) inside.safe.items inside.entries.items held.2),
+      rw c.deref-3.ensures.value at c.of-self-inside.ensures,
+      rw (c.send_to_each.ensures, c.deref-2.ensures.value, c.note_words.ensures, c.deref.ensures.value) switched,
       held.5,
       λ e. (rw c.write_word.ensures.usable served.0, promise),
-      promised-opens inside.geometry g.F.FileBytes.seen g.F.FileBytes.may_leave c.write_word.new.self inside.flushed inside.safe.items held.5 promise,
+      promised-durable inside.geometry g.F.FileBytes.seen g.F.FileBytes.may_leave c.write_word.new.self inside.flushed inside.safe.items inside.other.items inside.unsure held.5 promise,
+      rw (c.send_to_each.ensures, c.deref-2.ensures.value) (apart-next (Some c.args.action) inside.safe.items inside.entries.items many held.8),
+      held.9,
     )
 
 pub returns-clause-zones : goal.returns-clause-zones
@@ -67,10 +74,33 @@ returns-clause-zones g c =
     let served = held.6 c.if-self.false in
     rw (← c.self.view_is) (switch-same inside.geometry g.F.FileBytes.seen g.F.FileBytes.may_leave inside.file c.write_word.new.self inside.entries.items inside.live inside.flushed words held.4 held.5.within served.1 c.write_word.ensures.others c.write_word.ensures.leaves)
 
-pub returns-clause-leaves : goal.returns-clause-leaves
-returns-clause-leaves g c = λ found left.
+pub returns-clause-durable : goal.returns-clause-durable
+returns-clause-durable g c =
     let inside = c.self.inside in
     let held = c.self.invariant in
     let words : Words = record { spare = inside.spare.items; safe = inside.safe.items; other = inside.other.items } in
     let served = held.6 c.if-self.false in
-    rw (← c.self.view_is) (switch-leaves inside.geometry g.F.FileBytes.seen g.F.FileBytes.may_leave inside.file c.write_word.new.self inside.entries.items inside.live inside.flushed words held.4 held.5.within served.1 c.write_word.ensures.others c.write_word.ensures.leaves (g.F.FileBytes.seen_may_stay inside.file) found left)
+    rw (← c.self.view_is)
+    (durable-same inside.geometry (g.F.FileBytes.seen inside.file) (g.F.FileBytes.seen c.write_word.new.self) inside.safe.items inside.other.items inside.other.items inside.unsure (held.9 c.if-self.false)
+    (switch-promises inside.geometry g.F.FileBytes.seen g.F.FileBytes.may_leave inside.file c.write_word.new.self inside.entries.items inside.live inside.flushed words held.4 held.5.within served.1 c.write_word.ensures.others c.write_word.ensures.leaves))
+
+pub send_to_each-requires : goal.send_to_each-requires
+send_to_each-requires g c =
+    let inside = c.self.inside in
+    let held = c.self.invariant in
+    rw c.deref-2.ensures.value (length-safe inside.geometry (g.F.FileBytes.seen inside.file) inside.entries.items inside.live inside.flushed _ held.4 ∙ sym held.1)
+
+pub returns-clause-ok : goal.returns-clause-ok
+returns-clause-ok g c = rw (← c.self.view_is, c.send_to_each.ensures, c.deref-2.ensures.value) refl
+
+pub note_words-requires : goal.note_words-requires
+note_words-requires g c =
+    let inside = c.self.inside in
+    let held = c.self.invariant in
+    rw c.deref.ensures.value (length-spare inside.geometry (g.F.FileBytes.seen inside.file) inside.entries.items inside.live inside.flushed _ held.4 ∙ sym held.1)
+
+pub of-self-inside-requires : goal.of-self-inside-requires
+of-self-inside-requires g c =
+    let inside = c.self.inside in
+    let held = c.self.invariant in
+    rw (c.deref-3.ensures.value, c.send_to_each.ensures) (omega (arith, length-next (Some c.args.action) c.deref-2.result.now inside.entries.items, held.1, held.0.zones.1))

@@ -5,7 +5,8 @@ use Rattle.file_drive.specs.InFile.{Words}
 use Rattle.file_drive.specs.Layout.{at_table, word_in}
 use Rattle.file_drive.specs.Tables.{word_of}
 use Rattle.file_drive.specs.declared.entry.Entry.{Entry}
-use Rattle.file_drive.proofs.ServedLaws.{live-word, promised-opens, put-leaves, put-promise, put-same, served-put, within-set}
+use Rattle.file_drive.proofs.ApartLaws.{apart-set}
+use Rattle.file_drive.proofs.ServedLaws.{durable-same, live-word, promised-durable, put-promise, put-promises, put-same, served-put, within-set}
 use Rattle.file_drive.proofs.zones.FileZones.put.Goals as goal
 
 pub put_word-requires-clause-known : goal.put_word-requires-clause-known
@@ -35,11 +36,13 @@ invariant_of-self g c =
       rw same held.4,
       held.5,
       λ going. (rw c.put_word.ensures.usable served.0, promise),
-      promised-opens inside.geometry g.F.FileBytes.seen g.F.FileBytes.may_leave c.put_word.new.file inside.flushed inside.safe.items held.5 promise,
+      promised-durable inside.geometry g.F.FileBytes.seen g.F.FileBytes.may_leave c.put_word.new.file inside.flushed inside.safe.items inside.other.items inside.unsure held.5 promise,
+      held.8,
+      held.9,
     )
 
-pub returns-then-is_err-clause-leaves : goal.returns-then-is_err-clause-leaves
-returns-then-is_err-clause-leaves g c = λ found left.
+pub returns-then-is_err-clause-durable : goal.returns-then-is_err-clause-durable
+returns-then-is_err-clause-durable g c =
     let inside = c.self.inside in
     let held = c.self.invariant in
     let words : Words = record { spare = inside.spare.items; safe = inside.safe.items; other = inside.other.items } in
@@ -47,8 +50,9 @@ returns-then-is_err-clause-leaves g c = λ found left.
     let beside = rw c.at_table.ensures at c.put_word.ensures.beside in
     let follows = rw c.at_table.ensures at c.put_word.ensures.leaves in
     let served = held.6 c.if-self.false in
-    rw (← c.self.view_is)
-    (put-leaves inside.geometry g.F.FileBytes.seen g.F.FileBytes.may_leave inside.file c.put_word.new.file inside.entries.items inside.live inside.flushed words c.args.index held.4 held.1 low held.5.within served.1 beside follows (g.F.FileBytes.seen_may_stay inside.file) found (rw c.fail.ensures.same at left))
+    let same = put-promises inside.geometry g.F.FileBytes.seen g.F.FileBytes.may_leave inside.file c.put_word.new.file inside.entries.items inside.live inside.flushed words c.args.index held.4 held.1 low held.5.within served.1 beside follows in
+    rw (c.fail.ensures.same, ← c.self.view_is)
+    (durable-same inside.geometry (g.F.FileBytes.seen inside.file) (g.F.FileBytes.seen c.put_word.new.file) inside.safe.items inside.other.items inside.other.items inside.unsure (held.9 c.if-self.false) same)
 
 pub follow-requires-clause-counted : goal.follow-requires-clause-counted
 follow-requires-clause-counted g c =
@@ -78,7 +82,9 @@ invariant_of-self-2 g c =
       served-put inside.geometry (g.F.FileBytes.seen inside.file) (g.F.FileBytes.seen c.put_word.new.file) inside.entries.items inside.live inside.flushed words c.args.index c.args.entry held.4 held.1 low beside is,
       held.5,
       λ going. (rw c.put_word.ensures.usable served.0, promise),
-      promised-opens inside.geometry g.F.FileBytes.seen g.F.FileBytes.may_leave c.put_word.new.file inside.flushed inside.safe.items held.5 promise,
+      promised-durable inside.geometry g.F.FileBytes.seen g.F.FileBytes.may_leave c.put_word.new.file inside.flushed inside.safe.items inside.other.items inside.unsure held.5 promise,
+      apart-set inside.safe.items inside.entries.items c.args.index c.args.entry held.8 (rw (← c.self.view_is) at c.requires.apart),
+      held.9,
     )
 
 pub returns-clause-zones : goal.returns-clause-zones
@@ -92,8 +98,8 @@ returns-clause-zones g c =
     let served = held.6 c.if-self.false in
     rw (← c.self.view_is) (put-same inside.geometry g.F.FileBytes.seen g.F.FileBytes.may_leave inside.file c.put_word.new.file inside.entries.items inside.live inside.flushed words c.args.index held.4 held.1 low held.5.within served.1 beside follows)
 
-pub returns-clause-leaves : goal.returns-clause-leaves
-returns-clause-leaves g c = λ found left.
+pub returns-clause-durable : goal.returns-clause-durable
+returns-clause-durable g c =
     let inside = c.self.inside in
     let held = c.self.invariant in
     let words : Words = record { spare = inside.spare.items; safe = inside.safe.items; other = inside.other.items } in
@@ -101,5 +107,6 @@ returns-clause-leaves g c = λ found left.
     let beside = rw c.at_table.ensures at c.put_word.ensures.beside in
     let follows = rw c.at_table.ensures at c.put_word.ensures.leaves in
     let served = held.6 c.if-self.false in
+    let same = put-promises inside.geometry g.F.FileBytes.seen g.F.FileBytes.may_leave inside.file c.put_word.new.file inside.entries.items inside.live inside.flushed words c.args.index held.4 held.1 low held.5.within served.1 beside follows in
     rw (← c.self.view_is)
-    (put-leaves inside.geometry g.F.FileBytes.seen g.F.FileBytes.may_leave inside.file c.put_word.new.file inside.entries.items inside.live inside.flushed words c.args.index held.4 held.1 low held.5.within served.1 beside follows (g.F.FileBytes.seen_may_stay inside.file) found left)
+    (durable-same inside.geometry (g.F.FileBytes.seen inside.file) (g.F.FileBytes.seen c.put_word.new.file) inside.safe.items inside.other.items inside.other.items inside.unsure (held.9 c.if-self.false) same)

@@ -9,7 +9,7 @@ append-requires g c = record { whole = take-whole (g.D.Device.drive c.args.devic
 pub returns-in-Ok-clause-ok : goal.returns-in-Ok-clause-ok
 returns-in-Ok-clause-ok g c =
     let old = g.D.Device.drive c.args.device.now in
-    takes-all old (g.D.Device.drive c.append.new.device) c.args.zone _ _ c.args.batch.now _ c.bytes.ensures (c.start_of-start.ensures ∙ ap (λ (x : Geometry). c.args.zone * x.size) c.geometry.ensures.value) c.requires.can c.in-Ok.ensures.appended c.in-Ok.ensures.leaves c.in-Ok.ensures.obeys.lawful
+    takes-all old (g.D.Device.drive c.append.new.device) c.args.zone _ _ c.args.batch.now _ c.bytes.ensures (c.start_of-start.ensures ∙ ap (λ (x : Geometry). c.args.zone * x.size) c.geometry.ensures.value) c.requires.can c.in-Ok.ensures.appended c.in-Ok.ensures.leaves c.in-Ok.ensures.obeys.lawful c.in-Ok.ensures.obeys.durable
 
 pub returns-in-Err-clause-left : goal.returns-in-Err-clause-left
 returns-in-Err-clause-left g c =

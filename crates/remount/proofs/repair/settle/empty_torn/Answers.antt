@@ -38,4 +38,4 @@ returns-clause-kept g c =
     let now = g.D.Device.drive c.args.device.now in
     λ n start tables heads a.
     let can = can-empty n start now tables c.args.plan.now (move_count c.args.plan.now) heads _ a (c.start_of-start.ensures ∙ ap (λ (x : Geometry). c.args.plan.now.torn * x.size) c.geometry.ensures.value) in
-    emptied-mountable n start now (g.D.Device.drive c.reset.new.device) tables c.args.plan.now heads a c.in_default.ensures.reset.geometry c.in_default.ensures.obeys.lawful c.in_default.ensures.reset.counts.refused (rw can.at.index at c.in_default.ensures.reset.contents)
+    emptied-mountable n start now (g.D.Device.drive c.reset.new.device) tables c.args.plan.now heads a c.in_default.ensures.reset.geometry c.in_default.ensures.obeys.lawful c.in_default.ensures.reset.counts.refused c.in_default.ensures.obeys.durable (rw can.at.index at c.in_default.ensures.reset.contents)

@@ -1,11 +1,11 @@
-use Rattle.std.proofs.Common.{rules, ◌≡◌, ◌<◌, ◌^◌, ℕ, true, false, ap, ◌∙◌, refl}
+use Rattle.std.proofs.Common.{rules, ◌≡◌, ◌<◌, ◌^◌, ℕ, true, false, Err, ap, ◌∙◌, refl}
 use Rattle.nvme_wire.specs.Completion.{completion_bytes}
 use Rattle.nvme_wire.specs.Entry.{decode_of}
+use Rattle.drive_port.specs.declared.device.Halt.TheVariants.{Stopped}
 use Rattle.drive_port.proofs.CallLaws.{adds-also, adds-nothing}
 use Rattle.drive_port.proofs.StopLaws.{stops-already}
 use Rattle.zone_drive.specs.Held.{HeldDrive}
-use Rattle.zone_drive.specs.Habits.{MemoryDrive}
-use Rattle.zone_drive.proofs.SubmitLaws.{completes, halts-noted}
+use Rattle.zone_drive.proofs.SubmitLaws.{completes, halts-noted, noted-hardens, noted-stop}
 use Rattle.zone_drive.proofs.zone_drive.ZoneDrive.answer.Goals as goal
 
 pub returns-then-stopped-clause-gives : goal.returns-then-stopped-clause-gives
@@ -15,11 +15,17 @@ returns-then-stopped-clause-gives g c =
 
 pub returns-in-Err-clause-gives : goal.returns-in-Err-clause-gives
 returns-in-Err-clause-gives g c =
-    let going : c.args.self.now.drive.state.stopped ≡ false = search rules in
-    let kept = c.in-Err.ensures.kept in
-    let halts = halts-noted c.args.self.now.drive.state c.note.new.self.drive.state (decode_of c.args.entry.now) c.args.bytes.now c.in-Err.halt going
-    (λ memory. ap (λ (d : HeldDrive _). d.drive.state) (c.note.ensures.memory memory) ∙ ap (λ (d : MemoryDrive). d.state) kept)
-    (λ stopped. ap (λ (d : HeldDrive _). d.drive.state) (c.note.ensures.stopped stopped) ∙ ap (λ (d : MemoryDrive). record d.state { stopped = true }) kept) in
+    let old = c.args.self.now.drive in
+    let middle = c.perform.new.self.drive in
+    let new = c.note.new.self.drive.state in
+    let command = decode_of c.args.entry.now in
+    let going : old.state.stopped ≡ false = search rules in
+    let kept = rw c.decode-command.ensures.value at c.in-Err.ensures.kept in
+    let stop : c.in-Err.halt ≡ Stopped → new ≡ record middle.state { stopped = true } = λ stopped. ap (λ (d : HeldDrive _). d.drive.state) (c.note.ensures.stopped stopped) in
+    let halts = halts-noted old.state new command c.args.bytes.now c.in-Err.halt going
+    (λ memory. ap (λ (d : HeldDrive _). d.drive.state) (c.note.ensures.memory memory ∙ c.in-Err.ensures.memory (ap Err memory)))
+    (λ stopped. noted-stop old middle new command kept (stop stopped))
+    (λ stopped. noted-hardens old middle new command kept (stop stopped)) in
     rw (c.in-Err.ensures.returned, c.note.ensures.same) (adds-nothing _ _ (refl, halts))
 
 pub returns-clause-gives : goal.returns-clause-gives

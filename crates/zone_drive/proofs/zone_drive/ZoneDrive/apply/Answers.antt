@@ -1,6 +1,5 @@
 use Rattle.std.proofs.Common.{◌≡◌, rules, refl, ◌∙◌}
 use Rattle.zone_drive.proofs.ChangeLaws.{leaves-sent}
-use Rattle.zone_drive.proofs.LeftLaws.{left-or-now}
 use Rattle.zone_drive.proofs.zone_drive.ZoneDrive.apply.Goals as goal
 
 pub invariant_of-self : goal.invariant_of-self
@@ -15,7 +14,7 @@ invariant_of-self g c =
       held.4,
       held.5,
       held.6,
-      left-or-now g.Z.HeldZones.leaves inside.geometry (g.Z.HeldZones.stored inside.zones) inside.zones c.apply.new.self held.0 held.1 held.7 c.apply.ensures.leaves,
+      rw c.apply.ensures.durable held.7,
     )
 
 pub invariant_of-self-2 : goal.invariant_of-self-2
@@ -30,7 +29,7 @@ invariant_of-self-2 g c =
       held.4,
       held.5,
       held.6,
-      left-or-now g.Z.HeldZones.leaves inside.geometry (g.Z.HeldZones.stored inside.zones) inside.zones c.apply.new.self held.0 held.1 held.7 c.apply.ensures.leaves,
+      rw c.apply.ensures.durable held.7,
     )
 
 pub returns-clause-ok : goal.returns-clause-ok
@@ -38,4 +37,4 @@ returns-clause-ok g c =
     let inside = c.self.inside in
     let held = c.self.invariant in
     let leaves = leaves-sent inside.geometry (g.Z.HeldZones.stored inside.zones) c.args.number c.args.action c.requires.other held.0 held.1 (rw (← c.self.view_is) at c.requires.in_range) in
-    rw (← c.self.view_is, c.in_ok-apply.ensures.ok, leaves.in_blocks) refl
+    rw (← c.self.view_is, c.apply.ensures.durable, c.in_ok-apply.ensures.ok, leaves.in_blocks) refl

@@ -3,7 +3,6 @@ use Rattle.drive_port.specs.Step.{zone_at}
 use Rattle.zone_drive.specs.Choice.{RoomGives}
 use Rattle.zone_drive.specs.Held.{HeldDrive}
 use Rattle.zone_drive.proofs.ChangeLaws.{leaves-opened}
-use Rattle.zone_drive.proofs.LeftLaws.{left-no-more, left-or-now}
 use Rattle.zone_drive.proofs.zone_drive.ZoneDrive.open.Goals as goal
 
 pub invariant_of-self : goal.invariant_of-self
@@ -18,7 +17,7 @@ invariant_of-self g c =
       held.4,
       held.5,
       held.6,
-      left-or-now g.Z.HeldZones.leaves inside.geometry (g.Z.HeldZones.stored inside.zones) inside.zones c.apply.new.self held.0 held.1 held.7 c.apply.ensures.leaves,
+      rw c.apply.ensures.durable held.7,
     )
 
 pub invariant_of-self-2 : goal.invariant_of-self-2
@@ -34,7 +33,7 @@ invariant_of-self-2 g c =
       held.4,
       held.5,
       held.6,
-      left-no-more g.Z.HeldZones.leaves inside.geometry c.apply.new.self c.close.new.self (left-or-now g.Z.HeldZones.leaves inside.geometry (g.Z.HeldZones.stored inside.zones) inside.zones c.apply.new.self held.0 held.1 held.7 c.apply.ensures.leaves) c.close.ensures.leaves,
+      rw (c.close.ensures.durable, c.apply.ensures.durable) held.7,
     )
 
 pub returns-clause-opens : goal.returns-clause-opens
@@ -43,4 +42,4 @@ returns-clause-opens g c =
     let held = c.self.invariant in
     let gives = subst (λ (d : HeldDrive _). RoomGives d.drive.habit d.drive.state.geometry d.drive.state.zones (zone_at d.drive.state.zones c.args.number) (Ok c.in-Ok.closing)) (sym c.self.view_is) c.in-Ok.ensures in
     let leaves = leaves-opened inside.habit inside.geometry (g.Z.HeldZones.stored inside.zones) c.args.number c.in-Ok.closing held.0 held.1 (rw (← c.self.view_is) at c.requires) gives in
-    (c.in-Ok.closing, c.in-Ok.ensures, rw (← c.self.view_is, c.close.ensures.closed, c.in_ok-apply.ensures.ok, leaves.in_blocks) refl)
+    (c.in-Ok.closing, c.in-Ok.ensures, rw (← c.self.view_is, c.close.ensures.durable, c.apply.ensures.durable, c.close.ensures.closed, c.in_ok-apply.ensures.ok, leaves.in_blocks) refl)

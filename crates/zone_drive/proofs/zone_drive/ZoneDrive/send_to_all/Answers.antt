@@ -1,6 +1,5 @@
 use Rattle.std.proofs.Common.{◌≡◌, rules, refl, ◌∙◌}
 use Rattle.zone_drive.proofs.SendLaws.{are-all, zones_of-sent}
-use Rattle.zone_drive.proofs.LeftLaws.{left-or-now}
 use Rattle.zone_drive.proofs.zone_drive.ZoneDrive.send_to_all.Goals as goal
 
 pub invariant_of-self : goal.invariant_of-self
@@ -15,7 +14,7 @@ invariant_of-self g c =
       held.4,
       held.5,
       held.6,
-      left-or-now g.Z.HeldZones.leaves inside.geometry (g.Z.HeldZones.stored inside.zones) inside.zones c.apply_to_all.new.self held.0 held.1 held.7 c.apply_to_all.ensures.leaves,
+      rw c.apply_to_all.ensures.durable held.7,
     )
 
 pub invariant_of-self-2 : goal.invariant_of-self-2
@@ -29,10 +28,10 @@ invariant_of-self-2 g c =
       held.4,
       held.5,
       held.6,
-      left-or-now g.Z.HeldZones.leaves inside.geometry (g.Z.HeldZones.stored inside.zones) inside.zones c.apply_to_all.new.self held.0 held.1 held.7 c.apply_to_all.ensures.leaves,
+      rw c.apply_to_all.ensures.durable held.7,
     )
 
 pub returns-clause-ok : goal.returns-clause-ok
 returns-clause-ok g c =
     let inside = c.self.inside in
-    rw (← c.self.view_is, c.in_ok-apply_to_all.ensures.ok, zones_of-sent inside.geometry.block c.args.action (g.Z.HeldZones.stored inside.zones)) refl
+    rw (← c.self.view_is, c.apply_to_all.ensures.durable, c.in_ok-apply_to_all.ensures.ok, zones_of-sent inside.geometry.block c.args.action (g.Z.HeldZones.stored inside.zones)) refl

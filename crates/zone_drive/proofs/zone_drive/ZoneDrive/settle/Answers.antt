@@ -1,7 +1,6 @@
 use Rattle.std.proofs.Common.{rules, ◌≡◌, refl, ◌∙◌}
 use Rattle.zone_drive.specs.declared.habit.Habit.TheVariants.{Closing}
 use Rattle.zone_drive.proofs.HabitLaws.{are-closed, zones_of-closed}
-use Rattle.zone_drive.proofs.LeftLaws.{left-no-more}
 use Rattle.zone_drive.proofs.zone_drive.ZoneDrive.settle.Goals as goal
 
 pub invariant_of-self : goal.invariant_of-self
@@ -14,10 +13,10 @@ invariant_of-self g c =
       held.4,
       held.5,
       held.6,
-      left-no-more g.Z.HeldZones.leaves c.self.inside.geometry c.self.inside.zones c.close_implicit.new.self held.7 c.close_implicit.ensures.leaves,
+      rw c.close_implicit.ensures.durable held.7,
     )
 
 pub returns-then-eq-clause-settled : goal.returns-then-eq-clause-settled
 returns-then-eq-clause-settled g c =
     let closing : c.self.inside.habit ≡ Closing = search rules in
-    rw (← c.self.view_is, c.close_implicit.ensures.closed, zones_of-closed c.self.inside.geometry.block (g.Z.HeldZones.stored c.self.inside.zones), closing) refl
+    rw (← c.self.view_is, c.close_implicit.ensures.durable, c.close_implicit.ensures.closed, zones_of-closed c.self.inside.geometry.block (g.Z.HeldZones.stored c.self.inside.zones), closing) refl

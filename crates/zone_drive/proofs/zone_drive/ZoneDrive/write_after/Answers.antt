@@ -3,7 +3,6 @@ use Rattle.drive_port.specs.Step.{zone_at}
 use Rattle.zone_drive.specs.Choice.{RoomGives}
 use Rattle.zone_drive.specs.Held.{HeldDrive}
 use Rattle.zone_drive.proofs.ChangeLaws.{leaves-written}
-use Rattle.zone_drive.proofs.LeftLaws.{left-no-more, left-or-now}
 use Rattle.zone_drive.proofs.zone_drive.ZoneDrive.write_after.Goals as goal
 
 pub invariant_of-self : goal.invariant_of-self
@@ -18,7 +17,7 @@ invariant_of-self g c =
       held.4,
       held.5,
       held.6,
-      left-or-now g.Z.HeldZones.leaves inside.geometry (g.Z.HeldZones.stored inside.zones) inside.zones c.write.new.self held.0 held.1 held.7 c.write.ensures.leaves,
+      rw c.write.ensures.durable held.7,
     )
 
 pub invariant_of-self-2 : goal.invariant_of-self-2
@@ -34,7 +33,7 @@ invariant_of-self-2 g c =
       held.4,
       held.5,
       held.6,
-      left-no-more g.Z.HeldZones.leaves inside.geometry c.write.new.self c.close.new.self (left-or-now g.Z.HeldZones.leaves inside.geometry (g.Z.HeldZones.stored inside.zones) inside.zones c.write.new.self held.0 held.1 held.7 c.write.ensures.leaves) c.close.ensures.leaves,
+      rw (c.close.ensures.durable, c.write.ensures.durable) held.7,
     )
 
 pub returns-clause-ok : goal.returns-clause-ok
@@ -43,4 +42,4 @@ returns-clause-ok g c =
     let held = c.self.invariant in
     let gives = subst (λ (d : HeldDrive _). RoomGives d.drive.habit d.drive.state.geometry d.drive.state.zones (zone_at d.drive.state.zones c.args.number) (Ok c.in-Ok.closing)) (sym c.self.view_is) c.in-Ok.ensures in
     let leaves = leaves-written inside.habit inside.geometry (g.Z.HeldZones.stored inside.zones) c.args.number c.args.bytes.now c.in-Ok.closing held.0 held.1 (rw (← c.self.view_is) at c.requires.in_range) (rw (← c.self.view_is) at c.requires.checks) gives in
-    (c.in-Ok.closing, c.in-Ok.ensures, rw (← c.self.view_is, c.close.ensures.closed, c.in_ok-write.ensures.ok, held.2, leaves.in_blocks) refl)
+    (c.in-Ok.closing, c.in-Ok.ensures, rw (← c.self.view_is, c.close.ensures.durable, c.write.ensures.durable, c.close.ensures.closed, c.in_ok-write.ensures.ok, held.2, leaves.in_blocks) refl)

@@ -22,7 +22,8 @@ returns-in-Ok-clause-answers g c =
     record {
       flat = growth-done c.args.self.now new c.args.blocks known (rw (← c.self.view_is) grown.array) grown.size_is (rw (← c.self.view_is) refl) (rw (← c.self.view_is) grown.keeps.geometry);
       untouched = growth-unknown c.args.self.now new c.args.blocks known;
-      kept = rw (← c.self.view_is) (keeps-disk c.self.inside.mounted c.grow_batch.new.disk c.self.inside.cleaner c.grow_batch.new.cleaner c.self.inside.status c.self.inside.status (λ e. e) (below-next c.grow_batch.new.disk c.grow_batch.new.cleaner c.self.inside.status grown.serves) grown.keeps);
+      kept = rw (← c.self.view_is) (keeps-disk c.self.inside.mounted c.grow_batch.new.disk c.self.inside.cleaner c.grow_batch.new.cleaner c.self.inside.status c.self.inside.status (λ e. e) (below-next c.grow_batch.new.disk c.grow_batch.new.cleaner c.self.inside.status grown.serves) grown.keeps).kept;
+      durable = rw (← c.self.view_is) grown.keeps.durable;
       cause = tt;
     }
 
@@ -46,9 +47,10 @@ returns-in-Err-clause-answers g c =
     let lost = refused-growth c.self.inside.mounted c.grow_batch.new.disk c.self.inside.cleaner c.grow_batch.new.cleaner c.args.blocks c.in-Err.fault c.self.inside.status c.self.invariant.reserve serves c.in-Err.ensures.leaves in
     let new = view_of c.grow_batch.new.disk c.grow_batch.new.cleaner c.status_of-self-inside.result in
     record {
-      flat = growth-refused c.args.self.now new c.args.blocks c.in-Err.fault known (rw (← c.self.view_is) lost.front) (rw (← c.self.view_is) lost.refused.size) c.status_of-self-inside.ensures (rw (← c.self.view_is) lost.refused.kept.geometry) c.in-Err.ensures.cause;
+      flat = growth-refused c.args.self.now new c.args.blocks c.in-Err.fault known (rw (← c.self.view_is) lost.front) (rw (← c.self.view_is) lost.refused.size) c.status_of-self-inside.ensures (rw (← c.self.view_is) lost.refused.kept.kept.geometry) c.in-Err.ensures.cause;
       untouched = growth-unknown c.args.self.now new c.args.blocks known;
-      kept = rw (← c.self.view_is, c.status_of-self-inside.ensures) lost.refused.kept;
+      kept = rw (← c.self.view_is, c.status_of-self-inside.ensures) lost.refused.kept.kept;
+      durable = rw (← c.self.view_is) lost.refused.kept.durable;
       cause = cause-of new c.in-Err.fault c.in-Err.ensures.cause;
     }
 
@@ -56,7 +58,7 @@ pub returns-in-Err-clause-fewer : goal.returns-in-Err-clause-fewer
 returns-in-Err-clause-fewer g c =
     let serves = holds-agrees c.self.inside.mounted c.self.inside.cleaner c.self.inside.status (rw (← c.self.view_is) at c.in_ok-check_growth.ensures.serving) c.self.invariant in
     let lost = refused-growth c.self.inside.mounted c.grow_batch.new.disk c.self.inside.cleaner c.grow_batch.new.cleaner c.args.blocks c.in-Err.fault c.self.inside.status c.self.invariant.reserve serves c.in-Err.ensures.leaves in
-    rw (← c.self.view_is) (λ runs. batch-turns c.self.inside.mounted c.grow_batch.new.disk c.self.inside.cleaner c.grow_batch.new.cleaner c.self.inside.status c.status_of-self-inside.result (Err c.in-Err.fault) lost.refused.kept.geometry c.in-Err.ensures.clean runs)
+    rw (← c.self.view_is) (λ runs. batch-turns c.self.inside.mounted c.grow_batch.new.disk c.self.inside.cleaner c.grow_batch.new.cleaner c.self.inside.status c.status_of-self-inside.result (Err c.in-Err.fault) lost.refused.kept.kept.geometry c.in-Err.ensures.clean runs)
 
 pub returns-in-Ok-clause-clean : goal.returns-in-Ok-clause-clean
 returns-in-Ok-clause-clean g c =
@@ -66,7 +68,7 @@ pub returns-in-Err-clause-clean : goal.returns-in-Err-clause-clean
 returns-in-Err-clause-clean g c =
     let serves = holds-agrees c.self.inside.mounted c.self.inside.cleaner c.self.inside.status (rw (← c.self.view_is) at c.in_ok-check_growth.ensures.serving) c.self.invariant in
     let lost = refused-growth c.self.inside.mounted c.grow_batch.new.disk c.self.inside.cleaner c.grow_batch.new.cleaner c.args.blocks c.in-Err.fault c.self.inside.status c.self.invariant.reserve serves c.in-Err.ensures.leaves in
-    rw (← c.self.view_is) (goes-clean c.self.inside.mounted c.grow_batch.new.disk c.self.inside.cleaner c.grow_batch.new.cleaner c.self.inside.status c.status_of-self-inside.result lost.refused.kept.geometry c.in-Err.ensures.clean.clean)
+    rw (← c.self.view_is) (goes-clean c.self.inside.mounted c.grow_batch.new.disk c.self.inside.cleaner c.grow_batch.new.cleaner c.self.inside.status c.status_of-self-inside.result lost.refused.kept.kept.geometry c.in-Err.ensures.clean.clean)
 
 pub returns-in_err-check_growth-clause-clean : goal.returns-in_err-check_growth-clause-clean
 returns-in_err-check_growth-clause-clean g c = same-clean c.args.self.now

@@ -24,7 +24,8 @@ returns-in-Ok-clause-answers g c =
     record {
       flat = idle-done c.args.self.now new serving (rw (← c.self.view_is) keeps.array) (rw (← c.self.view_is) keeps.size) (rw (← c.self.view_is) refl) (rw (← c.self.view_is) keeps.geometry);
       untouched = idle-unknown c.args.self.now new serving;
-      kept = rw (← c.self.view_is) (cleaned-disk c.self.inside.mounted c.turn.new.disk c.self.inside.cleaner c.turn.new.self c.self.inside.status c.self.inside.status (λ e. e) (below-next c.turn.new.disk c.turn.new.self c.self.inside.status c.in-Ok.ensures.cleaning.goes_on) keeps);
+      kept = rw (← c.self.view_is) (cleaned-disk c.self.inside.mounted c.turn.new.disk c.self.inside.cleaner c.turn.new.self c.self.inside.status c.self.inside.status (λ e. e) (below-next c.turn.new.disk c.turn.new.self c.self.inside.status c.in-Ok.ensures.cleaning.goes_on) keeps).kept;
+      durable = rw (← c.self.view_is) keeps.durable;
       cause = tt;
     }
 
@@ -44,7 +45,8 @@ returns-in-Err-clause-answers g c =
     record {
       flat = idle-refused c.args.self.now new c.from-fault.result serving (rw (← c.self.view_is) keeps.array) (rw (← c.self.view_is) keeps.size) c.status_of-self-inside.ensures (rw (← c.self.view_is) keeps.geometry) cause;
       untouched = idle-unknown c.args.self.now new serving;
-      kept = rw (← c.self.view_is, c.status_of-self-inside.ensures, c.from-fault.ensures) (refused-turn c.self.inside.mounted c.turn.new.disk c.self.inside.cleaner c.turn.new.self c.in-Err.cause c.self.inside.status c.self.invariant.reserve serves keeps cleaning.goes_on cleaning.cause).kept;
+      kept = rw (← c.self.view_is, c.status_of-self-inside.ensures, c.from-fault.ensures) (refused-turn c.self.inside.mounted c.turn.new.disk c.self.inside.cleaner c.turn.new.self c.in-Err.cause c.self.inside.status c.self.invariant.reserve serves keeps cleaning.goes_on cleaning.cause).kept.kept;
+      durable = rw (← c.self.view_is) keeps.durable;
       cause = cause-of new c.from-fault.result cause;
     }
 

@@ -11,6 +11,7 @@ returns-in_err-is_done-clause-answers g c = record {
   flat = read-known c.args.self.now c.args.first c.args.blocks c.from_residual.result _ (search rules) c.clear.ensures.items;
   untouched = λ known. refl;
   kept = kept-refl c.args.self.now c.is_done.ensures.sound.mountable;
+  durable = refl;
   cause = search rules;
   stops = λ serves stopped. none-stopped c.args.self.now c.args.first c.args.blocks c.from_residual.result (search rules) serves stopped;
 }
@@ -20,6 +21,7 @@ returns-then-branch-clause-answers g c = record {
   flat = read-known c.args.self.now c.args.first c.args.blocks (Ok tt) _ (done-known c.args.self.now c.args.first c.args.blocks c.in_ok-is_done.field-0 c.in_ok-is_done.ensures.known c.if-branch.true) c.clear.ensures.items;
   untouched = λ known. refl;
   kept = kept-refl c.args.self.now c.is_done.ensures.sound.mountable;
+  durable = refl;
   cause = tt;
   stops = λ serves stopped. absurd (cc);
 }
@@ -53,9 +55,10 @@ returns-in-Err-clause-answers g c =
     let keeps = read-join disk c.loop-i.self new so_far.0 c.read_one.ensures.keeps in
     let lost = c.in-Err.ensures.err in
     record {
-      flat = read-refused disk new c.args.first c.args.blocks c.in-Err.fault _ none c.clear-in-Err.ensures.items keeps.array keeps.size lost.status keeps.kept.geometry lost.cause;
+      flat = read-refused disk new c.args.first c.args.blocks c.in-Err.fault _ none c.clear-in-Err.ensures.items keeps.array keeps.size lost.status keeps.kept.kept.geometry lost.cause;
       untouched = read-unknown disk new c.args.first c.args.blocks none;
-      kept = keeps.kept;
+      kept = keeps.kept.kept;
+      durable = keeps.kept.durable;
       cause = read-cause new c.in-Err.fault lost.cause;
       stops = λ serves stopped. has-data disk c.loop-i.self c.args.first c.args.blocks _ c.loop-i.i c.in-Err.fault _ refl refl (omega (arith, c.loop-i-test.true)) so_far.0.places lost.stops stopped;
     }
@@ -73,9 +76,10 @@ returns-clause-answers g c =
     let all : c.loop-i.i ≡ c.args.blocks = omega (arith, c.loop-i-test.false, c.loop-i.auto.i-end) in
     let none = goes-begun disk c.args.first c.args.blocks c.in_ok-is_done.field-0 c.in_ok-is_done.ensures.known c.if-branch.false in
     record {
-      flat = read-done disk c.loop-i.self c.args.first c.args.blocks _ none (c.in_ok-is_done.ensures.serving c.if-branch.false) (rw all at so_far.2) so_far.0.array so_far.0.size so_far.1 so_far.0.kept.geometry;
+      flat = read-done disk c.loop-i.self c.args.first c.args.blocks _ none (c.in_ok-is_done.ensures.serving c.if-branch.false) (rw all at so_far.2) so_far.0.array so_far.0.size so_far.1 so_far.0.kept.kept.geometry;
       untouched = read-unknown disk c.loop-i.self c.args.first c.args.blocks none;
-      kept = so_far.0.kept;
+      kept = so_far.0.kept.kept;
+      durable = so_far.0.kept.durable;
       cause = tt;
       stops = λ serves stopped. absurd (cc);
     }

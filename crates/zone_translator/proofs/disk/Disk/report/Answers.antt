@@ -22,7 +22,8 @@ returns-in-Ok-clause-answers g c =
     record {
       flat = report-done c.args.self.now new serving (rw (← c.self.view_is) kept.array) (rw (← c.self.view_is, c.report_all.ensures.tables) refl) (rw (← c.self.view_is) refl) (rw (← c.self.view_is) kept.geometry);
       untouched = report-unknown c.args.self.now new serving;
-      kept = rw (← c.self.view_is) (kept-disk c.self.inside.mounted c.report_all.new.disk c.self.inside.cleaner c.self.inside.status c.self.inside.status (λ e. e) serves kept);
+      kept = rw (← c.self.view_is) (kept-disk c.self.inside.mounted c.report_all.new.disk c.self.inside.cleaner c.self.inside.status c.self.inside.status (λ e. e) serves kept).kept;
+      durable = rw (← c.self.view_is) kept.durable;
       cause = tt;
     }
 
@@ -38,7 +39,8 @@ returns-in-Err-clause-answers g c =
     record {
       flat = report-refused c.args.self.now new c.in-Err.fault serving (rw (← c.self.view_is) kept.array) (rw (← c.self.view_is, c.report_all.ensures.tables) refl) c.status_of-self-inside.ensures (rw (← c.self.view_is) kept.geometry) c.in-Err.ensures.err;
       untouched = report-unknown c.args.self.now new serving;
-      kept = rw (← c.self.view_is) (kept-disk c.self.inside.mounted c.report_all.new.disk c.self.inside.cleaner c.self.inside.status c.status_of-self-inside.result (λ e. refused-status c.in-Err.fault c.self.inside.status (sym c.status_of-self-inside.ensures ∙ e)) serves kept);
+      kept = rw (← c.self.view_is) (kept-disk c.self.inside.mounted c.report_all.new.disk c.self.inside.cleaner c.self.inside.status c.status_of-self-inside.result (λ e. refused-status c.in-Err.fault c.self.inside.status (sym c.status_of-self-inside.ensures ∙ e)) serves kept).kept;
+      durable = rw (← c.self.view_is) kept.durable;
       cause = read-cause new c.in-Err.fault c.in-Err.ensures.err;
     }
 

@@ -7,7 +7,7 @@ use Rattle.zone_translator.proofs.CallLaws.{batches-less, batches-some, cause-of
 use Rattle.zone_translator.proofs.CleaningLaws.{cleaning-stays, same-stays, stays-join}
 use Rattle.zone_translator.proofs.ContentLaws.{length-blocks, rest-is, rest-whole}
 use Rattle.zone_translator.proofs.CutLaws.{cut-old, cut-step}
-use Rattle.zone_translator.proofs.DiskLaws.{done-clean, kept-join, kept-refl, refused-clean, same-clean, turns-on}
+use Rattle.zone_translator.proofs.DiskLaws.{done-clean, kept-refl, still-join, still-refl, refused-clean, same-clean, turns-on}
 use Rattle.zone_translator.proofs.FlatLaws.{replaced-none}
 use Rattle.zone_translator.proofs.disk.Disk.write_all.Goals as goal
 
@@ -18,6 +18,7 @@ returns-in_err-is_done-clause-answers g c = record {
   flat = write-known c.args.self.now c.args.first c.args.blocks _ c.from_residual.result (length-blocks _ c.args.blocks c.args.content) (search rules);
   untouched = λ known. refl;
   kept = kept-refl c.args.self.now c.is_done.ensures.sound.mountable;
+  durable = refl;
   cause = search rules;
 }
 
@@ -32,6 +33,7 @@ returns-then-branch-clause-answers g c = record {
   flat = write-known c.args.self.now c.args.first c.args.blocks _ (Ok tt) (length-blocks _ c.args.blocks c.args.content) (done-known c.args.self.now c.args.first c.args.blocks c.in_ok-is_done.field-0 c.in_ok-is_done.ensures.known c.if-branch.true);
   untouched = λ known. refl;
   kept = kept-refl c.args.self.now c.is_done.ensures.sound.mountable;
+  durable = refl;
   cause = tt;
 }
 
@@ -54,7 +56,7 @@ pub loop-done-init : goal.loop-done-init
 loop-done-init g c =
     let whole : c.args.blocks - 0 ≡ c.args.blocks = omega arith in
     let disk = c.args.self.now in (
-      kept-refl disk c.is_done.ensures.sound.mountable,
+      still-refl disk c.is_done.ensures.sound.mountable,
       refl,
       c.in_ok-is_done.ensures.serving c.if-branch.false,
       omega arith,
@@ -75,7 +77,7 @@ write_some-requires-clause-can g c =
     record {
       some = omega (arith, c.loop-done-test.true);
       in_range = omega (arith, so_far.1, range, so_far.3, c.loop-done-test.true);
-      whole = rw so_far.0.geometry (rest-whole c.args.self.now.drive.geometry.block c.args.blocks c.loop-done.done c.args.content c.after-unwritten.result so_far.3 c.requires.whole (rw block_is at c.after-unwritten.ensures));
+      whole = rw so_far.0.kept.geometry (rest-whole c.args.self.now.drive.geometry.block c.args.blocks c.loop-done.done c.args.content c.after-unwritten.result so_far.3 c.requires.whole (rw block_is at c.after-unwritten.ensures));
     }
 
 pub loop-done-preserved : goal.loop-done-preserved
@@ -87,15 +89,15 @@ loop-done-preserved g c =
     let left = c.args.blocks - c.loop-done.done in
     let block_is : c.geometry-block.result.block ≡ disk.drive.geometry.block = rw (← c.self.view_is) (ap (λ (x : Geometry). x.block) c.geometry-block.ensures) in
     let rest = rest-is disk.drive.geometry.block c.args.blocks c.loop-done.done c.args.content c.after-unwritten.result so_far.3 (rw block_is at c.after-unwritten.ensures) in
-    let left_is : blocks_of now.drive.geometry.block left c.after-unwritten.result ≡ drop c.loop-done.done (blocks_of disk.drive.geometry.block c.args.blocks c.args.content) = rw so_far.0.geometry rest.blocks in
+    let left_is : blocks_of now.drive.geometry.block left c.after-unwritten.result ≡ drop c.loop-done.done (blocks_of disk.drive.geometry.block c.args.blocks c.args.content) = rw so_far.0.kept.geometry rest.blocks in
     let long = length-blocks disk.drive.geometry.block c.args.blocks c.args.content in
     let done = c.in-Ok.ensures in
     let wrote = done.wrote in
     let fewer : c.args.blocks - (c.loop-done.done + c.in-Ok.count) ≡ left - c.in-Ok.count = omega (arith, wrote.taken, so_far.3) in
     let each = batch_commands disk.drive.geometry in
-    let less = batches-less (is_trim c.args.content) disk left c.in-Ok.count c.is_done.ensures.sound.range wrote.taken.0 wrote.taken.1 (rw (so_far.0.geometry, rest.trim) at wrote.taken.2) in
-    let stays = cleaning-stays {V = ℕ} (mounted_of now) (mounted_of new) now.clean new.clean c.in-Ok.count (omega (arith, done.kept.next, done.kept.appended)) done.kept.geometry done.clean in (
-      kept-join disk now new so_far.0 done.kept,
+    let less = batches-less (is_trim c.args.content) disk left c.in-Ok.count c.is_done.ensures.sound.range wrote.taken.0 wrote.taken.1 (rw (so_far.0.kept.geometry, rest.trim) at wrote.taken.2) in
+    let stays = cleaning-stays {V = ℕ} (mounted_of now) (mounted_of new) now.clean new.clean c.in-Ok.count (omega (arith, done.kept.kept.next, done.kept.kept.appended)) done.kept.kept.geometry done.clean in (
+      still-join disk now new so_far.0 done.kept,
       done.size ∙ so_far.1,
       wrote.serving,
       omega (arith, wrote.taken, so_far.3),
@@ -103,9 +105,9 @@ loop-done-preserved g c =
           so_far.4 refl refl (omega (arith, long, so_far.3)) left_is wrote.array,
       names-more (is_trim c.args.content) _ _ _ c.args.first c.loop-done.done _ c.in-Ok.count _ refl refl so_far.5 (rw rest.trim at wrote.names),
       λ some. wrote.says,
-      λ some. rw so_far.0.geometry at wrote.early,
-      rw fewer (spend (most_batches (is_trim c.args.content) disk left) _ each _ new.drive.completed _ less (rw so_far.0.geometry at done.completed) so_far.8),
-      cut-step disk.drive.geometry now.drive.geometry (logs_of disk) (c.args.first + c.args.blocks - 1) _ (logs_of now) (logs_of new) so_far.0.geometry (omega (arith, so_far.3)) (done.cut (logs_of disk)) so_far.9,
+      λ some. rw so_far.0.kept.geometry at wrote.early,
+      rw fewer (spend (most_batches (is_trim c.args.content) disk left) _ each _ new.drive.completed _ less (rw so_far.0.kept.geometry at done.completed) so_far.8),
+      cut-step disk.drive.geometry now.drive.geometry (logs_of disk) (c.args.first + c.args.blocks - 1) _ (logs_of now) (logs_of new) so_far.0.kept.geometry (omega (arith, so_far.3)) (done.cut (logs_of disk)) so_far.9,
       stays-join (mounted_of disk) (mounted_of now) (mounted_of new) disk.clean now.clean new.clean so_far.10 stays,
     )
 
@@ -120,16 +122,17 @@ returns-in-Err-clause-answers g c =
     let left = c.args.blocks - c.loop-done.done in
     let block_is : c.geometry-block.result.block ≡ disk.drive.geometry.block = rw (← c.self.view_is) (ap (λ (x : Geometry). x.block) c.geometry-block.ensures) in
     let rest = rest-is disk.drive.geometry.block c.args.blocks c.loop-done.done c.args.content c.after-unwritten.result so_far.3 (rw block_is at c.after-unwritten.ensures) in
-    let left_is : blocks_of now.drive.geometry.block left c.after-unwritten.result ≡ drop c.loop-done.done (blocks_of disk.drive.geometry.block c.args.blocks c.args.content) = rw so_far.0.geometry rest.blocks in
+    let left_is : blocks_of now.drive.geometry.block left c.after-unwritten.result ≡ drop c.loop-done.done (blocks_of disk.drive.geometry.block c.args.blocks c.args.content) = rw so_far.0.kept.geometry rest.blocks in
     let long = length-blocks disk.drive.geometry.block c.args.blocks c.args.content in
     let lost = c.in-Err.ensures in
     let none = goes-begun disk c.args.first c.args.blocks c.in_ok-is_done.field-0 c.in_ok-is_done.ensures.known c.if-branch.false in
     let front = write-front (disk_array disk) (disk_array now) (disk_array new) c.args.first c.loop-done.done _ (blocks_of disk.drive.geometry.block c.args.blocks c.args.content) _
     so_far.4 refl (omega (arith, long, so_far.3)) left_is lost.err.front in
     record {
-      flat = write-refused disk new c.args.first c.args.blocks _ c.in-Err.fault long none front (lost.size ∙ so_far.1) lost.err.status (lost.kept.geometry ∙ so_far.0.geometry) lost.err.cause;
+      flat = write-refused disk new c.args.first c.args.blocks _ c.in-Err.fault long none front (lost.size ∙ so_far.1) lost.err.status (lost.kept.kept.geometry ∙ so_far.0.kept.geometry) lost.err.cause;
       untouched = write-unknown disk new c.args.first c.args.blocks _ long none;
-      kept = kept-join disk now new so_far.0 lost.kept;
+      kept = (still-join disk now new so_far.0 lost.kept).kept;
+      durable = (still-join disk now new so_far.0 lost.kept).durable;
       cause = cause-of new c.in-Err.fault lost.err.cause;
     }
 
@@ -141,7 +144,7 @@ returns-in-Err-clause-stores g c =
       names = tt;
       says = tt;
       early = tt;
-      cut = cut-step disk.drive.geometry c.loop-done.self.drive.geometry (logs_of disk) (c.args.first + c.args.blocks - 1) _ (logs_of c.loop-done.self) (logs_of c.write_some.new.self) so_far.0.geometry (omega (arith, so_far.3)) (c.in-Err.ensures.cut (logs_of disk)) so_far.9;
+      cut = cut-step disk.drive.geometry c.loop-done.self.drive.geometry (logs_of disk) (c.args.first + c.args.blocks - 1) _ (logs_of c.loop-done.self) (logs_of c.write_some.new.self) so_far.0.kept.geometry (omega (arith, so_far.3)) (c.in-Err.ensures.cut (logs_of disk)) so_far.9;
     }
 
 pub returns-in-Err-clause-costs : goal.returns-in-Err-clause-costs
@@ -153,10 +156,10 @@ returns-in-Err-clause-costs g c =
     let lost = c.in-Err.ensures in
     let one = batches-some (is_trim c.args.content) disk (c.args.blocks - c.loop-done.done) c.is_done.ensures.sound.range (omega (arith, c.loop-done-test.true)) in
     let each = batch_commands disk.drive.geometry in
-    let last = spend (most_batches (is_trim c.args.content) disk (c.args.blocks - c.loop-done.done)) 0 each _ new.drive.completed _ (omega (arith, one)) (rw so_far.0.geometry at lost.completed) so_far.8 in
+    let last = spend (most_batches (is_trim c.args.content) disk (c.args.blocks - c.loop-done.done)) 0 each _ new.drive.completed _ (omega (arith, one)) (rw so_far.0.kept.geometry at lost.completed) so_far.8 in
     record {
       turns = tt;
-      clean = λ serves. refused-clean (mounted_of disk) (mounted_of now) (mounted_of new) disk.clean now.clean new.clean disk.status new.status c.in-Err.fault (lost.kept.geometry ∙ so_far.0.geometry) so_far.10 lost.clean (sym lost.err.status ∙ serves);
+      clean = λ serves. refused-clean (mounted_of disk) (mounted_of now) (mounted_of new) disk.clean now.clean new.clean disk.status new.status c.in-Err.fault (lost.kept.kept.geometry ∙ so_far.0.kept.geometry) so_far.10 lost.clean (sym lost.err.status ∙ serves);
       completed = omega (arith, last);
     }
 
@@ -169,9 +172,10 @@ returns-clause-answers g c =
     let long = length-blocks disk.drive.geometry.block c.args.blocks c.args.content in
     let none = goes-begun disk c.args.first c.args.blocks c.in_ok-is_done.field-0 c.in_ok-is_done.ensures.known c.if-branch.false in
     record {
-      flat = write-done disk c.loop-done.self c.args.first c.args.blocks c.loop-done.done _ long none (c.in_ok-is_done.ensures.serving c.if-branch.false) (omega (arith, c.loop-done-test.false)) so_far.4 so_far.1 so_far.2 so_far.0.geometry;
+      flat = write-done disk c.loop-done.self c.args.first c.args.blocks c.loop-done.done _ long none (c.in_ok-is_done.ensures.serving c.if-branch.false) (omega (arith, c.loop-done-test.false)) so_far.4 so_far.1 so_far.2 so_far.0.kept.geometry;
       untouched = write-unknown disk c.loop-done.self c.args.first c.args.blocks _ long none;
-      kept = so_far.0;
+      kept = so_far.0.kept;
+      durable = so_far.0.durable;
       cause = tt;
     }
 
@@ -191,7 +195,7 @@ returns-clause-costs g c =
     let disk = c.args.self.now in
     let new = c.loop-done.self in
     record {
-      turns = turns-on (mounted_of disk) (mounted_of new) disk.clean new.clean disk.status new.status so_far.0.geometry so_far.10.turns;
+      turns = turns-on (mounted_of disk) (mounted_of new) disk.clean new.clean disk.status new.status so_far.0.kept.geometry so_far.10.turns;
       clean = λ serves. done-clean (mounted_of disk) (mounted_of new) disk.clean new.clean disk.status new.status so_far.10;
       completed = omega (arith, so_far.8);
     }

@@ -4,13 +4,13 @@ use Rattle.zone_translator.specs.declared.status.DiskStatus.TheVariants.{Serving
 use Rattle.zone_translator.specs.Batches.{LogsAreCut, blocks_of, is_trim}
 use Rattle.zone_translator.specs.Changes.{Names, batch_commands}
 use Rattle.zone_translator.specs.Flat.{replaced}
-use Rattle.zone_translator.specs.View.{KeepsDisk, disk_array, disk_size, logs_of, most_batches, mounted_of, next_sequence, disk_places, size_on}
+use Rattle.zone_translator.specs.View.{KeepsDurable, disk_array, disk_size, logs_of, most_batches, mounted_of, next_sequence, disk_places, size_on}
 use Rattle.zone_translator.proofs.CleaningLaws.{StaysClean}
 use Rattle.zone_translator.proofs.disk.Disk.write_all.Given as goal
 
 abbrev pub invariant-loop-done : goal.invariant-loop-done
 invariant-loop-done g l =
-    KeepsDisk l.fn.self l.self × (disk_size l.self ≡ disk_size l.fn.self) × (l.self.status ≡ Serving) × (l.done ≤ l.blocks)
+    KeepsDurable l.fn.self l.self × (disk_size l.self ≡ disk_size l.fn.self) × (l.self.status ≡ Serving) × (l.done ≤ l.blocks)
     × (disk_array l.self ≡ replaced (disk_array l.fn.self) l.first (take l.done (blocks_of l.fn.self.drive.geometry.block l.blocks l.content)))
     × Names (is_trim l.content) (disk_places l.fn.self) l.first l.done (disk_places l.self) × (1 ≤ l.done → size_on l.self ≡ Some (disk_size l.self)) × (1 ≤ l.done → next_sequence l.self ≤ sequence_end l.fn.self.drive.geometry)
     × (l.self.drive.completed + most_batches (is_trim l.content) l.fn.self (l.blocks - l.done) * batch_commands l.fn.self.drive.geometry ≤ l.fn.self.drive.completed + most_batches (is_trim l.content) l.fn.self l.blocks * batch_commands l.fn.self.drive.geometry)

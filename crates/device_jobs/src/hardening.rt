@@ -1,0 +1,51 @@
+// What makes durable what a drive has completed.
+
+ghost use Rattle.device_jobs.specs.Durable.{FlushesBy, Hardens};
+
+use drive_port::{Device, PortFault, flush};
+use nbd_session::Medium;
+use std::alloc::Global;
+use thiserror::Error;
+
+/// Why what a drive has completed may not be durable.
+#[derive(Clone, Copy, Debug, PartialEq, Eq, Error)]
+pub enum HardenFault {
+    /// The drive did not do a Flush.
+    #[error("a Flush was not done: {0}")]
+    Drive(PortFault),
+    /// The medium of the drive failed.
+    #[error("what was written could not be made durable")]
+    Medium,
+}
+
+/// Flushes a drive, if that is asked for.
+pub(crate) fn flush_if<D: Device>(
+    alloc: Global,
+    flushes: bool,
+    device: &mut D,
+) -> Result<(), PortFault>
+    ensures { FlushesBy flushes (D.drive device.old) result (D.drive device.new) }
+{
+    if !flushes {
+        return Ok(());
+    }
+    flush(alloc, device)
+}
+
+/// Makes durable what a drive has completed: by a Flush where a sync of its medium is that, and by a sync.
+pub fn harden<D: Device, M: Medium>(
+    alloc: Global,
+    device: &mut D,
+    medium: &mut M,
+) -> Result<(), HardenFault>
+    ensures { Hardens (M.flushes medium.old) (record { before = M.syncs medium.old; after = M.syncs medium.new })
+        (D.drive device.old) result (D.drive device.new) }
+{
+    if let Err(fault) = flush_if(alloc, medium.flushes(), device) {
+        return Err(HardenFault::Drive(fault));
+    }
+    match medium.sync() {
+        Ok(()) => Ok(()),
+        Err(_) => Err(HardenFault::Medium),
+    }
+}

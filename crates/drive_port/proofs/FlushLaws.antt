@@ -1,0 +1,65 @@
+-- What a Flush leaves, and that no drive refuses it.
+use Rattle.std.proofs.Common.{◌≡◌, ◌+◌, ◌≤◌, true, [], Result, Ok, Err, refl, ap, arith}
+use Rattle.std.specs.Prelude.{OnOk}
+use Rattle.nvme_wire.specs.declared.command.Command.TheVariants.{Flush}
+use Rattle.drive_port.specs.declared.calls.PortFault.{PortFault}
+use Rattle.drive_port.specs.declared.calls.PortFault.TheVariants.{Refused, Memory, Stopped}
+use Rattle.drive_port.specs.Drive.{DriveState}
+use Rattle.drive_port.specs.Step.{outcome}
+use Rattle.drive_port.specs.Contents.{SameCounts}
+use Rattle.drive_port.specs.Calls.{FlushGives, FlushKeeps, Flushed, IsNotRefused, OnlyCloses, with_zero}
+use Rattle.drive_port.proofs.StepLaws.{counts-success}
+use Rattle.drive_port.proofs.HaltLaws.{query-closes}
+
+-- no drive refuses it
+pub flush-is_taken : {V : Type 0} (old new : DriveState) (result : Result V PortFault) → FlushGives old result new → IsNotRefused result
+unfolding outcome
+flush-is_taken old new (Ok value) gives = tt
+flush-is_taken old new (Err (Refused status)) gives = gives.1.1 gives.1.3.effect.status_is
+flush-is_taken old new (Err Memory) gives = tt
+flush-is_taken old new (Err Stopped) gives = tt
+
+-- where it succeeded, a loss of power leaves the zones as they are
+pub flush-if_ok : {V : Type 0} (old new : DriveState) (result : Result V PortFault) → FlushGives old result new → OnOk result (Flushed old new)
+flush-if_ok old new (Ok value) gives = record { counts = counts-success old new (Ok Flush) [] gives.0 0 gives.1.1; durable = gives.1.1.hardens }
+flush-if_ok old new (Err fault) gives = tt
+
+-- where it did not, what was durable is
+pub flush-keeps : {V : Type 0} (old new : DriveState) (result : Result V PortFault) → FlushGives old result new → FlushKeeps old result new
+unfolding outcome
+flush-keeps old new (Ok value) gives = tt
+flush-keeps old new (Err (Refused status)) gives = absurd (gives.1.1 gives.1.3.effect.status_is)
+flush-keeps old new (Err Memory) gives = ap (λ (d : DriveState). d.durable) gives.1.1.1
+flush-keeps old new (Err Stopped) gives = gives.1.1.hardens
+
+-- what it keeps of a drive that had stopped
+pub flush-already : {V : Type 0} (old new : DriveState) (result : Result V PortFault) → FlushGives old result new → old.stopped ≡ true → (result ≡ Err Stopped) × (new ≡ old)
+flush-already old new (Ok value) gives e = absurd (cc (e, gives.1.0))
+flush-already old new (Err (Refused status)) gives e = absurd (cc (e, gives.1.0))
+flush-already old new (Err Memory) gives e = absurd (cc (e, gives.1.1.0))
+flush-already old new (Err Stopped) gives e = (refl, gives.1.1.already e)
+
+-- a drive that answers that it has stopped has, and counts nothing
+pub flush-stops : {V : Type 0} (old new : DriveState) (result : Result V PortFault) → FlushGives old result new → result ≡ Err Stopped → (new.stopped ≡ true) × SameCounts old new
+flush-stops old new (Ok value) gives e = absurd (cc e)
+flush-stops old new (Err (Refused status)) gives e = absurd (cc e)
+flush-stops old new (Err Memory) gives e = absurd (cc e)
+flush-stops old new (Err Stopped) gives e = (gives.1.1.stopped, gives.1.1.counts)
+
+-- no more than one command is completed
+pub flush-completed : {V : Type 0} (old new : DriveState) (result : Result V PortFault) → FlushGives old result new → new.completed ≤ old.completed + 1
+flush-completed old new (Ok value) gives = omega (arith, gives.1.1.completed)
+flush-completed old new (Err (Refused status)) gives = omega (arith, gives.1.3.completed)
+flush-completed old new (Err Memory) gives = rw gives.1.1.1 (omega arith)
+flush-completed old new (Err Stopped) gives = omega (arith, gives.1.1.counts.completed)
+
+-- the geometry is the same
+flush-geometry : {V : Type 0} (old new : DriveState) (result : Result V PortFault) → FlushGives old result new → new.geometry ≡ old.geometry
+flush-geometry old new (Ok value) gives = gives.1.1.geometry
+flush-geometry old new (Err (Refused status)) gives = gives.1.3.geometry
+flush-geometry old new (Err Memory) gives = ap (λ (d : DriveState). d.geometry) gives.1.1.1
+flush-geometry old new (Err Stopped) gives = gives.1.1.geometry
+
+-- it does no more to the zones than the controller may by itself
+pub flush-closes : {V : Type 0} (old new : DriveState) (result : Result V PortFault) → FlushGives old result new → OnlyCloses old new
+flush-closes old new result gives = query-closes old new Flush [] gives.0 (with_zero result) refl (flush-geometry old new result gives) gives.1

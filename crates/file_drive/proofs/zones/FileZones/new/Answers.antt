@@ -1,0 +1,19 @@
+use Rattle.std.proofs.Common.{false, refl}
+use Rattle.file_drive.proofs.ServedLaws.{promised-durable}
+use Rattle.file_drive.proofs.zones.FileZones.new.Goals as goal
+
+pub invariant_of-result : goal.invariant_of-result
+invariant_of-result g c =
+    let is = c.requires in
+    let tables = c.args.found.tables in (
+      is.in_range,
+      is.count,
+      is.within,
+      rw c.deref.ensures.value at c.of-resources.ensures,
+      is.served,
+      is.safe,
+      λ e. (is.usable, is.promise),
+      promised-durable c.args.found.head.geometry g.F.FileBytes.seen g.F.FileBytes.may_leave c.args.file tables.flushed tables.safe.items tables.other.items false is.safe is.promise,
+      is.apart,
+      λ e. refl,
+    )

@@ -1,0 +1,112 @@
+// Tasks on the image in a file, as jobs on a drive that stays in its file.
+
+ghost use Rattle.std.specs.Prelude.{◌≡◌, IfErr, IfOk, None, Some};
+ghost use Rattle.device_jobs.specs.declared.job.DeviceJob.TheVariants as jobs;
+ghost use Rattle.command_line.specs.declared.task.Task.TheVariants as tasks;
+ghost use Rattle.tool_jobs.specs.declared.job.ToolJob.TheVariants as tools;
+ghost use Rattle.zonedisk_program.specs.InPlace.{counterpart, lines_counterpart, served_counterpart, tool_counterpart};
+ghost use Rattle.zonedisk_program.specs.InPlace.{zones_counterpart};
+
+use command_line::Task;
+use device_jobs::{DeviceJob, DeviceRun};
+use disk_jobs::Job;
+use nbd_jobs::NbdJob;
+use nvme_wire::ZoneState;
+use tool_jobs::{ToolJob, ZonesForm, ZonesJob};
+
+/// A report of the zones of a drive: all, or those in a state.
+fn report_job(device: String, state: Option<ZoneState>) -> DeviceJob
+    ensures { result ≡ jobs.Report device state }
+{
+    DeviceJob::Report { device, state }
+}
+
+/// The job of lines.
+fn lines_in_place(job: Job) -> Result<DeviceJob, Task>
+    ensures ok { IfOk result (λ new. lines_counterpart job ≡ Some new) }
+    ensures err { IfErr result (λ left. (left ≡ tasks.Lines job) × (lines_counterpart job ≡ None)) }
+{
+    match job {
+        Job::Run {
+            image,
+            blocks,
+            zones,
+            statistics,
+            stop,
+            habit,
+            sync: false,
+            read_only: false,
+            progress,
+        } => Ok(DeviceJob::Run(DeviceRun {
+            device: image,
+            blocks,
+            zones,
+            statistics,
+            stop,
+            habit,
+            progress,
+        })),
+        Job::Report { image } => Ok(report_job(image, None)),
+        Job::Nvme {
+            image,
+            explain,
+            habit,
+            sync: false,
+        } => Ok(DeviceJob::Nvme {
+            device: image,
+            explain,
+            habit,
+        }),
+        job => Err(Task::Lines(job)),
+    }
+}
+
+/// A session of the Network Block Device protocol. A mount repairs the drive, so it is not only read.
+fn served_in_place(job: NbdJob) -> Result<DeviceJob, Task>
+    ensures ok { IfOk result (λ new. served_counterpart job ≡ Some new) }
+    ensures err { IfErr result (λ left. (left ≡ tasks.Nbd job) × (served_counterpart job ≡ None)) }
+{
+    if job.read_only {
+        return Err(Task::Nbd(job));
+    }
+    Ok(DeviceJob::Nbd(job))
+}
+
+/// The zones in a state. No other form is shown of a drive that stays in its file.
+fn zones_in_place(job: ZonesJob) -> Result<DeviceJob, Task>
+    ensures ok { IfOk result (λ new. zones_counterpart job ≡ Some new) }
+    ensures err { IfErr result (λ left. (left ≡ tasks.Tool (tools.Zones job)) × (zones_counterpart job ≡ None)) }
+{
+    match job.form {
+        ZonesForm::Lines(state) => Ok(report_job(job.image, Some(state))),
+        _ => Err(Task::Tool(ToolJob::Zones(job))),
+    }
+}
+
+/// A tool.
+fn tool_in_place(job: ToolJob) -> Result<DeviceJob, Task>
+    ensures ok { IfOk result (λ new. tool_counterpart job ≡ Some new) }
+    ensures err { IfErr result (λ left. (left ≡ tasks.Tool job) × (tool_counterpart job ≡ None)) }
+{
+    match job {
+        ToolJob::Check(job) => Ok(DeviceJob::Check(job)),
+        ToolJob::Info(job) => Ok(DeviceJob::Info(job)),
+        ToolJob::Zones(job) => zones_in_place(job),
+        job => Err(Task::Tool(job)),
+    }
+}
+
+/// The job on a drive that stays in its file which a task on the image in that file stands for. A task that stands for
+/// none is given back as it is.
+pub fn in_place(task: Task) -> Result<DeviceJob, Task>
+    ensures ok { IfOk result (λ job. counterpart task ≡ Some job) }
+    ensures err { IfErr result (λ left. (left ≡ task) × (counterpart task ≡ None)) }
+{
+    match task {
+        Task::Lines(job) => lines_in_place(job),
+        Task::Nbd(job) => served_in_place(job),
+        Task::Copy(job) => Ok(DeviceJob::Copy(job)),
+        Task::Tool(job) => tool_in_place(job),
+        Task::Device(job) => Err(Task::Device(job)),
+    }
+}
