@@ -1,3 +1,4 @@
 pub mod Changes
 pub mod Pending
 pub mod Stopping
+pub mod Kept

@@ -1,4 +1,4 @@
-ghost use Rattle.std.specs.Prelude.{◌≡◌, ◌+◌, ◌%◌, ◌^◌, ◌<◌, ◌≤◌, ℕ, Bool, List, length, IsTrue, OnErr, OnOk, is_ok};
+ghost use Rattle.std.specs.Prelude.{◌≡◌, ◌+◌, ◌%◌, ◌^◌, ◌<◌, ◌≤◌, ◌↔◌, ℕ, Bool, List, length, IsTrue, OnErr, OnOk, is_ok};
 ghost use Rattle.std.specs.Int.{to_le_bytes, w64};
 ghost use Rattle.sqlite_disk.specs.Disk.{Follows, Holds, Only};
 ghost use Rattle.file_bytes.specs.Changes.{SameBeside};
@@ -23,10 +23,13 @@ pub trait FileBytes {
     fn len(&self) -> u64
         ensures { result ≡ length (seen self.now) };
 
-    /// Fills `room` with the bytes from an offset on. After an error it holds any bytes.
-    fn read(&self, at: u64, room: &mut [u8]) -> io::Result<()>
-        requires within { at + length room.old ≤ length (seen self.now) }
-        ensures read { OnOk result (Holds (seen self.now) at room.new) };
+    /// Fills `room` with the bytes from an offset on. After an error it holds any bytes. Nothing else changes.
+    fn read(&mut self, at: u64, room: &mut [u8]) -> io::Result<()>
+        requires within { at + length room.old ≤ length (seen self.old) }
+        ensures read { OnOk result (Holds (seen self.old) at room.new) }
+        ensures seen { seen self.new ≡ seen self.old }
+        ensures leaves { (c : List ℕ) → may_leave self.new c ↔ may_leave self.old c }
+        ensures usable { is_usable self.new ≡ is_usable self.old };
 
     /// Writes these bytes from an offset on. After an error any part of the range may have changed.
     fn write(&mut self, at: u64, bytes: &[u8]) -> io::Result<()>
@@ -55,4 +58,12 @@ pub trait FileBytes {
         ensures seen { seen self.new ≡ seen self.old }
         ensures usable { is_usable self.new ≡ is_ok result }
         ensures leaves { (c : List ℕ) → may_leave self.new c → may_leave self.old c };
+
+    /// Gives the room of a range back to the system. Then a read of the range returns any bytes. A file that cannot do
+    /// that stays as it is.
+    fn release(&mut self, at: u64, count: u64)
+        requires { at + count ≤ length (seen self.old) }
+        ensures others { SameBeside at count (seen self.old) (seen self.new) }
+        ensures leaves { Follows (SameBeside at count) (may_leave self.old) (may_leave self.new) }
+        ensures usable { is_usable self.new ≡ is_usable self.old };
 }

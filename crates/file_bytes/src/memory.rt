@@ -142,6 +142,14 @@ fn overwrite(bytes: &mut Vec<u8>, at: usize, part: &[u8])
     bytes[at..at + part.len()].copy_from_slice(part);
 }
 
+// Puts zeros in the place of that many bytes from an offset on.
+fn clear(bytes: &mut Vec<u8>, at: usize, count: usize)
+    requires { at + count ≤ length bytes.old.items }
+    ensures { bytes.new.items ≡ splice bytes.old.items at (at + count) (replicate count 0) }
+{
+    bytes[at..at + count].fill(0);
+}
+
 impl MemoryFile {
     // Writes these bytes from an offset on. Without memory for that nothing changes.
     fn change(&mut self, at: u64, part: &[u8]) -> Result<(), AllocError>
@@ -177,10 +185,11 @@ impl FileBytes for MemoryFile {
         self.bytes.len() as u64
     }
 
-    fn read(&self, at: u64, room: &mut [u8]) -> io::Result<()>
-        requires within { at + length room.old ≤ length self.now.bytes }
+    fn read(&mut self, at: u64, room: &mut [u8]) -> io::Result<()>
+        requires within { at + length room.old ≤ length self.old.bytes }
         ensures done { IsOk result }
-        ensures read { Holds self.now.bytes at room.new }
+        ensures read { Holds self.old.bytes at room.new }
+        ensures same { self.new ≡ self.old }
     {
         let at = at as usize;
         room.copy_from_slice(&self.bytes[at..at + room.len()]);
@@ -229,5 +238,17 @@ impl FileBytes for MemoryFile {
         self.changed.clear();
         self.usable = true;
         Ok(())
+    }
+
+    // The range reads as zeros then. Without memory to note that, nothing changes.
+    fn release(&mut self, at: u64, count: u64) {
+        let range = Range {
+            start: at,
+            length: count,
+        };
+        let Ok(()) = self.changed.push(range) else {
+            return;
+        };
+        clear(&mut self.bytes, at as usize, count as usize);
     }
 }

@@ -9,7 +9,8 @@ use crate::file::FileBytes;
 use std::io;
 
 /// Does a number of changes of a file, and then fails. Changes are: a write of a range, one of a word, a sync. If the
-/// first change that fails is a write of a range, its first `torn` bytes are written. Reads go on.
+/// first change that fails is a write of a range, its first `torn` bytes are written. Reads go on. The release of a range is
+/// done while changes are left, and is none of them.
 #[derive(Drop)]
 pub struct StoppingFile<F: FileBytes + Drop> {
     inner: F,
@@ -73,7 +74,7 @@ impl<F: FileBytes + Drop> FileBytes for StoppingFile<F> {
         self.inner.len()
     }
 
-    fn read(&self, at: u64, room: &mut [u8]) -> io::Result<()> {
+    fn read(&mut self, at: u64, room: &mut [u8]) -> io::Result<()> {
         self.inner.read(at, room)
     }
 
@@ -146,5 +147,22 @@ impl<F: FileBytes + Drop> FileBytes for StoppingFile<F> {
         self.refused = true;
         self.torn = 0;
         Err(stopped())
+    }
+
+    // Nothing is given back any more once the file has stopped.
+    fn release(&mut self, at: u64, count: u64)
+        requires { at + count ≤ length (F.FileBytes.seen self.old.inner) }
+        ensures others { SameBeside at count (F.FileBytes.seen self.old.inner) (F.FileBytes.seen self.new.inner) }
+        ensures leaves { Follows (SameBeside at count) (F.FileBytes.may_leave self.old.inner)
+            (F.FileBytes.may_leave self.new.inner) }
+        ensures usable { StaysUsable F.FileBytes.is_usable self.old self.new }
+        ensures idle { self.old.changes ≡ 0 → self.new.inner ≡ self.old.inner }
+        ensures torn { self.new.torn ≡ self.old.torn }
+        ensures left { self.new.changes ≡ self.old.changes }
+    {
+        if self.changes == 0 {
+            return;
+        }
+        self.inner.release(at, count);
     }
 }

@@ -1,4 +1,10 @@
-use crate::{FileBytes, MemoryFile, StoppingFile};
+ghost use Rattle.std.specs.Prelude.{refl};
+ghost use Rattle.std.proofs.Common.{inl};
+ghost use Rattle.file_bytes.specs.Pending.{MayLeave};
+
+use crate::{FileBytes, MemoryFile, ReadAheadFile, StoppingFile};
+use std::alloc::Global;
+use std::io;
 use std::test::Fail;
 
 #[test]
@@ -26,5 +32,145 @@ fn a_stopping_file_tears_the_next_range(rt: HostRuntime) -> Result<(), Fail> {
     assert!(rt; file.sync().is_err());
     assert!(rt; file.write(0, b"ef").is_err());
     assert_eq!(rt; file.into_inner().bytes(), b"cb\0\0".as_slice());
+    Ok(())
+}
+
+// A file in memory that counts the reads that it is asked.
+#[derive(Drop)]
+struct CountingFile {
+    file: MemoryFile,
+    reads: u64,
+}
+
+impl FileBytes for CountingFile {
+    ghost seen = { λ f. f.file.bytes };
+
+    ghost may_leave = { λ f. MayLeave f.file };
+
+    ghost is_usable = { λ f. f.file.usable };
+
+    ghost seen_may_stay = { λ f. inl refl };
+
+    fn len(&self) -> u64 {
+        self.file.len()
+    }
+
+    fn read(&mut self, at: u64, room: &mut [u8]) -> io::Result<()> {
+        self.reads = self.reads.saturating_add(1);
+        self.file.read(at, room)
+    }
+
+    fn write(&mut self, at: u64, bytes: &[u8]) -> io::Result<()> {
+        self.file.write(at, bytes)
+    }
+
+    fn write_word(&mut self, at: u64, word: u64) -> io::Result<()> {
+        self.file.write_word(at, word)
+    }
+
+    fn sync(&mut self) -> io::Result<()> {
+        self.file.sync()
+    }
+
+    fn release(&mut self, at: u64, count: u64) {
+        self.file.release(at, count);
+    }
+}
+
+// A file of that many bytes that counts its reads, and reads ahead.
+fn counted(alloc: Global, len: usize) -> Option<ReadAheadFile<CountingFile>> {
+    let file = MemoryFile::new(alloc, len).ok()?;
+    Some(ReadAheadFile::new(alloc, CountingFile { file, reads: 0 }))
+}
+
+// Writes one byte, if the file has it.
+fn put(file: &mut ReadAheadFile<CountingFile>, at: u64, byte: u8) -> Option<()> {
+    if at >= file.len() {
+        return None;
+    }
+    file.write(at, &[byte]).ok()
+}
+
+// The first of 4096 bytes that are read, if the file has them.
+fn first_of(file: &mut ReadAheadFile<CountingFile>, at: u64) -> Option<u8> {
+    let mut room = [0; 4096];
+    if file.len() < 4096 || at > file.len() - 4096 {
+        return None;
+    }
+    file.read(at, &mut room).ok()?;
+    Some(room[0])
+}
+
+// Reads 1024 headers, every other block of a file: how many calls that takes. Each has to have its own number.
+fn calls_for_headers(alloc: Global) -> Option<u64> {
+    let mut file = counted(alloc, 1 << 23)?;
+    for number in 0..1024 {
+        put(&mut file, number * 8192, (number % 251) as u8)?;
+    }
+    for number in 0..1024 {
+        if first_of(&mut file, number * 8192)? != (number % 251) as u8 {
+            return None;
+        }
+    }
+    Some(file.into_inner().reads)
+}
+
+// The first call reads one header, the next ones 2, 4, .. and 128 of them. Seven more read the other 769.
+#[test]
+fn headers_are_read_together(rt: HostRuntime) -> Result<(), Fail> {
+    assert_eq!(rt; calls_for_headers(rt.alloc()), Some(15));
+    Ok(())
+}
+
+// Reads that jump: how many calls they take.
+fn calls_for_jumps(alloc: Global) -> Option<u64> {
+    let mut file = counted(alloc, 1 << 20)?;
+    for at in [0, 500000, 100000, 700000, 300000] {
+        first_of(&mut file, at)?;
+    }
+    Some(file.into_inner().reads)
+}
+
+#[test]
+fn a_jump_reads_what_it_is_asked(rt: HostRuntime) -> Result<(), Fail> {
+    assert_eq!(rt; calls_for_jumps(rt.alloc()), Some(5));
+    Ok(())
+}
+
+#[test]
+fn a_change_is_read_at_once(rt: HostRuntime) -> Result<(), Fail> {
+    let alloc = rt.alloc();
+    let mut file = ReadAheadFile::new(alloc, MemoryFile::new(alloc, 65536)?);
+    let mut room = [9; 4];
+    file.read(0, &mut room)?;
+    file.read(4, &mut room)?;
+    assert_eq!(rt; room, [0; 4]);
+    file.write(10, b"ab")?;
+    file.read(8, &mut room)?;
+    assert_eq!(rt; room, [0, 0, 97, 98]);
+    file.read(12, &mut room)?;
+    file.write_word(16, 0x0807_0605_0403_0201)?;
+    file.read(16, &mut room)?;
+    assert_eq!(rt; room, [1, 2, 3, 4]);
+    file.sync()?;
+    file.release(17, 2);
+    file.read(16, &mut room)?;
+    assert_eq!(rt; room, [1, 0, 0, 4]);
+    file.read(65532, &mut room)?;
+    assert_eq!(rt; room, [0; 4]);
+    Ok(())
+}
+
+#[test]
+fn a_loss_of_power_may_take_a_release_back(rt: HostRuntime) -> Result<(), Fail> {
+    let mut file = MemoryFile::new(rt.alloc(), 4)?;
+    file.write(0, b"abcd")?;
+    file.sync()?;
+    file.release(1, 2);
+    assert_eq!(rt; file.bytes(), b"a\0\0d".as_slice());
+    assert!(rt; file.may_leave(b"abcd"));
+    assert!(rt; !file.may_leave(b"a\0\0x"));
+    file.sync()?;
+    assert!(rt; !file.may_leave(b"abcd"));
     Ok(())
 }

@@ -1,7 +1,7 @@
 -- No zone is in a place where the last flush has more of its blocks.
-use Rattle.std.proofs.Common.{◌≡◌, ◌≢◌, ◌⊎◌, ℕ, zero, suc, ◌+◌, ◌<◌, ◌≤◌, ◌^◌, Bool, true, false, cond, eqb, leb, not, ◌||◌, List, [], ◌∷◌, length, map, set, get_or, take, Some, None, Option, Result, Ok, Err, refl, ap, inl, inr, arith}
+use Rattle.std.proofs.Common.{◌≡◌, ◌≢◌, ◌⊎◌, ℕ, zero, suc, ◌+◌, ◌<◌, ◌≤◌, ◌^◌, Bool, true, false, cond, eqb, leb, not, ◌||◌, List, [], ◌∷◌, length, map, set, get_or, take, Some, None, Option, Result, Ok, Err, refl, ap, ◌∙◌, inl, inr, arith}
 use Rattle.std.proofs.lemmas.Bool.{cases_eq, eqb-true, le-leb, leb-true}
-use Rattle.std.proofs.lemmas.List.{get_or-map, get_or-set_other, get_or-set_same, length-map, length-set}
+use Rattle.std.proofs.lemmas.List.{get_or-map, get_or_default, get_or-set_other, get_or-set_same, length-map, length-set}
 use Rattle.nvme_wire.specs.declared.command.Action.{Action}
 use Rattle.nvme_wire.specs.declared.command.Action.TheVariants as actions
 use Rattle.nvme_wire.specs.declared.status.Status.{Status}
@@ -177,6 +177,21 @@ apart-clear words entries index apart low i d few =
       ])
       | inr away ↦ inl (places-apart i index (flushed_at words i) (entry_at entries index) away)
     ])
+
+-- ---- a place where no block is counted
+
+-- a zone that is in that place has no more blocks than are free there
+pub free-clear : (entries : List Entry) (index : ℕ) (free : Entry) → index < length entries → is_apart (entry_at entries index) free ≡ true
+    → (i : ℕ) (d : Entry) → i < length entries → (place_of i (get_or entries i d) ≢ place_of index free) ⊎ ((get_or entries i d).written ≤ free.written)
+free-clear entries index free low apart i d few = elim (cases_eq i index) [
+  | inl same ↦
+      let is : get_or entries i d ≡ entry_at entries index = ap (λ (n : ℕ). get_or entries n d) same ∙ get_or_default entries index d no_entry low in
+      rw is (elim (apart-cases (entry_at entries index) free apart) [
+        | inl other ↦ inl (λ e. other (omega (arith, same, e)))
+        | inr less ↦ inr less
+      ])
+  | inr away ↦ inl (places-apart i index (get_or entries i d) free away)
+]
 
 -- ---- an open
 

@@ -248,6 +248,19 @@ zones-table g file words in_range long count are zones = record {
   few = zones-few g file (map entry_of words) zones;
 }
 
+-- so are the words of such zones
+pub entries-table : (g : Geometry) (file : List ℕ) (entries : List Entry) → IsInRange g → length file ≡ file_length g → length entries ≡ g.zones → AreWithin g entries
+    → AreZones g (zones_in g file 0 entries) → IsTable g (map word_of entries)
+entries-table g file entries in_range long count within zones =
+    let small = small-capacity g in_range in
+    let hold = every-hold g file 0 entries (block-some g in_range) long (omega (arith, count)) within zones.lawful in
+    let are = are-words g entries small within in
+    record {
+      each = every-word g (map word_of entries) are.said are.within;
+      hold = again-hold g small entries within hold;
+      few = again-few g small entries within (zones-few g file entries zones);
+    }
+
 -- ---- after a kill, and after a loss of power
 
 of-boot : (boot : Boot) (file : List ℕ) → boot_in file ≡ boot → is_known boot ≡ true → is_of_boot boot file ≡ true
@@ -265,13 +278,7 @@ kill-finds g boot file entries live flushed words served in_range count within s
     let counts : opened_table boot file ≡ live = ap (λ (b : Bool). cond b (live_table file) (flushed_table file)) (of-boot boot file served.boot_is known) ∙ served.live_is in
     let now : words_in file (at_table g (opened_table boot file)) g.zones ≡ map word_of entries = ap (λ (t : ℕ). words_in file (at_table g t) g.zones) counts ∙ served.live_words in
     let last : words_in file (at_table g (flushed_table file)) g.zones ≡ words.safe = rw served.flushed_is served.safe_words in
-    let hold : AllByRecursion (Holds g) entries = every-hold g file 0 entries (block-some g in_range) served.long (omega (arith, count)) within zones.lawful in
-    let are = are-words g entries small within in
-    let table : IsTable g (map word_of entries) = record {
-      each = every-word g (map word_of entries) are.said are.within;
-      hold = again-hold g small entries within hold;
-      few = again-few g small entries within (zones-few g file entries zones);
-    } in
+    let table = entries-table g file entries in_range served.long count within zones in
     let flush = zones-table g file (words_in file (at_table g (flushed_table file)) g.zones) in_range served.long (length-words file (at_table g (flushed_table file)) g.zones)
     (subst (λ (ws : List ℕ). AreWords g ws) (sym last) safe) promised in
     let found = finds g boot file in_range served.long served.head flush (subst (λ (ws : List ℕ). IsTable g ws) (sym now) table) (rw (last, now) (apart-again g words.safe entries small within apart)) in

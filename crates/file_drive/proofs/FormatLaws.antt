@@ -35,17 +35,17 @@ next-word old new words at index low beside is before =
 
 -- ---- zeros
 
-abbrev zeros : ℕ → List ℕ
+abbrev pub zeros : ℕ → List ℕ
 zeros n = replicate n 0
 
 part-zeros : (n at : ℕ) → at + 8 ≤ n → part (zeros n) at 8 ≡ zeros 8
 part-zeros n at low = ap (take 8) (drop-replicate at n 0) ∙ take-replicate 8 (n - at) 0 (omega (arith, low))
 
-word-zero : (n at : ℕ) → at + 8 ≤ n → word_in (zeros n) at ≡ 0
+pub word-zero : (n at : ℕ) → at + 8 ≤ n → word_in (zeros n) at ≡ 0
 unfolding word_in
 word-zero n at low = ap (from_le_bytes w64) (part-zeros n at low)
 
-words-zero : (n at count : ℕ) → at + 8 * count ≤ n → words_in (zeros n) at count ≡ zeros count
+pub words-zero : (n at count : ℕ) → at + 8 * count ≤ n → words_in (zeros n) at count ≡ zeros count
 words-zero n at zero low = refl
 words-zero n at (suc count) low = rw (word-zero n at (omega (arith, low)), words-zero n (at + 8) count (omega (arith, low))) refl
 

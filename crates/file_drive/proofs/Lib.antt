@@ -5,9 +5,10 @@ pub mod DataLaws
 pub mod StoreLaws
 pub mod ApartLaws
 pub mod ReadLaws
-mod FaultLaws
+pub mod FaultLaws
 mod OpenLaws
 mod TakeLaws
 mod OpenedLaws
-mod FindsLaws
+pub mod FindsLaws
 mod FormatLaws
+pub mod StoringLaws

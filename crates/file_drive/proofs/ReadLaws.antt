@@ -1,23 +1,28 @@
 -- What a read of a zone leaves.
-use Rattle.std.proofs.Common.{◌≡◌, ℕ, ◌+◌, ◌-◌, ◌≤◌, ◌++◌, List, length, take, drop, min, refl, sym, ap, ◌∙◌, inl, inr, arith}
-use Rattle.std.proofs.Math.Seq.{take-append_seam}
+use Rattle.std.proofs.Common.{◌≡◌, ℕ, ◌+◌, ◌-◌, ◌≤◌, ◌++◌, List, length, take, drop, replicate, min, refl, sym, ap, ◌∙◌, inl, inr, arith}
+use Rattle.std.proofs.Math.Seq.{drop-append_seam, take-append_seam}
 use Rattle.std.proofs.Math.ListN.{drop_of_length-le}
 use Rattle.std.proofs.lemmas.Bool.{cases_lt}
-use Rattle.std.proofs.lemmas.List.{drop-drop, drop-take, length-append, length-take, take-take, take_all}
+use Rattle.std.proofs.lemmas.List.{drop-drop, drop-replicate, drop-take, length-append, length-replicate, length-take, take-take, take_all}
 use Rattle.zone_drive.specs.Stored.{with_zeros}
 use Rattle.file_drive.specs.Layout.{part}
 
--- a room after some bytes is filled
-pub room-filled : (bytes resized front room zeros : List ℕ) (total held : ℕ) → held ≡ length bytes → held ≤ total → resized ≡ take total bytes ++ zeros
-    → front ≡ take held resized → total ≡ held + length room
-    → take total (front ++ room ++ drop (length (front ++ room)) resized) ≡ bytes ++ room
-room-filled bytes resized front room zeros total held is few items first all =
-    let whole : take total bytes ≡ bytes = take_all total bytes (omega (arith, is, few)) in
-    let there : front ≡ bytes = first ∙ rw (items, whole, is) (take-append_seam bytes zeros) in
-    let long : total ≡ length (front ++ room) = omega (arith, all, is, length-append front room, ap (λ (xs : List ℕ). length xs) there) in
-    ap (λ (n : ℕ). take n (front ++ room ++ drop (length (front ++ room)) resized)) long
-    ∙ take-append_seam (front ++ room) (drop (length (front ++ room)) resized)
-    ∙ ap (λ (xs : List ℕ). xs ++ room) there
+-- Behind some bytes there are zeros, and a part from their front on is filled.
+pub room-filled : (bytes resized room : List ℕ) (total held was count len : ℕ) → held ≡ length bytes → held ≡ was → total ≡ held + len → count ≤ len → length room ≡ count
+    → resized ≡ take total bytes ++ replicate (total - was) 0
+    → let filled = take held resized ++ (room ++ drop (held + count - held) (drop held resized)) in
+    take total (filled ++ drop (length filled) resized) ≡ bytes ++ with_zeros len room
+room-filled bytes resized room total held was count len is same all few long items =
+    let zeros : List ℕ = replicate len 0 in
+    let there : resized ≡ bytes ++ zeros = items ∙ rw (take_all total bytes (omega (arith, is, all))) (ap (λ (n : ℕ). bytes ++ replicate n 0) (omega (arith, all, same))) in
+    let front : take held resized ≡ bytes = rw (there, is) (take-append_seam bytes zeros) in
+    let back : drop held resized ≡ zeros = rw (there, is) (drop-append_seam bytes zeros) in
+    let rest : drop (held + count - held) (drop held resized) ≡ replicate (len - length room) 0 =
+    rw back (drop-replicate (held + count - held) len 0 ∙ ap (λ (n : ℕ). replicate n 0) (omega (arith, long))) in
+    let filled : List ℕ = bytes ++ (room ++ replicate (len - length room) 0) in
+    let whole : total ≡ length filled = omega (arith, all, is, few, long, length-append bytes (room ++ replicate (len - length room) 0), length-append room (replicate (len - length room) 0), length-replicate {A = ℕ} (len - length room) 0) in
+    rw (front, rest) (ap (λ (n : ℕ). take n (filled ++ drop (length filled) resized)) whole ∙ take-append_seam filled (drop (length filled) resized)
+    ∙ ap (λ (xs : List ℕ). bytes ++ (xs ++ replicate (len - length room) 0)) (sym (take_all len room (omega (arith, long, few)))))
 
 -- a room that is the whole is filled
 pub room-whole : (room rest : List ℕ) (total : ℕ) → total ≡ length room → take total (room ++ rest) ≡ room

@@ -567,6 +567,12 @@ served-closed g file entries live flushed words index d last was =
 
 -- ---- what is durable
 
+-- what is durable stays so where no more may be left
+pub durable-stays : {F : Type 0} (may_leave : F → List ℕ → Type 0) (g : Geometry) (old new : F) (before after : List (List StoredZone)) → before ≡ after
+    → ((bytes : List ℕ) → may_leave new bytes → may_leave old bytes) → AllDurable may_leave g old before → AllDurable may_leave g new after
+durable-stays may_leave g old new before after same fewer all =
+    λ bytes may. subst (λ (zones : List (List StoredZone)). CanOpen g bytes × Contains zones (flushed_zones g bytes)) same (all bytes (fewer bytes may))
+
 -- what the last flush promised is durable, if no flush failed while it picked its table
 pub promised-durable : (g : Geometry) {F : Type 0} (seen : F → List ℕ) (may_leave : F → List ℕ → Type 0) (file : F) (flushed : ℕ) (safe other : List ℕ) (unsure : Bool) → AreWords g safe
     → KeepsPromise seen may_leave g file flushed safe → AllDurable may_leave g file (durable_zones g (seen file) safe other unsure)

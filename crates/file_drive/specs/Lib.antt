@@ -7,3 +7,4 @@ pub mod Faults
 pub mod Found
 pub mod Opened
 pub mod Finds
+pub mod Storing

@@ -1,4 +1,4 @@
-ghost use Rattle.std.specs.Prelude.{◌≡◌, ◌==◌, ◌&&◌, ◌≤◌, if◌then◌else◌, IfErr, IfOk};
+ghost use Rattle.std.specs.Prelude.{◌≡◌, ◌==◌, ◌&&◌, ◌≤◌, if◌then◌else◌, List, ℕ, IfErr, IfOk};
 ghost use Rattle.file_drive.specs.Faults.{IsOpenFault};
 ghost use Rattle.file_drive.specs.Found.{IsFound};
 ghost use Rattle.file_drive.specs.Head.{is_known};
@@ -40,9 +40,12 @@ fn counting(tables: &Tables, is_same_boot: bool) -> &[u64]
 }
 
 /// Reads what a system in this boot opens.
-pub fn read_all<F: FileBytes>(alloc: Global, file: &F, boot: Boot) -> Result<Found, OpenFault>
-    ensures ok { IfOk result (IsFound boot (F.FileBytes.seen file.now)) }
-    ensures err { IfErr result (IsOpenFault boot (F.FileBytes.seen file.now)) }
+pub fn read_all<F: FileBytes>(alloc: Global, file: &mut F, boot: Boot) -> Result<Found, OpenFault>
+    ensures ok { IfOk result (IsFound boot (F.FileBytes.seen file.old)) }
+    ensures err { IfErr result (IsOpenFault boot (F.FileBytes.seen file.old)) }
+    ensures seen { F.FileBytes.seen file.new ≡ F.FileBytes.seen file.old }
+    ensures leaves { (c : List ℕ) → F.FileBytes.may_leave file.new c → F.FileBytes.may_leave file.old c }
+    ensures usable { F.FileBytes.is_usable file.new ≡ F.FileBytes.is_usable file.old }
 {
     let head = read_head(alloc, file)?;
     let geometry = &head.geometry;

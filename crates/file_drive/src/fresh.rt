@@ -1,10 +1,11 @@
-ghost use Rattle.std.specs.Prelude.{◌≡◌, ◌+◌, ◌*◌, ◌%◌, ◌^◌, ◌<◌, ◌≤◌, length, replicate, IsTrue, OnOk};
-ghost use Rattle.sqlite_disk.specs.Disk.{Only};
+ghost use Rattle.std.specs.Prelude.{◌≡◌, ◌+◌, ◌*◌, ◌%◌, ◌^◌, ◌<◌, ◌≤◌, List, length, replicate, IsTrue, OnOk, ℕ};
+ghost use Rattle.sqlite_disk.specs.Disk.{Follows, Only};
 ghost use Rattle.zone_states.specs.Geometry.{IsInRange};
 ghost use Rattle.file_bytes.specs.Changes.{SameBeside};
 ghost use Rattle.file_drive.specs.Finds.{Finds, empty_zones};
-ghost use Rattle.file_drive.specs.Head.{shape_words};
-ghost use Rattle.file_drive.specs.Layout.{file_length};
+ghost use Rattle.file_drive.specs.Head.{magic, shape_words};
+ghost use Rattle.file_drive.specs.Layout.{file_length, word_in};
+ghost use Rattle.file_drive.specs.Storing.{AreUnnamed, AreWhole, HasHead};
 ghost use Rattle.file_drive.specs.Tables.{words_in};
 ghost use Rattle.file_drive.specs.declared.boot.Boot.{Boot};
 
@@ -36,6 +37,8 @@ fn put_words<F: FileBytes>(file: &mut F, at: u64, words: &[u64]) -> io::Result<(
     requires small { at + 8 * length words.now < 2 ^ 63 }
     ensures ok { OnOk result (words_in (F.FileBytes.seen file.new) at (length words.now) ≡ words.now) }
     ensures beside { SameBeside at (8 * length words.now) (F.FileBytes.seen file.old) (F.FileBytes.seen file.new) }
+    ensures leaves { Follows (SameBeside at (8 * length words.now)) (F.FileBytes.may_leave file.old)
+        (F.FileBytes.may_leave file.new) }
     ensures usable { F.FileBytes.is_usable file.new ≡ F.FileBytes.is_usable file.old }
 {
     for index in 0..words.len() {
@@ -44,9 +47,41 @@ fn put_words<F: FileBytes>(file: &mut F, at: u64, words: &[u64]) -> io::Result<(
     Ok(())
 }
 
+// Writes the first word of the head, and syncs the file.
+fn put_magic<F: FileBytes>(file: &mut F) -> io::Result<()>
+    requires within { 8 ≤ length (F.FileBytes.seen file.old) }
+    requires usable { IsTrue (F.FileBytes.is_usable file.old) }
+    ensures ok { OnOk result (word_in (F.FileBytes.seen file.new) 0 ≡ magic) }
+    ensures beside { SameBeside 0 8 (F.FileBytes.seen file.old) (F.FileBytes.seen file.new) }
+    ensures leaves { Follows (SameBeside 0 8) (F.FileBytes.may_leave file.old) (F.FileBytes.may_leave file.new) }
+    ensures synced { OnOk result (Only (F.FileBytes.seen file.new) (F.FileBytes.may_leave file.new)) }
+    ensures usable { OnOk result (IsTrue (F.FileBytes.is_usable file.new)) }
+{
+    file.write_word(0, MAGIC)?;
+    file.sync()?;
+    Ok(())
+}
+
+/// Writes the head of a drive of this shape: its first word once all else is synced. The file is synced.
+pub fn put_head<F: FileBytes>(file: &mut F, geometry: &Geometry) -> io::Result<()>
+    requires long { 64 ≤ length (F.FileBytes.seen file.old) }
+    requires usable { IsTrue (F.FileBytes.is_usable file.old) }
+    ensures head { OnOk result (HasHead geometry.now (F.FileBytes.seen file.old) (F.FileBytes.seen file.new)) }
+    ensures synced { OnOk result (Only (F.FileBytes.seen file.new) (F.FileBytes.may_leave file.new)) }
+    ensures usable { OnOk result (IsTrue (F.FileBytes.is_usable file.new)) }
+    ensures left { AreUnnamed (F.FileBytes.may_leave file.old) → (bytes : List ℕ)
+        → F.FileBytes.may_leave file.new bytes → word_in bytes 0 ≡ magic
+        → HasHead geometry.now (F.FileBytes.seen file.old) bytes }
+{
+    put_words(file, 8, &shape_words(geometry)[1..])?;
+    file.sync()?;
+    put_magic(file)?;
+    Ok(())
+}
+
 /// Makes a file of zeros, which is as long as a drive of this shape wants, a drive of empty zones. The file is synced.
 ///
-/// After an error it may be a drive or not.
+/// After an error it is no drive or this one, whatever a kill or a loss of power leaves, if it was none before.
 pub fn format<F: FileBytes>(file: &mut F, geometry: &Geometry) -> io::Result<()>
     requires in_range { IsInRange geometry.now }
     requires zeros { F.FileBytes.seen file.old ≡ replicate (file_length geometry.now) 0 }
@@ -55,8 +90,8 @@ pub fn format<F: FileBytes>(file: &mut F, geometry: &Geometry) -> io::Result<()>
     ensures usable { OnOk result (IsTrue (F.FileBytes.is_usable file.new)) }
     ensures fresh { OnOk result ((boot : Boot)
         → Finds geometry.now boot (F.FileBytes.seen file.new) (empty_zones geometry.now)) }
+    ensures whole { AreUnnamed (F.FileBytes.may_leave file.old)
+        → AreWhole geometry.now (empty_zones geometry.now) (F.FileBytes.may_leave file.new) }
 {
-    put_words(file, 0, &shape_words(geometry))?;
-    file.sync()?;
-    Ok(())
+    put_head(file, geometry)
 }

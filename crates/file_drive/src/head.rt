@@ -1,4 +1,4 @@
-ghost use Rattle.std.specs.Prelude.{◌≡◌, IfErr, IfOk, OnOk, length};
+ghost use Rattle.std.specs.Prelude.{◌≡◌, List, ℕ, IfErr, IfOk, OnOk, length};
 ghost use Rattle.file_drive.specs.Faults.{IsHeadFault, IsLengthFault, IsMagicFault, narrow, shape_said};
 ghost use Rattle.file_drive.specs.Found.{IsHead};
 ghost use Rattle.file_drive.specs.Head.{magic};
@@ -81,9 +81,12 @@ fn check_length(geometry: &Geometry, length: u64) -> Result<(), OpenFault>
 }
 
 /// Reads the head of a file.
-pub fn read_head<F: FileBytes>(alloc: Global, file: &F) -> Result<Head, OpenFault>
-    ensures ok { IfOk result (IsHead (F.FileBytes.seen file.now)) }
-    ensures err { IfErr result (IsHeadFault (F.FileBytes.seen file.now)) }
+pub fn read_head<F: FileBytes>(alloc: Global, file: &mut F) -> Result<Head, OpenFault>
+    ensures ok { IfOk result (IsHead (F.FileBytes.seen file.old)) }
+    ensures err { IfErr result (IsHeadFault (F.FileBytes.seen file.old)) }
+    ensures seen { F.FileBytes.seen file.new ≡ F.FileBytes.seen file.old }
+    ensures leaves { (c : List ℕ) → F.FileBytes.may_leave file.new c → F.FileBytes.may_leave file.old c }
+    ensures usable { F.FileBytes.is_usable file.new ≡ F.FileBytes.is_usable file.old }
 {
     let length = file.len();
     if length < 8 * HEAD_WORDS as u64 {

@@ -32,7 +32,8 @@ impl<F: FileBytes + Drop, S: System + Drop> FileZones<F, S> {
         Ok(())
     }
 
-    // Does an action on one zone. A Reset moves it out of a place where the last flush has blocks of it.
+    // Does an action on one zone. A Reset moves it out of a place where the last flush has blocks of it. The room of the
+    // blocks that it takes comes back at a flush.
     pub(crate) fn act(&mut self, index: usize, action: Action) -> Result<(), Halt>
         requires { index < length (filed F.seen self.old) }
         ensures shape { self.new.shape ≡ self.old.shape }
@@ -42,8 +43,10 @@ impl<F: FileBytes + Drop, S: System + Drop> FileZones<F, S> {
         ensures durable { self.new.durable ≡ self.old.durable }
     {
         let flushed = Entry::of_word(self.safe[index]);
-        let entry = self.entries[index].acted(action, flushed);
+        let before = self.entries[index];
+        let entry = before.acted(action, flushed);
         self.put(index, entry)?;
+        self.note_freed(index, entry.written < before.written);
         Ok(())
     }
 

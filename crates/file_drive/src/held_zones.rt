@@ -38,7 +38,13 @@ impl<F: FileBytes + Drop, S: System + Drop> HeldZones for FileZones<F, S> {
         self.resources.lowest_implicit(&self.entries)
     }
 
-    fn read(&self, index: usize, from: usize, len: usize, into: &mut Vec<u8>) -> Result<(), Halt> {
+    fn read(
+        &mut self,
+        index: usize,
+        from: usize,
+        len: usize,
+        into: &mut Vec<u8>,
+    ) -> Result<(), Halt> {
         self.read_zone(index, from, len, into)
     }
 
@@ -73,6 +79,8 @@ impl<F: FileBytes + Drop, S: System + Drop> HeldZones for FileZones<F, S> {
     }
 
     fn flush(&mut self) -> Result<(), Halt> {
-        self.flush_all()
+        self.flush_all()?;
+        self.release_freed();
+        Ok(())
     }
 }

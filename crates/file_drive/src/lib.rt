@@ -20,6 +20,8 @@
 //! * Only a Flush changes what an open may find after a loss of power (`durable` of `FileZones`). Whatever that leaves
 //!   can be opened in another boot, and has zones that are durable. After a Flush that was answered these are just the
 //!   zones of that flush. A flush that fails leaves the zones of the last one, or its own (`flush`, `power`).
+//! * `store` makes a file the same drive as one in memory, as a restart leaves it (`HoldsDrive` in `specs/Storing.antt`).
+//!   Cut at any point, it leaves no drive or the whole one, as `format` does (`whole`).
 //! * A write or a sync that fails stops the drive. What was promised before stays.
 //! * An open that fails leaves the same zones for a system in this boot. A system in another boot finds the same, or
 //!   the zones of the last flush (`open`, `unnoticed`). It tells by name why a file is no drive.
@@ -36,6 +38,13 @@
 //! A Reset moves a zone to its other place if the last flush has blocks of it in the present one, and only then. So
 //! no append writes over blocks that the last flush promised (`AreApart` in `specs/InFile.antt`). The file is sparse:
 //! a place takes room on the disk once it is written. So the file may take up to twice the drive's written blocks.
+//!
+//! A new file has the blocks of each zone in its first place. All of it is synced before its first word is written, by
+//! which an open knows a drive.
+//!
+//! The room of blocks that a Reset took comes back at the next flush (`release` of `file_bytes`): then neither table
+//! counts a block there. Only zones that were reset since the last flush are looked at. A kill between the two, or
+//! missing memory, leaves that room to a later Reset of the zone.
 //!
 //! The head names the boot of the system that served the file last. An open in the same boot takes the live table. In
 //! another boot it takes the flushed one. Then it writes the live one anew before it names its own boot.
@@ -56,7 +65,9 @@ mod held_zones;
 mod layout;
 mod opening;
 mod reading;
+mod releasing;
 mod serving;
+mod storing;
 mod tables;
 #[cfg(test)]
 mod tests;
@@ -72,5 +83,6 @@ pub use head::Head;
 pub use layout::file_length;
 pub use opening::open;
 pub use serving::serve;
+pub use storing::{store, store_zones};
 pub use tables::Tables;
 pub use zones::FileZones;

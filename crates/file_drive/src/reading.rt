@@ -1,4 +1,4 @@
-ghost use Rattle.std.specs.Prelude.{◌≡◌, ◌+◌, ◌*◌, ◌<◌, ◌≤◌, ◌++◌, OnErr, OnOk, drop, length};
+ghost use Rattle.std.specs.Prelude.{◌≡◌, ◌+◌, ◌*◌, ◌<◌, ◌≤◌, ◌++◌, List, ℕ, IsErrOf, OnErr, OnOk, drop, length};
 ghost use Rattle.zone_drive.specs.Stored.{with_zeros};
 ghost use Rattle.zone_drive.specs.Table.{stored_at};
 ghost use Rattle.file_drive.specs.InFile.{filed};
@@ -10,47 +10,33 @@ use crate::zones::FileZones;
 use drive_port::Halt;
 use file_bytes::FileBytes;
 
-// Puts bytes of the file after what `into` holds.
-fn read_after<F: FileBytes>(file: &F, at: u64, count: usize, into: &mut Vec<u8>) -> Result<(), Halt>
-    requires { at + count ≤ length (F.FileBytes.seen file.now) }
-    ensures ok { OnOk result (into.new.items ≡ into.old.items ++ part (F.FileBytes.seen file.now) at count) }
-    ensures err { OnErr result (into.new.items ≡ into.old.items) }
-{
-    let held = into.len();
-    let Some(total) = held.checked_add(count) else {
-        return Err(Halt::Memory);
-    };
-    into.resize(total, 0)?;
-    let (_, room) = into.split_at_mut(held);
-    if file.read(at, room).is_err() {
-        into.truncate(held);
-        return Err(Halt::Stopped);
-    }
-    Ok(())
-}
-
-// Puts bytes of the file after what `into` holds, and zeros where there are fewer than asked for.
+// Puts bytes of the file after what `into` holds, and zeros where there are fewer than asked for. Where memory is
+// missing the file is not called.
 fn read_with_zeros<F: FileBytes>(
-    file: &F,
+    file: &mut F,
     at: u64,
     count: usize,
     len: usize,
     into: &mut Vec<u8>,
 ) -> Result<(), Halt>
-    requires within { at + count ≤ length (F.FileBytes.seen file.now) }
+    requires within { at + count ≤ length (F.FileBytes.seen file.old) }
     requires few { count ≤ len }
     ensures ok { OnOk result (into.new.items
-        ≡ into.old.items ++ with_zeros len (part (F.FileBytes.seen file.now) at count)) }
+        ≡ into.old.items ++ with_zeros len (part (F.FileBytes.seen file.old) at count)) }
     ensures err { OnErr result (into.new.items ≡ into.old.items) }
+    ensures memory { IsErrOf result Halt.Memory → file.new ≡ file.old }
+    ensures seen { F.FileBytes.seen file.new ≡ F.FileBytes.seen file.old }
+    ensures leaves { (c : List ℕ) → F.FileBytes.may_leave file.new c → F.FileBytes.may_leave file.old c }
+    ensures usable { F.FileBytes.is_usable file.new ≡ F.FileBytes.is_usable file.old }
 {
     let held = into.len();
     let Some(total) = held.checked_add(len) else {
         return Err(Halt::Memory);
     };
-    read_after(file, at, count, into)?;
-    if into.resize(total, 0).is_err() {
+    into.resize(total, 0)?;
+    if file.read(at, &mut into[held..held + count]).is_err() {
         into.truncate(held);
-        return Err(Halt::Memory);
+        return Err(Halt::Stopped);
     }
     Ok(())
 }
@@ -66,23 +52,27 @@ impl<F: FileBytes + Drop, S: System + Drop> FileZones<F, S> {
 
     // Puts that many bytes of a zone, from an offset in it on, after what `into` holds: zeros where nothing is written.
     pub(crate) fn read_zone(
-        &self,
+        &mut self,
         index: usize,
         from: usize,
         len: usize,
         into: &mut Vec<u8>,
     ) -> Result<(), Halt>
-        requires { index < length (filed F.seen self.now) }
+        requires { index < length (filed F.seen self.old) }
+        ensures shape { self.new.shape ≡ self.old.shape }
+        ensures zones { filed F.seen self.new ≡ filed F.seen self.old }
         ensures ok { OnOk result (into.new.items
-            ≡ into.old.items ++ with_zeros len (drop from (stored_at (filed F.seen self.now) index).bytes)) }
+            ≡ into.old.items ++ with_zeros len (drop from (stored_at (filed F.seen self.old) index).bytes)) }
         ensures err { OnErr result (into.new.items ≡ into.old.items) }
+        ensures memory { IsErrOf result Halt.Memory → self.new ≡ self.old }
+        ensures durable { self.new.durable ≡ self.old.durable }
     {
         let written = self.length_of(index);
         let from = from.min(written);
         let count = len.min(written - from);
         let place = self.entries[index].place(index as u32);
         let at = at_place(&self.geometry, place) + from as u64;
-        read_with_zeros(&self.file, at, count, len, into)?;
+        read_with_zeros(&mut self.file, at, count, len, into)?;
         Ok(())
     }
 }

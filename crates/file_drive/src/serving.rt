@@ -46,6 +46,7 @@ impl<F: FileBytes + Drop, S: System + Drop> FileZones<F, S> {
         ensures { result ≡ served_zones F.seen file found }
     {
         let resources = Resources::of(&found.entries);
+        let freed = Vec::new(*found.entries.allocator());
         let tables = found.tables;
         FileZones {
             file,
@@ -60,6 +61,7 @@ impl<F: FileBytes + Drop, S: System + Drop> FileZones<F, S> {
             other: tables.other,
             failed: false,
             unsure: false,
+            freed,
         }
     }
 

@@ -1,4 +1,4 @@
-ghost use Rattle.std.specs.Prelude.{◌≡◌, ◌+◌, ◌*◌, ◌/◌, ◌≤◌, IfErr, IfOk, length};
+ghost use Rattle.std.specs.Prelude.{◌≡◌, ◌+◌, ◌*◌, ◌/◌, ◌≤◌, List, ℕ, IfErr, IfOk, length};
 ghost use Rattle.file_drive.specs.Faults.{IsReadFault};
 ghost use Rattle.file_drive.specs.Layout.{file_length, word_in};
 ghost use Rattle.file_drive.specs.Tables.{words_in};
@@ -50,14 +50,17 @@ fn words_of(alloc: Global, bytes: &[u8]) -> Result<Vec<u64>, AllocError>
 /// Reads words of a file, from an offset on.
 pub fn read_words<F: FileBytes>(
     alloc: Global,
-    file: &F,
+    file: &mut F,
     at: u64,
     count: usize,
 ) -> Result<Vec<u64>, OpenFault>
-    requires within { at + 8 * count ≤ length (F.FileBytes.seen file.now) }
+    requires within { at + 8 * count ≤ length (F.FileBytes.seen file.old) }
     requires few { count ≤ 65536 }
-    ensures ok { IfOk result (λ words. words.items ≡ words_in (F.FileBytes.seen file.now) at count) }
+    ensures ok { IfOk result (λ words. words.items ≡ words_in (F.FileBytes.seen file.old) at count) }
     ensures err { IfErr result IsReadFault }
+    ensures seen { F.FileBytes.seen file.new ≡ F.FileBytes.seen file.old }
+    ensures leaves { (c : List ℕ) → F.FileBytes.may_leave file.new c → F.FileBytes.may_leave file.old c }
+    ensures usable { F.FileBytes.is_usable file.new ≡ F.FileBytes.is_usable file.old }
 {
     let mut bytes = Vec::new(alloc);
     bytes.resize(8 * count, 0)?;
@@ -66,10 +69,13 @@ pub fn read_words<F: FileBytes>(
 }
 
 // Reads one word.
-fn read_word<F: FileBytes>(alloc: Global, file: &F, at: u64) -> Result<u64, OpenFault>
-    requires { at + 8 ≤ length (F.FileBytes.seen file.now) }
-    ensures ok { IfOk result (λ word. word ≡ word_in (F.FileBytes.seen file.now) at) }
+fn read_word<F: FileBytes>(alloc: Global, file: &mut F, at: u64) -> Result<u64, OpenFault>
+    requires { at + 8 ≤ length (F.FileBytes.seen file.old) }
+    ensures ok { IfOk result (λ word. word ≡ word_in (F.FileBytes.seen file.old) at) }
     ensures err { IfErr result IsReadFault }
+    ensures seen { F.FileBytes.seen file.new ≡ F.FileBytes.seen file.old }
+    ensures leaves { (c : List ℕ) → F.FileBytes.may_leave file.new c → F.FileBytes.may_leave file.old c }
+    ensures usable { F.FileBytes.is_usable file.new ≡ F.FileBytes.is_usable file.old }
 {
     let words = read_words(alloc, file, at, 1)?;
     Ok(words[0])
@@ -78,13 +84,16 @@ fn read_word<F: FileBytes>(alloc: Global, file: &F, at: u64) -> Result<u64, Open
 /// Reads the tables of a file of this shape.
 pub fn read_tables<F: FileBytes>(
     alloc: Global,
-    file: &F,
+    file: &mut F,
     geometry: &Geometry,
 ) -> Result<Tables, OpenFault>
     requires in_range { IsInRange geometry.now }
-    requires long { length (F.FileBytes.seen file.now) ≡ file_length geometry.now }
-    ensures ok { IfOk result (AreTables geometry.now (F.FileBytes.seen file.now)) }
+    requires long { length (F.FileBytes.seen file.old) ≡ file_length geometry.now }
+    ensures ok { IfOk result (AreTables geometry.now (F.FileBytes.seen file.old)) }
     ensures err { IfErr result IsReadFault }
+    ensures seen { F.FileBytes.seen file.new ≡ F.FileBytes.seen file.old }
+    ensures leaves { (c : List ℕ) → F.FileBytes.may_leave file.new c → F.FileBytes.may_leave file.old c }
+    ensures usable { F.FileBytes.is_usable file.new ≡ F.FileBytes.is_usable file.old }
 {
     let count = geometry.zones as usize;
     let live = read_word(alloc, file, AT_LIVE)? % 2;

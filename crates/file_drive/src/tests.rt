@@ -1,12 +1,13 @@
-ghost use Rattle.std.specs.Prelude.{IfSome, IsTrue};
+ghost use Rattle.std.specs.Prelude.{◌≡◌, IfSome, IsTrue, replicate};
+ghost use Rattle.file_drive.specs.Layout.{file_length};
 
-use crate::{Boot, FileZones, System, file_length, format, open, serve};
-use drive_port::{Device, append, read, reset};
+use crate::{Boot, FileZones, OpenFault, System, file_length, format, open, serve, store};
+use drive_port::{Device, append, finish, read, reset};
 use file_bytes::{FileBytes, MemoryFile, StoppingFile};
 use nvme_wire::Command;
 use std::alloc::Global;
 use std::test::Fail;
-use zone_drive::ZoneDrive;
+use zone_drive::{Drive, ZoneDrive};
 use zone_states::Geometry;
 
 const GEOMETRY: Geometry = Geometry {
@@ -195,6 +196,28 @@ fn a_reset_keeps_what_a_flush_promised(rt: HostRuntime) -> Result<(), Fail> {
     Ok(())
 }
 
+// Whether a file has a byte of this value nowhere.
+fn lacks(bytes: &[u8], value: u8) -> bool {
+    bytes.iter().all(|byte| *byte != value)
+}
+
+// Blocks of two zones are flushed, and then one of the two is reset: whether the next flush takes its bytes alone.
+fn gives_room_back(alloc: Global) -> Option<bool> {
+    let mut drive = opened(alloc, formatted(alloc, &GEOMETRY)?, Before)?;
+    let put_both = put(alloc, &mut drive, 0, 171, 2) && put(alloc, &mut drive, 8, 172, 1);
+    flush(alloc, &mut drive)?;
+    let is_reset = reset(alloc, &mut drive, 0).is_ok();
+    flush(alloc, &mut drive)?;
+    let file = drive.into_zones().into_file();
+    Some(put_both && is_reset && lacks(file.bytes(), 171) && !lacks(file.bytes(), 172))
+}
+
+#[test]
+fn a_flush_gives_room_back(rt: HostRuntime) -> Result<(), Fail> {
+    assert_eq!(rt; gives_room_back(rt.alloc()), Some(true));
+    Ok(())
+}
+
 // How many steps there are.
 const STEPS: usize = 7;
 
@@ -263,5 +286,89 @@ fn survives_all_stops(alloc: Global) -> Option<bool> {
 #[test]
 fn a_kill_at_each_change_loses_nothing(rt: HostRuntime) -> Result<(), Fail> {
     assert_eq!(rt; survives_all_stops(rt.alloc()), Some(true));
+    Ok(())
+}
+
+// A drive in memory: an opened zone with two blocks, one Full with all six, one Full with one, and an Empty one.
+fn in_memory(alloc: Global) -> Option<Drive> {
+    let mut drive = Drive::new(alloc, GEOMETRY).ok()?;
+    let put_all = put(alloc, &mut drive, 0, 1, 2)
+        && put(alloc, &mut drive, 8, 2, 4)
+        && put(alloc, &mut drive, 8, 3, 2)
+        && put(alloc, &mut drive, 16, 4, 1);
+    finish(alloc, &mut drive, 16).ok()?;
+    if put_all { Some(drive) } else { None }
+}
+
+// A file of zeros, as long as a drive wants.
+fn empty_file(alloc: Global, drive: &Drive) -> Option<MemoryFile>
+    ensures usable { IfSome result (λ file. IsTrue file.usable) }
+    ensures zeros { IfSome result (λ file. file.bytes ≡ replicate (file_length drive.now.state.geometry) 0) }
+{
+    let geometry = drive.geometry();
+    if geometry.check().is_err() {
+        return None;
+    }
+    MemoryFile::new(alloc, file_length(&geometry) as usize).ok()
+}
+
+// Whether a drive in memory that is stored in a file is found there: the blocks, where the next one goes, and a Full
+// zone with one block.
+fn is_found_in_its_file(alloc: Global) -> Option<bool> {
+    let mut drive = in_memory(alloc)?;
+    let mut file = empty_file(alloc, &drive)?;
+    store(&mut file, &drive).ok()?;
+    let mut found = opened(alloc, file, Before)?;
+    let same = shown(alloc, &mut found)? == shown(alloc, &mut drive)?;
+    let refuses = !put(alloc, &mut found, 16, 5, 1) && !put(alloc, &mut found, 8, 5, 1);
+    let bytes = Vec::from_elem(alloc, 6, 512).ok()?;
+    if found.geometry().block != 512 {
+        return None;
+    }
+    Some(same && refuses && append(alloc, &mut found, 0, &bytes) == Ok(2))
+}
+
+#[test]
+fn a_stored_drive_is_found(rt: HostRuntime) -> Result<(), Fail> {
+    assert_eq!(rt; is_found_in_its_file(rt.alloc()), Some(true));
+    Ok(())
+}
+
+// How many changes of the file a store of that drive takes: the blocks of four zones, three words in each table, the
+// seven words of the shape, a sync, the first word, and a sync.
+const CHANGES: u64 = 20;
+
+// What an open says of a file in which that drive was stored up to a change.
+fn opened_after(alloc: Global, changes: u64) -> Option<Result<(), OpenFault>> {
+    let drive = in_memory(alloc)?;
+    let mut file = StoppingFile::new(empty_file(alloc, &drive)?, changes, 700);
+    let stored = store(&mut file, &drive).is_ok();
+    let file = file.into_inner();
+    let left = copied(alloc, file.bytes())?;
+    let mut file = after_loss(file, &left)?;
+    let opened = open(alloc, &mut file, &Before).map(|_| ());
+    if stored == (changes >= CHANGES) {
+        Some(opened)
+    } else {
+        None
+    }
+}
+
+// Before its first word is written a file is no drive, and after it the whole one.
+fn is_told_as_no_drive(alloc: Global) -> bool {
+    let unnamed = (0..CHANGES - 1).all(|changes| matches!(
+        opened_after(alloc, changes),
+        Some(Err(OpenFault::NotADrive))
+    ));
+    let named = (CHANGES - 1..CHANGES + 2).all(|changes| matches!(
+        opened_after(alloc, changes),
+        Some(Ok(()))
+    ));
+    unnamed && named
+}
+
+#[test]
+fn a_store_that_is_cut_leaves_no_drive(rt: HostRuntime) -> Result<(), Fail> {
+    assert!(rt; is_told_as_no_drive(rt.alloc()));
     Ok(())
 }

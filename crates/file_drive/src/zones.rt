@@ -42,6 +42,8 @@ pub struct FileZones<F: FileBytes + Drop, S: System + Drop> {
     pub(crate) failed: bool,
     /// It failed while a flush picked its table. A loss of power may leave either of the flushed tables picked.
     pub(crate) unsure: bool,
+    /// Zones from which a Reset took blocks. The next flush gives their room back.
+    pub(crate) freed: Vec<usize>,
 }
 
 impl<F: FileBytes + Drop, S: System + Drop> Model for FileZones<F, S> {

@@ -54,12 +54,23 @@ pub trait HeldZones {
         ensures { result ≡ position is_implicit (stored self.now) };
 
     /// Puts that many bytes of a zone, from an offset in it on, after what `into` holds: zeros where nothing is written.
-    fn read(&self, index: usize, from: usize, len: usize, into: &mut Vec<u8>) -> Result<(), Halt>
-        requires { index < length (stored self.now) }
+    /// No zone changes.
+    fn read(
+        &mut self,
+        index: usize,
+        from: usize,
+        len: usize,
+        into: &mut Vec<u8>,
+    ) -> Result<(), Halt>
+        requires { index < length (stored self.old) }
+        ensures shape { shape self.new ≡ shape self.old }
+        ensures stored { stored self.new ≡ stored self.old }
         ensures ok { OnOk result (into.new.items
-            ≡ into.old.items ++ with_zeros len (drop from (stored_at (stored self.now) index).bytes)) }
+            ≡ into.old.items ++ with_zeros len (drop from (stored_at (stored self.old) index).bytes)) }
         ensures err { OnErr result (into.new.items ≡ into.old.items) }
-        ensures stops { IsErrOf result Halt.Stopped → IsTrue may_stop };
+        ensures memory { IsErrOf result Halt.Memory → self.new ≡ self.old }
+        ensures stops { IsErrOf result Halt.Stopped → IsTrue may_stop }
+        ensures durable { durable self.new ≡ durable self.old };
 
     /// Takes the memory for that many more bytes of a zone, if any with this number.
     fn reserve(&mut self, index: usize, bytes: usize) -> Result<(), AllocError>

@@ -98,7 +98,13 @@ impl HeldZones for MemoryZones {
         self.resources.lowest_implicit(&self.zones)
     }
 
-    fn read(&self, index: usize, from: usize, len: usize, into: &mut Vec<u8>) -> Result<(), Halt> {
+    fn read(
+        &mut self,
+        index: usize,
+        from: usize,
+        len: usize,
+        into: &mut Vec<u8>,
+    ) -> Result<(), Halt> {
         let written = bytes_from(self.zones[index].written(), from);
         add_with_zeros(written, len, into)?;
         Ok(())

@@ -47,12 +47,15 @@ impl<Z: HeldZones + Drop> ZoneDrive<Z> {
     }
 
     /// A Read: the bytes of the blocks go after what `into` holds, zeros for those that are not written.
-    pub(crate) fn read(&self, slba: u64, blocks: u32, into: &mut Vec<u8>) -> Result<Reply, Halt>
+    pub(crate) fn read(&mut self, slba: u64, blocks: u32, into: &mut Vec<u8>) -> Result<Reply, Halt>
         requires some { 1 ≤ blocks }
         ensures ok { (bytes : List ℕ) → IfOk result (λ reply. Adds into.old.items
             (λ returned.
-            Gives self.now.drive (Ok (Command.Read slba blocks)) bytes reply returned self.now.drive)
+            Gives self.old.drive (Ok (Command.Read slba blocks)) bytes reply returned self.new.drive)
             into.new.items) }
+        ensures same { self.new.drive ≡ self.old.drive }
+        ensures halted { self.new.halted ≡ self.old.halted }
+        ensures memory { IsErrOf result Halt.Memory → self.new ≡ self.old }
         ensures stops { IsErrOf result Halt.Stopped → IsTrue Z.may_stop }
         ensures returned { OnErr result (into.new.items ≡ into.old.items) }
     {

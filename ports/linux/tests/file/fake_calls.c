@@ -18,6 +18,7 @@ int __real_fsync(int file);
 int __real_flock(int file, int operation);
 int __real_fstat(int file, struct stat *seen);
 int __real_ftruncate(int file, off_t length);
+int __real_fallocate(int file, int mode, off_t at, off_t length);
 int __real_posix_fadvise(int file, off_t at, off_t length, int advice);
 FILE *__real_fopen(const char *path, const char *mode);
 
@@ -77,6 +78,11 @@ int __wrap_fstat(int file, struct stat *seen) {
 
 int __wrap_ftruncate(int file, off_t length) {
     return fails(calls.length_error) ? -1 : __real_ftruncate(file, length);
+}
+
+int __wrap_fallocate(int file, int mode, off_t at, off_t length) {
+    if (mode == (FALLOC_FL_PUNCH_HOLE | FALLOC_FL_KEEP_SIZE)) calls.holes++;
+    return is_interrupted() || fails(calls.hole_error) ? -1 : __real_fallocate(file, mode, at, length);
 }
 
 int __wrap_posix_fadvise(int file, off_t at, off_t length, int advice) {

@@ -6,11 +6,12 @@
 // An error is the number of one, or 0 where the call is the system's.
 struct calls {
     size_t most_bytes;      // the most that one call reads or writes, or 0 for all
-    unsigned interruptions; // so many of the next reads and writes are interrupted first
+    unsigned interruptions; // so many of the next reads, writes and holes are interrupted first
     unsigned writes_left;   // so many writes are done before one fails by `write_error`
-    int read_error, write_error, data_error, lock_error, look_error, length_error, file_error, folder_error;
+    int read_error, write_error, data_error, lock_error, look_error, length_error, file_error, folder_error,
+        hole_error;
     const char *boot_path; // what is read for the identifier of the boot, or NULL for the system's
-    unsigned reads, writes, data_syncs, file_syncs, folder_syncs, advices; // how many were made
+    unsigned reads, writes, data_syncs, file_syncs, folder_syncs, advices, holes; // how many were made
     unsigned boot_reads; // how often that was opened
 };
 

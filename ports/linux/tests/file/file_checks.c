@@ -186,6 +186,43 @@ static void try_failed_sync(void) {
     zonedisk_file_close(old_file(PATH, true, 100));
 }
 
+// How much room a file takes on the disk, in bytes.
+static uint64_t room_of(const char *path) {
+    struct stat seen;
+    return stat(path, &seen) == 0 ? (uint64_t)seen.st_blocks * 512 : UINT64_MAX;
+}
+
+static void try_release(void) {
+    uint64_t session = new_file(PATH, 65536), moment = 0;
+    memset(bytes, 9, 4096);
+    for (uint64_t at = 0; at < 65536; at += 4096) zonedisk_file_write(session, &moment, at, bytes, 4096);
+    zonedisk_file_sync(session, &moment);
+    uint64_t before = room_of(PATH);
+    calls = (struct calls){.interruptions = 2};
+    zonedisk_file_release(session, &moment, 8190, 8196);
+    expect(moment == 18 && calls.holes == 3, "a release is one change, and is asked again after an interruption");
+    expect(room_of(PATH) + 8192 <= before, "the room of a release");
+    struct stat seen;
+    expect(stat(PATH, &seen) == 0 && seen.st_size == 65536, "the length after a release");
+    expect(zonedisk_file_read(session, moment, 8188, room, 4) == 0 && room[1] == 9 && room[2] == 0, "its front");
+    expect(zonedisk_file_read(session, moment, 16384, room, 4) == 0 && room[1] == 0 && room[2] == 9, "its end");
+    calls = (struct calls){.hole_error = EOPNOTSUPP};
+    zonedisk_file_release(session, &moment, 0, 4096);
+    expect(moment == 19 && calls.holes == 1, "a release where there are no holes");
+    expect(zonedisk_file_read(session, moment, 0, room, 1) == 0 && room[0] == 9, "what stays there");
+    calls = (struct calls){0};
+    zonedisk_file_release(session, &moment, 65536, 1);
+    zonedisk_file_release(session, &moment, 1, UINT64_MAX);
+    zonedisk_file_release(session, &moment, 0, 0);
+    expect(moment == 22 && calls.holes == 0, "a wrong range is asked of the system");
+    calls.data_error = EIO;
+    zonedisk_file_sync(session, &moment);
+    zonedisk_file_release(session, &moment, 0, 4096);
+    expect(moment == 24 && calls.holes == 0, "a release after a failed sync");
+    calls = (struct calls){0};
+    zonedisk_file_close(session);
+}
+
 static void try_read_only(void) {
     zonedisk_file_close(new_file(PATH, 100));
     uint64_t session = old_file(PATH, false, 100), moment = 0;
@@ -266,6 +303,7 @@ int main(int count, char **words) {
     try_ranges();
     try_errors();
     try_failed_sync();
+    try_release();
     try_read_only();
     try_limit();
     try_random();

@@ -27,6 +27,10 @@ static void sync_in_past(uint64_t session) {
     uint64_t moment = 2;
     zonedisk_file_sync(session, &moment);
 }
+static void release_in_past(uint64_t session) {
+    uint64_t moment = 2;
+    zonedisk_file_release(session, &moment, 0, 1);
+}
 static void read_in_past(uint64_t session) { zonedisk_file_read(session, 2, 0, room, 0); }
 static void read_closed(uint64_t session) {
     zonedisk_file_close(session);
@@ -69,6 +73,7 @@ static void try_moments(void) {
     expect(aborts(write_in_future, session), "a write in the future");
     expect(aborts(word_in_past, session), "a word in the past");
     expect(aborts(sync_in_past, session), "a sync in the past");
+    expect(aborts(release_in_past, session), "a release in the past");
     expect(aborts(read_in_past, session), "a read in the past");
     expect(aborts(write_nowhere, session), "the session 0");
     expect(aborts(read_closed, session), "a session that is closed");

@@ -16,7 +16,7 @@ table_entries-requires g c =
     let head = c.in_ok-head.head in
     let tables = c.in_ok-tables.tables in
     let is = c.in_ok-head.ensures.ok in
-    let are = c.in_ok-tables.ensures.ok in
+    let are = rw c.read_head.ensures.seen at c.in_ok-tables.ensures.ok in
     rw c.deref.ensures.value (omega (arith, sym (ap length are.safe), length-words file (at_table head.geometry tables.flushed) head.geometry.zones, is.in_range.zones.1))
 
 pub table_entries-requires-2 : goal.table_entries-requires-2
@@ -25,7 +25,7 @@ table_entries-requires-2 g c =
     let head = c.in_ok-head.head in
     let tables = c.in_ok-tables.tables in
     let is = c.in_ok-head.ensures.ok in
-    let are = c.in_ok-tables.ensures.ok in
+    let are = rw c.read_head.ensures.seen at c.in_ok-tables.ensures.ok in
     let counting = counting-is c.args.boot file head tables is are c.is_same_boot.result c.counting-words.result.now c.is_same_boot.ensures c.counting-words.ensures in
     rw counting (omega (arith, length-words file (at_table head.geometry (opened_table c.args.boot file)) head.geometry.zones, is.in_range.zones.1))
 
@@ -35,7 +35,7 @@ returns-clause-ok g c =
     let head = c.in_ok-head.head in
     let tables = c.in_ok-tables.tables in
     let is = c.in_ok-head.ensures.ok in
-    let are = c.in_ok-tables.ensures.ok in
+    let are = rw c.read_head.ensures.seen at c.in_ok-tables.ensures.ok in
     let counting = counting-is c.args.boot file head tables is are c.is_same_boot.result c.counting-words.result.now c.is_same_boot.ensures c.counting-words.ensures in
     let table : IsTable head.geometry c.counting-words.result.now = search rules in
     let safe : IsTable head.geometry c.deref.result.now = search rules in
@@ -55,7 +55,7 @@ returns-in_err-entries-clause-err g c =
     let head = c.in_ok-head.head in
     let tables = c.in_ok-tables.tables in
     let is = c.in_ok-head.ensures.ok in
-    let are = c.in_ok-tables.ensures.ok in
+    let are = rw c.read_head.ensures.seen at c.in_ok-tables.ensures.ok in
     let counting = counting-is c.args.boot file head tables is are c.is_same_boot.result c.counting-words.result.now c.is_same_boot.ensures c.counting-words.ensures in
     err-of c.from_residual-in_err-entries.result _ (IsOpenFault c.args.boot file)
     (λ fault e. rw e (opened-fault c.args.boot file head tables is are c.counting-words.result.now counting c.in_err-entries.field-0.0 c.in_err-entries.ensures.err))
@@ -67,7 +67,7 @@ check_apart-requires-clause-few g c =
     let head = c.in_ok-head.head in
     let tables = c.in_ok-tables.tables in
     let is = c.in_ok-head.ensures.ok in
-    let are = c.in_ok-tables.ensures.ok in
+    let are = rw c.read_head.ensures.seen at c.in_ok-tables.ensures.ok in
     let counting = counting-is c.args.boot file head tables is are c.is_same_boot.result c.counting-words.result.now c.is_same_boot.ensures c.counting-words.ensures in
     rw (c.deref-3.ensures.value, c.in_ok-entries.ensures.ok)
     (omega (arith, ap length counting, length-map c.counting-words.result.now entry_of, length-words file (at_table head.geometry (opened_table c.args.boot file)) head.geometry.zones, is.in_range.zones.1))
@@ -78,7 +78,7 @@ check_apart-requires-clause-count g c =
     let head = c.in_ok-head.head in
     let tables = c.in_ok-tables.tables in
     let is = c.in_ok-head.ensures.ok in
-    let are = c.in_ok-tables.ensures.ok in
+    let are = rw c.read_head.ensures.seen at c.in_ok-tables.ensures.ok in
     let counting = counting-is c.args.boot file head tables is are c.is_same_boot.result c.counting-words.result.now c.is_same_boot.ensures c.counting-words.ensures in
     rw (c.deref-2.ensures.value, c.deref-3.ensures.value, c.in_ok-entries.ensures.ok)
     (omega (
@@ -96,7 +96,7 @@ returns-in_err-check_apart-clause-err g c =
     let head = c.in_ok-head.head in
     let tables = c.in_ok-tables.tables in
     let is = c.in_ok-head.ensures.ok in
-    let are = c.in_ok-tables.ensures.ok in
+    let are = rw c.read_head.ensures.seen at c.in_ok-tables.ensures.ok in
     let counting = counting-is c.args.boot file head tables is are c.is_same_boot.result c.counting-words.result.now c.is_same_boot.ensures c.counting-words.ensures in
     let flushed : c.deref-2.result.now ≡ words_in file (at_table head.geometry (flushed_table file)) head.geometry.zones = c.deref-2.ensures.value ∙ rw are.flushed_is (sym are.safe) in
     let opened : c.deref-3.result.now ≡ map entry_of (words_in file (at_table head.geometry (opened_table c.args.boot file)) head.geometry.zones) =

@@ -1,12 +1,18 @@
-use Rattle.std.proofs.Common.{rules, ◌≡◌, length}
-use Rattle.file_drive.specs.Head.{shape_words}
-use Rattle.file_drive.specs.Tables.{words_in}
+use Rattle.file_drive.specs.Finds.{Finds, empty_zones}
+use Rattle.file_drive.specs.Storing.{HasHead}
+use Rattle.file_drive.specs.declared.boot.Boot.{Boot}
 use Rattle.file_drive.proofs.FormatLaws.{fresh-finds}
+use Rattle.file_drive.proofs.StoringLaws.{on-ok}
 use Rattle.file_drive.proofs.fresh.format.Goals as goal
 
 pub returns-clause-fresh : goal.returns-clause-fresh
-returns-clause-fresh g c = λ boot.
-    let file = g.F.FileBytes.seen c.put_words.new.file in
-    let put : words_in file 0 (length c.shape_words.result) ≡ c.shape_words.result = search rules in
-    let head : words_in file 0 8 ≡ shape_words c.args.geometry.now = rw c.shape_words.ensures at put in
-    rw c.sync.ensures.seen (fresh-finds c.args.geometry.now boot file c.requires.in_range (rw (c.requires.zeros, c.shape_words.ensures) at c.put_words.ensures.beside) head)
+returns-clause-fresh g c =
+    let geometry = c.args.geometry.now in
+    let new = g.F.FileBytes.seen c.put_head.new.file in
+    on-ok c.put_head.result (HasHead geometry (g.F.FileBytes.seen c.args.file.now) new) ((boot : Boot) → Finds geometry boot new (empty_zones geometry))
+    (λ head boot. fresh-finds geometry boot new c.requires.in_range (rw c.requires.zeros at head.beside) head.words) c.put_head.ensures.head
+
+pub returns-clause-whole : goal.returns-clause-whole
+returns-clause-whole g c unnamed bytes may named boot =
+    let head = c.put_head.ensures.left unnamed bytes may named in
+    fresh-finds c.args.geometry.now boot bytes c.requires.in_range (rw c.requires.zeros at head.beside) head.words

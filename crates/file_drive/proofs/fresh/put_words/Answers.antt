@@ -2,7 +2,8 @@ use Rattle.std.proofs.Common.{rules, ◌+◌, ◌*◌, ◌<◌, ◌∙◌, lengt
 use Rattle.std.specs.Int.{w64, to_le_bytes}
 use Rattle.sqlite_disk.specs.Disk.{Holds}
 use Rattle.file_drive.proofs.FormatLaws.{next-word}
-use Rattle.file_drive.proofs.PartLaws.{beside-both, beside-wider, word-held}
+use Rattle.file_drive.proofs.PartLaws.{beside-both, beside-wider, follows-both, word-held}
+use Rattle.file_drive.proofs.StoringLaws.{follows-wider}
 use Rattle.file_drive.proofs.fresh.put_words.Goals as goal
 
 pub loop-index-preserved : goal.loop-index-preserved
@@ -18,4 +19,6 @@ loop-index-preserved g c =
       beside-both c.args.at (8 * length words) (g.F.FileBytes.seen c.args.file.now) old new c.loop-index.invariant.1
           (beside-wider at 8 c.args.at (8 * length words) old new c.write_word.ensures.others (omega arith) (omega (arith, low))),
       c.write_word.ensures.usable ∙ c.loop-index.invariant.2,
+      follows-both c.args.at (8 * length words) (g.F.FileBytes.may_leave c.args.file.now) (g.F.FileBytes.may_leave c.loop-index.file) (g.F.FileBytes.may_leave c.write_word.new.self) c.loop-index.invariant.3
+          (follows-wider at 8 c.args.at (8 * length words) (g.F.FileBytes.may_leave c.loop-index.file) (g.F.FileBytes.may_leave c.write_word.new.self) c.write_word.ensures.leaves (omega arith) (omega (arith, low))),
     )

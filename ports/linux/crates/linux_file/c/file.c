@@ -206,6 +206,14 @@ uint32_t zonedisk_file_sync(uint64_t session, uint64_t *moment) {
     return number;
 }
 
+void zonedisk_file_release(uint64_t session, uint64_t *moment, uint64_t at, uint64_t length) {
+    const struct session *used = change_at(session, moment);
+    if (length == 0 || fault_of(used, at, length) != 0) return;
+    while (fallocate(used->file, FALLOC_FL_PUNCH_HOLE | FALLOC_FL_KEEP_SIZE, (off_t)at, (off_t)length) != 0) {
+        if (errno != EINTR) return;
+    }
+}
+
 void zonedisk_file_close(uint64_t session) {
     struct session *used = session_of(session);
     close(used->file);

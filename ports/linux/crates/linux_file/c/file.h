@@ -2,7 +2,7 @@
 //
 // There is no format here. C opens and locks a file, and passes reads, writes and syncs. A session is one file, from
 // its opening to its closing. Its number is never used again. A session begins at moment 0. Each change that is asked
-// leads to the next moment: a write, a write of a word, a sync. A call at another moment, or of a session that is not
+// leads to the next moment: a write, a write of a word, a sync, a release. A call at another moment, or of a session that is not
 // open, ends the process.
 //
 // A result is 0 where the call is done, or else the number of an error of the system. It is EINVAL for a range that is
@@ -39,6 +39,10 @@ uint32_t zonedisk_file_write_word(uint64_t session, uint64_t *moment, uint64_t a
 
 // Brings all that was written to the disk.
 uint32_t zonedisk_file_sync(uint64_t session, uint64_t *moment);
+
+// Gives the room of a range back to the file system. Then the range has zeros, or it is as it was where the file system
+// cannot do that. It is not said which: what fails here costs room alone.
+void zonedisk_file_release(uint64_t session, uint64_t *moment, uint64_t at, uint64_t length);
 
 // Closes the file of a session, at any moment. Its lock is given back.
 void zonedisk_file_close(uint64_t session);

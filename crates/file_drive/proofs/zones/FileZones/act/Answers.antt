@@ -15,8 +15,8 @@ index-requires g c =
     let many = length-safe inside.geometry (g.F.FileBytes.seen inside.file) inside.entries.items inside.live inside.flushed _ c.self.invariant.4 in
     omega (arith, low, many, c.self.invariant.1)
 
-pub index-requires-2 : goal.index-requires-2
-index-requires-2 g c =
+pub index-before-requires : goal.index-before-requires
+index-before-requires g c =
     let low = rw (← c.self.view_is) at (filed-low g.F.FileBytes.seen c.args.self.now c.args.index c.requires) in
     omega (arith, low)
 
@@ -25,7 +25,7 @@ put-requires-clause-apart g c =
     let inside = c.self.inside in
     let low = rw (← c.self.view_is) at (filed-low g.F.FileBytes.seen c.args.self.now c.args.index c.requires) in
     let many = length-safe inside.geometry (g.F.FileBytes.seen inside.file) inside.entries.items inside.live inside.flushed _ c.self.invariant.4 in
-    let is = entry-read inside.entries.items c.args.index c.index-2.result.now low c.index-2.ensures in
+    let is = entry-read inside.entries.items c.args.index c.index-before.result.now low c.index-before.ensures in
     let last = c.of_word-flushed.ensures ∙ ap entry_of (c.index.ensures ∙ get_or_default_zero inside.safe.items c.args.index c.index.result.now (omega (arith, low, many, c.self.invariant.1))) in
     rw (← c.self.view_is, c.acted-entry.ensures, is, last)
     (acted-apart c.args.action (flushed_at inside.safe.items c.args.index) (entry_at inside.entries.items c.args.index) (c.self.invariant.8 c.args.index low))
@@ -37,7 +37,7 @@ pub put-requires-clause-within : goal.put-requires-clause-within
 put-requires-clause-within g c =
     let inside = c.self.inside in
     let low = rw (← c.self.view_is) at (filed-low g.F.FileBytes.seen c.args.self.now c.args.index c.requires) in
-    let is = entry-read inside.entries.items c.args.index c.index-2.result.now low c.index-2.ensures in
+    let is = entry-read inside.entries.items c.args.index c.index-before.result.now low c.index-before.ensures in
     rw (← c.self.view_is, c.acted-entry.ensures, is)
     (acted-few inside.geometry c.args.action c.of_word-flushed.result (entry_at inside.entries.items c.args.index) (within-at inside.geometry inside.entries.items c.args.index no_entry c.self.invariant.2 low))
 
@@ -52,8 +52,8 @@ returns-clause-ok g c =
     let now = c.args.self.now in
     let low = filed-low g.F.FileBytes.seen now c.args.index c.requires in
     let low' = rw (← c.self.view_is) at low in
-    let is = entry-read c.self.inside.entries.items c.args.index c.index-2.result.now low' c.index-2.ensures in
+    let is = entry-read c.self.inside.entries.items c.args.index c.index-before.result.now low' c.index-before.ensures in
     let is' = is ∙ ap (λ (z : FiledZones _). entry_at z.entries c.args.index) c.self.view_is in
-    rw (c.put.ensures.shape, c.in_ok-put.ensures.ok, c.acted-entry.ensures, is')
+    rw (c.note_freed.ensures, c.put.ensures.shape, c.in_ok-put.ensures.ok, c.acted-entry.ensures, is')
     (sent-stored-in now.shape (g.F.FileBytes.seen now.file) (g.F.FileBytes.seen c.put.new.self.file) now.entries c.args.index c.args.action c.of_word-flushed.result c.put.ensures.zones
     (rw (← c.self.view_is) c.self.invariant.1) (rw (← c.self.view_is) c.self.invariant.2) low)

@@ -1,11 +1,12 @@
-use Rattle.std.proofs.Common.{rules, ◌≡◌, ◌+◌, ◌*◌, ◌-◌, ◌++◌, ◌∙◌, List, ℕ, min, ap, arith}
+use Rattle.std.proofs.Common.{rules, ◌≡◌, ◌+◌, ◌*◌, ◌-◌, ◌++◌, ◌∙◌, List, ℕ, min, sym, ap, arith}
 use Rattle.zone_drive.specs.Stored.{with_zeros}
-use Rattle.file_drive.specs.InFile.{entry_at}
+use Rattle.file_drive.specs.InFile.{durable_zones, entry_at}
 use Rattle.file_drive.specs.Layout.{at_place, part}
 use Rattle.file_drive.specs.Tables.{place_of}
 use Rattle.file_drive.proofs.DataLaws.{within-at}
 use Rattle.file_drive.proofs.PlaceLaws.{place-low, short, zone-ends}
 use Rattle.file_drive.proofs.ReadLaws.{part-read}
+use Rattle.file_drive.proofs.ServedLaws.{durable-stays}
 use Rattle.file_drive.proofs.StoreLaws.{entry-read, filed-low, no_entry, stored-is, stored-length}
 use Rattle.file_drive.proofs.zones.FileZones.read_zone.Goals as goal
 
@@ -76,3 +77,43 @@ returns-clause-ok g c =
     let put : c.read_with_zeros.new.into.items ≡ c.args.into.now.items ++ with_zeros c.args.len (part file (c.at_place.result + c.min-from.result) c.min-count.result) = search rules in
     rw (← c.self.view_is, stored-is inside.geometry file inside.entries.items c.args.index low)
     (put ∙ ap (λ (bytes : List ℕ). c.args.into.now.items ++ bytes) (rw (begins, from, count) read))
+
+pub invariant_of-self : goal.invariant_of-self
+invariant_of-self g c =
+    let inside = c.self.inside in
+    let held = c.self.invariant in (
+      held.0,
+      held.1,
+      held.2,
+      held.3,
+      rw c.read_with_zeros.ensures.seen held.4,
+      held.5,
+      λ goes. (
+        rw c.read_with_zeros.ensures.usable (held.6 goes).0,
+        λ bytes may. rw c.read_with_zeros.ensures.seen ((held.6 goes).1 bytes (c.read_with_zeros.ensures.leaves bytes may)),
+      ),
+      durable-stays g.F.FileBytes.may_leave inside.geometry inside.file c.read_with_zeros.new.file _ _
+          (ap (λ (file : List ℕ). durable_zones inside.geometry file inside.safe.items inside.other.items inside.unsure) (sym c.read_with_zeros.ensures.seen)) c.read_with_zeros.ensures.leaves held.7,
+      held.8,
+      held.9,
+    )
+
+pub invariant_of-self-2 : goal.invariant_of-self-2
+invariant_of-self-2 g c =
+    let inside = c.self.inside in
+    let held = c.self.invariant in (
+      held.0,
+      held.1,
+      held.2,
+      held.3,
+      rw c.read_with_zeros.ensures.seen held.4,
+      held.5,
+      λ goes. (
+        rw c.read_with_zeros.ensures.usable (held.6 goes).0,
+        λ bytes may. rw c.read_with_zeros.ensures.seen ((held.6 goes).1 bytes (c.read_with_zeros.ensures.leaves bytes may)),
+      ),
+      durable-stays g.F.FileBytes.may_leave inside.geometry inside.file c.read_with_zeros.new.file _ _
+          (ap (λ (file : List ℕ). durable_zones inside.geometry file inside.safe.items inside.other.items inside.unsure) (sym c.read_with_zeros.ensures.seen)) c.read_with_zeros.ensures.leaves held.7,
+      held.8,
+      held.9,
+    )

@@ -4,6 +4,7 @@ use Rattle.zone_states.specs.Stored.{StoredZone}
 use Rattle.file_drive.specs.InFile.{AllDurable, Words}
 use Rattle.file_drive.specs.Tables.{next_entries, word_of}
 use Rattle.file_drive.proofs.ApartLaws.{next-none}
+use Rattle.file_drive.proofs.FaultLaws.{no-error}
 use Rattle.file_drive.proofs.ServedLaws.{durable-by, durable-same, length-other, length-safe, other-promise, other-promises, other-same, promised-durable, served-other}
 use Rattle.file_drive.proofs.zones.FileZones.write_other.Goals as goal
 
@@ -147,7 +148,8 @@ returns-clause-ready g c =
     let served = held.6 c.if-self.false in
     let known = rw (c.at_table-at.ensures, count) at c.write_words-written.ensures.known in
     let next = served-other inside.geometry g.F.FileBytes.seen g.F.FileBytes.may_leave inside.file c.write_words-written.new.file inside.entries.items inside.live inside.flushed words held.4 held.5.within served.1 beside follows c.write_words-written.new.words.items known in
-    let durable : Only (g.F.FileBytes.seen c.write_words-written.new.file) (g.F.FileBytes.may_leave c.sync.new.self) = search rules in
+    let durable : Only (g.F.FileBytes.seen c.write_words-written.new.file) (g.F.FileBytes.may_leave c.sync.new.self) =
+    no-error c.sync.result _ (sym c.is_err-2.ensures.value ∙ c.if-is_err-2.false) c.sync.ensures.durable in
     let put : c.write_words-written.new.words.items ≡ map word_of (next_entries None c.deref-2.result.now c.deref.result.now) = search rules in
     record {
       synced = rw c.sync.ensures.seen durable;

@@ -1,5 +1,6 @@
-use Rattle.std.proofs.Common.{◌%◌}
+use Rattle.std.proofs.Common.{◌%◌, ap}
 use Rattle.drive_port.proofs.CallLaws.{adds-nothing}
+use Rattle.zone_drive.specs.Held.{HeldDrive}
 use Rattle.zone_drive.proofs.OutcomeLaws.{read-done, read-refused}
 use Rattle.zone_drive.proofs.ReadLaws.{zone-shows}
 use Rattle.zone_drive.proofs.zone_drive.ZoneDrive.read.Goals as goal
@@ -11,7 +12,8 @@ returns-in_ok-read-in-Ok-clause-ok g c = λ bytes.
     let number = rw (← c.self.view_is) at c.in-Ok.ensures.zone in
     let from = rw (← c.self.view_is) at c.in-Ok.ensures.from in
     let shows = zone-shows inside.geometry (g.Z.HeldZones.stored inside.zones) c.in-Ok.number (c.args.slba % inside.geometry.size) c.args.blocks c.self.invariant.1 below in
-    rw c.done.ensures (record {
+    let same = ap (λ (d : HeldDrive _). d.drive) c.self.view_is in
+    rw (c.done.ensures, c.read.ensures.stored, c.read.ensures.durable, same) (record {
       returned = _;
       joined = c.in_ok-read-in-Ok.ensures.ok;
       given = read-done c.args.self.now.drive c.args.slba c.args.blocks bytes _ c.in-Ok.ensures.passed (rw (← c.self.view_is, ← number) (rw (← from) at shows));
