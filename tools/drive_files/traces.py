@@ -94,6 +94,10 @@ class Trace:
             if len(data) != result:
                 raise Wrong("other faults", "strace shows not all bytes of a write")
             return ("write", (int(words.rsplit(",", 1)[1]), data))
+        if name == "fallocate" and "PUNCH_HOLE" in words:
+            # The hole reads as zeros.
+            at, count = (int(word) for word in words.split(",")[-2:])
+            return ("write", (at, bytes(count)))
         if name == "read":
             return None
         raise Wrong("other faults", f"the program changes its file by {name}, which is not replayed")

@@ -1,2 +1,3 @@
-pub mod SpliceLaws
+pub mod OverlayLaws
 pub mod PendingLaws
+pub mod SpliceLaws

@@ -1,4 +1,5 @@
 pub mod Changes
+pub mod Kept
+pub mod Overlay
 pub mod Pending
 pub mod Stopping
-pub mod Kept

@@ -23,6 +23,8 @@
 //! * `MemoryFile` may leave all that this allows, and takes each of these outcomes by `lose_power`.
 //! * `ReadAheadFile` reads ahead in another file. To a reader it is that file: it never returns bytes that have changed
 //!   since.
+//! * `ReadOnlyFile` never changes another file. It keeps in memory what is written to it, and shows the other file with
+//!   that.
 //! * `StoppingFile` does a number of changes of another file, and fails from then on. The write at which it stops may be
 //!   torn.
 #![tactic(auto)]
@@ -31,6 +33,7 @@ mod file;
 mod kept;
 mod memory;
 mod read_ahead;
+mod read_only;
 mod run;
 mod stopping;
 #[cfg(test)]
@@ -39,4 +42,5 @@ mod tests;
 pub use file::FileBytes;
 pub use memory::MemoryFile;
 pub use read_ahead::ReadAheadFile;
+pub use read_only::ReadOnlyFile;
 pub use stopping::StoppingFile;

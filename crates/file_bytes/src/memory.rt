@@ -48,7 +48,7 @@ impl Model for MemoryFile {
 }
 
 // The error where memory is missing.
-fn no_memory() -> io::Error {
+pub(crate) fn no_memory() -> io::Error {
     io::ErrorKind::OutOfMemory.into()
 }
 

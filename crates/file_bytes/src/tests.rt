@@ -2,7 +2,7 @@ ghost use Rattle.std.specs.Prelude.{refl};
 ghost use Rattle.std.proofs.Common.{inl};
 ghost use Rattle.file_bytes.specs.Pending.{MayLeave};
 
-use crate::{FileBytes, MemoryFile, ReadAheadFile, StoppingFile};
+use crate::{FileBytes, MemoryFile, ReadAheadFile, ReadOnlyFile, StoppingFile};
 use std::alloc::Global;
 use std::io;
 use std::test::Fail;
@@ -172,5 +172,40 @@ fn a_loss_of_power_may_take_a_release_back(rt: HostRuntime) -> Result<(), Fail> 
     assert!(rt; !file.may_leave(b"a\0\0x"));
     file.sync()?;
     assert!(rt; !file.may_leave(b"abcd"));
+    Ok(())
+}
+
+// What a file that is only read shows after writes in three of its pages, and what the file within has.
+fn shown_over(alloc: Global) -> Option<bool> {
+    let mut file = ReadOnlyFile::new(alloc, MemoryFile::new(alloc, 12_300).ok()?);
+    if file.len() < 12_300 {
+        return None;
+    }
+    file.write(4_095, &[7; 4_098]).ok()?;
+    if file.len() < 12_300 {
+        return None;
+    }
+    file.write_word(12_288, 0x0101_0101_0101_0101).ok()?;
+    if file.len() < 12_300 {
+        return None;
+    }
+    let mut room = [0; 12_300];
+    file.read(0, &mut room).ok()?;
+    let is_shown = (0..12_300).all(|at| {
+        let byte = if at >= 4_095 && at < 8_193 {
+            7
+        } else if at >= 12_288 && at < 12_296 {
+            1
+        } else {
+            0
+        };
+        room[at] == byte
+    });
+    Some(is_shown && file.into_inner().bytes().iter().all(|byte| *byte == 0))
+}
+
+#[test]
+fn a_file_that_is_only_read_stays(rt: HostRuntime) -> Result<(), Fail> {
+    assert_eq!(rt; shown_over(rt.alloc()), Some(true));
     Ok(())
 }
