@@ -11,7 +11,8 @@ use file_drive::{FileZones, Found, System};
 use std::alloc::Global;
 use zone_drive::Drive;
 
-/// The drive in memory with the zones of a file that was opened. The file is not written.
+/// The drive in memory with the zones of a file that was opened. The file is not written. It is `Stopped` if the file
+/// cannot be read, and `Memory` where memory is missing.
 pub fn load<F: FileBytes + Drop, S: System + Drop>(
     alloc: Global,
     file: F,

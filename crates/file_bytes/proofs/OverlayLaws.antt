@@ -17,7 +17,7 @@ use Rattle.file_bytes.proofs.SpliceLaws.{length-spliced, spliced-above, spliced-
 
 -- ---- the place of a page
 
--- what is found stays where more is put behind it
+-- what is found in a list is found where the list has one more
 found-cond : (b : Bool) (a r s : Option ℕ) (i : ℕ) → cond b a r ≡ Some i → (r ≡ Some i → s ≡ Some i) → cond b a s ≡ Some i
 found-cond true a r s i found next = found
 found-cond false a r s i found next = next found
@@ -27,7 +27,7 @@ found-before p k [] y i found = absurd (cc found)
 found-before p k (x ∷ xs) y i found =
     found-cond (p x) (Some k) (position_from p (k + 1) xs) (position_from p (k + 1) (xs ++ y ∷ [])) i found (found-before p (k + 1) xs y i)
 
--- what is not found is what is put behind, or is not found still
+-- what is not found in a list is the one that is added, or is still not found
 missed-cond : (b : Bool) (k : ℕ) (r s t : Option ℕ) → cond b (Some k) r ≡ None → (r ≡ None → s ≡ t) → cond b (Some k) s ≡ t
 missed-cond true k r s t none next = absurd (cc none)
 missed-cond false k r s t none next = next none
@@ -134,7 +134,7 @@ no-slot : (found : Option ℕ) → option_map (λ slot. 4096 * slot) found ≡ N
 no-slot None none = refl
 no-slot (Some slot) none = absurd (cc none)
 
--- what is true once a page that was not kept is put behind the others
+-- what is true once a page that was not kept is added
 module _ (file pages kept others new page : List ℕ) (number : ℕ) (long : length kept ≡ 4096 * length pages)
     (missed : place_of pages number ≡ None) (is_page : IsPage file number page)
     (others_are : others ≡ insert_key nat_eq pages number) (new_is : new ≡ kept ++ page) where

@@ -70,7 +70,7 @@ fn put_in(bytes: &mut Vec<u8>, at: usize, others: &[u8], from: usize, count: usi
     requires part { from + count ≤ length others.now }
     ensures { bytes.new.items ≡ splice bytes.old.items at (at + count) (take count (drop from others.now)) }
 {
-    bytes[at..at + count].copy_from_slice(&others[from..from + count]);
+    put(bytes, at, others, from, count);
 }
 
 // How many of the bytes from an offset on are in its page.
@@ -207,6 +207,7 @@ impl<F: FileBytes + Drop> FileBytes for ReadOnlyFile<F> {
     }
 
     fn write(&mut self, at: u64, bytes: &[u8]) -> io::Result<()> {
+        // The proof has to know how long the file is.
         let _ = &self.inner;
         let mut done = 0;
         while done < bytes.len() {
@@ -218,6 +219,7 @@ impl<F: FileBytes + Drop> FileBytes for ReadOnlyFile<F> {
     }
 
     fn write_word(&mut self, at: u64, word: u64) -> io::Result<()> {
+        // As in `write`.
         let _ = &self.inner;
         self.write_more(at, &word.to_le_bytes(), 0, 8)
     }

@@ -7,7 +7,7 @@ const WIDEST: usize = 1 << 20;
 /// A read of more bytes than these does not read ahead.
 const SMALL: usize = 1 << 15;
 
-/// How far behind the last read the next one of a run begins at most.
+/// How far after the end of the last read the next one of a run may begin.
 const GAP: u64 = 1 << 16;
 
 /// A run: reads that follow each other closely. Each call of the file reads twice as much as the one before.
@@ -25,7 +25,7 @@ impl Run {
         Run { end: 0, width: 0 }
     }
 
-    /// Whether a read from an offset on goes on with the run: it begins where the last one ended, or closely behind.
+    /// Whether a read from an offset on goes on with the run: it begins where the last one ended, or a little later.
     fn goes_on(self, at: u64) -> bool {
         self.end <= at && at - self.end <= GAP
     }

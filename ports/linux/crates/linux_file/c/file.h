@@ -2,8 +2,8 @@
 //
 // There is no format here. C opens and locks a file, and passes reads, writes and syncs. A session is one file, from
 // its opening to its closing. Its number is never used again. A session begins at moment 0. Each change that is asked
-// leads to the next moment: a write, a write of a word, a sync, a release. A call at another moment, or of a session that is not
-// open, ends the process.
+// leads to the next moment: a write, a write of a word, a sync, a release. A call at another moment, or of a session
+// that is not open, ends the process.
 //
 // A result is 0 where the call is done, or else the number of an error of the system. It is EINVAL for a range that is
 // not within the file. After a sync that failed it is EIO for each later call of the session. For Linux may have let go
