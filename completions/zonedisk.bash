@@ -1,6 +1,6 @@
 # Completes the words of zonedisk in bash. The manual page says how to install this file.
 
-_zonedisk_subcommands="format run nbd report check plan info export import nvme entry fresh fresh-raw help"
+_zonedisk_subcommands="format run nbd report check plan info export import convert nvme entry fresh fresh-raw help"
 _zonedisk_shape="--block --zones --size --capacity --transfer --active --open"
 _zonedisk_states="Empty ImplicitlyOpened ExplicitlyOpened Closed ReadOnly Full Offline"
 
@@ -16,6 +16,7 @@ _zonedisk_options() {
         info) echo "--image --device --json" ;;
         export) echo "--image --device --first --count --progress" ;;
         import) echo "--image --device --blocks --first --sparse --progress" ;;
+        convert) echo "--image --to" ;;
         nvme) echo "--image --device --explain --sync --habit" ;;
         entry) echo "--start --blocks --dwords --id --all --partial --state --data" ;;
         fresh) echo "$_zonedisk_shape --blocks --report --statistics --habit --stop-after --tear" ;;
@@ -42,7 +43,7 @@ _zonedisk() {
     local word=${COMP_WORDS[COMP_CWORD]} before=${COMP_WORDS[COMP_CWORD - 1]} words
     if [ "$COMP_CWORD" -eq 1 ]; then
         words="$_zonedisk_subcommands --help --version"
-    elif [ "$before" = --image ] || [ "$before" = --device ]; then
+    elif [ "$before" = --image ] || [ "$before" = --device ] || [ "$before" = --to ]; then
         mapfile -t COMPREPLY < <(compgen -f -- "$word")
         return
     else

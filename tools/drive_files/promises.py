@@ -31,7 +31,8 @@ class Promises:
         """How many calls were answered after an event."""
         if self.is_silent:
             return len(self.calls) if self.trace.ended[event] == 0 else 0
-        return min(bisect.bisect_right(self.outputs, self.trace.told[event]) - 1, self.done) if event >= 0 else 0
+        past = bisect.bisect_right(self.outputs, self.trace.told[event]) if event >= 0 else 1
+        return max(min(past - 1, self.done), 0)
 
     def received(self, event):
         """How many calls the program has read after an event, with the one that it may have read in part."""

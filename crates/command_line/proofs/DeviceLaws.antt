@@ -19,10 +19,12 @@ has-device name rows (jobs.Format path force) asks = (_, asks.1)
 has-device name rows (jobs.Create path geometry) asks = absurd asks
 has-device name rows (jobs.Run job) asks = (_, asks.1.device)
 has-device name rows (jobs.Report path state) asks = (_, asks.1)
-has-device name rows (jobs.Nvme path explain habit) asks = (_, asks.1)
+has-device name rows (jobs.Nvme path explain habit sync) asks = (_, asks.1)
 has-device name rows (jobs.Nbd job) asks = (_, asks.1.path)
 has-device name rows (jobs.Check job) asks = (_, asks.1.path)
 has-device name rows (jobs.Info job) asks = (_, asks.1.path)
+has-device name rows (jobs.Zones job) asks = absurd asks
+has-device name rows (jobs.Plan path aim form) asks = absurd asks
 has-device name rows (jobs.Copy (copies.Export job)) asks = (_, asks.1)
 has-device name rows (jobs.Copy (copies.Import job)) asks = (_, asks.1)
 
@@ -33,6 +35,7 @@ module _ (name : Text) (rows : List Row) (none : first_of (codes "device") rows 
   asked (tasks.Nbd job) asks = (none, asks)
   asked (tasks.Copy job) asks = (none, asks)
   asked (tasks.Tool job) asks = (none, asks)
+  asked (tasks.Convert job) asks = (none, asks)
   asked (tasks.Device job) asks = inr (none, asks)
 
   without : (task : Task) → AsksFor name rows task → AsksForFile name rows task
@@ -40,6 +43,7 @@ module _ (name : Text) (rows : List Row) (none : first_of (codes "device") rows 
   without (tasks.Nbd job) asks = asks.1
   without (tasks.Copy job) asks = asks.1
   without (tasks.Tool job) asks = asks.1
+  without (tasks.Convert job) asks = asks.1
   without (tasks.Device job) (inl asks) =
       let named = has-device name rows job asks in
       let is : None ≡ Some named.0 = sym none ∙ named.1.path_is in

@@ -24,6 +24,7 @@ pub record AsksForRun (rows : List Row) (job : DeviceRun) : Type 0 where
   pub statistics : HasFlag rows (codes "statistics") job.statistics
   pub stop : HasStop rows job.stop
   pub habit : HasHabit rows job.habit
+  pub reads : job.read_only ≡ false
   pub progress : HasFlag rows (codes "progress") job.progress
 
 -- What the job of a subcommand holds is what its options were given. A format has no part of a geometry, and makes no new drive.
@@ -34,11 +35,13 @@ AsksForDevice name rows (jobs.Format path force) =
 AsksForDevice name rows (jobs.Create path geometry) = ⊥
 AsksForDevice name rows (jobs.Run job) = (name ≡ codes "run") × AsksForRun rows job
 AsksForDevice name rows (jobs.Report path state) = (name ≡ codes "report") × HasDevice rows (string_bytes path) × HasZonesForm rows (lines_of state)
-AsksForDevice name rows (jobs.Nvme path explain habit) =
-    (name ≡ codes "nvme") × HasDevice rows (string_bytes path) × HasFlag rows (codes "explain") explain × HasHabit rows habit
+AsksForDevice name rows (jobs.Nvme path explain habit sync) =
+    (name ≡ codes "nvme") × HasDevice rows (string_bytes path) × HasFlag rows (codes "explain") explain × HasHabit rows habit × (sync ≡ false)
 AsksForDevice name rows (jobs.Nbd job) = (name ≡ codes "nbd") × AsksForNbd places.Device rows job
 AsksForDevice name rows (jobs.Check job) = (name ≡ codes "check") × AsksForCheck places.Device rows job
 AsksForDevice name rows (jobs.Info job) = (name ≡ codes "info") × AsksForInfo places.Device rows job
+AsksForDevice name rows (jobs.Zones job) = ⊥
+AsksForDevice name rows (jobs.Plan path aim form) = ⊥
 AsksForDevice name rows (jobs.Copy job) = AsksForCopy places.Device name rows job
 
 -- A new drive that stays in its file has the shape that was given, and nothing is replaced by it.

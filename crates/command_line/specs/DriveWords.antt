@@ -1,11 +1,12 @@
 -- The jobs whose drive is in a file, or behind a device.
-use Rattle.std.specs.Prelude.{◌≡◌, List, codes, string_bytes}
-use Rattle.clap.specs.Words.{Row, Text}
+use Rattle.std.specs.Prelude.{◌≡◌, List, Some, codes, string_bytes}
+use Rattle.clap.specs.Words.{Row, Text, first_of}
 use Rattle.copy_jobs.specs.declared.job.CopyJob.{CopyJob}
 use Rattle.copy_jobs.specs.declared.job.CopyJob.TheVariants as copies
+use Rattle.device_jobs.specs.declared.job.ConvertJob.{ConvertJob}
 use Rattle.nbd_jobs.specs.declared.job.NbdJob.{NbdJob}
 use Rattle.command_line.specs.declared.place.Place.{Place}
-use Rattle.command_line.specs.Values.{HasDrive, HasFlag, HasHabit, HasNumberIf, HasNumberOr, HasStop}
+use Rattle.command_line.specs.Values.{HasDrive, HasFlag, HasHabit, HasImage, HasNumberIf, HasNumberOr, HasStop}
 
 pub record AsksForNbd (place : Place) (rows : List Row) (job : NbdJob) : Type 0 where
   pub path : HasDrive place rows (string_bytes job.image)
@@ -24,3 +25,8 @@ AsksForCopy place name rows (copies.Export job) =
 AsksForCopy place name rows (copies.Import job) =
     (name ≡ codes "import") × HasDrive place rows (string_bytes job.image) × HasNumberIf rows (codes "blocks") job.blocks
     × HasNumberOr 0 rows (codes "first") job.first × HasFlag rows (codes "sparse") job.sparse × HasFlag rows (codes "progress") job.progress
+
+-- A drive is put into another file, whose path is given too.
+pub record AsksForConvert (rows : List Row) (job : ConvertJob) : Type 0 where
+  pub image : HasImage rows (string_bytes job.image)
+  pub to_is : first_of (codes "to") rows ≡ Some (string_bytes job.to)

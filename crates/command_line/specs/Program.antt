@@ -128,6 +128,9 @@ abbrev pub import_words : Shape
 import_words = with_options (codes "import")
     (image ∷ device ∷ optional blocks ∷ optional (number (codes "first") below_2_63) ∷ flag (codes "sparse") ∷ flag (codes "progress") ∷ [])
 
+abbrev pub convert_words : Shape
+convert_words = with_options (codes "convert") (valued (codes "image") ∷ valued (codes "to") ∷ [])
+
 abbrev pub fresh_words : Bor (List (Bor Text)) → Shape
 fresh_words names = with_options (codes "fresh") (parts true ++ blocks ∷ flag (codes "report") ∷ flag (codes "statistics") ∷ habit names ∷ stops)
 
@@ -138,7 +141,7 @@ fresh_raw names = with_options (codes "fresh-raw") (parts true ++ habit names �
 abbrev pub program : Bor (List (Bor Text)) → App
 program names = record {
   top = record (new_shape (codes "zonedisk")) { is_leaf = false; has_version = true; subcommand_required = true };
-  subs = format ∷ run names ∷ nbd names ∷ export_words ∷ import_words ∷ report_words ∷ check_words ∷ info_words ∷ plan_words ∷ nvme names
+  subs = format ∷ run names ∷ nbd names ∷ export_words ∷ import_words ∷ convert_words ∷ report_words ∷ check_words ∷ info_words ∷ plan_words ∷ nvme names
       ∷ entry ∷ fresh_words names ∷ fresh_raw names ∷ [];
 }
 

@@ -11,11 +11,11 @@ use Rattle.tool_jobs.specs.declared.job.ToolJob.{ToolJob}
 use Rattle.tool_jobs.specs.declared.job.ToolJob.TheVariants as tools
 use Rattle.command_line.specs.declared.task.Task.{Task}
 use Rattle.command_line.specs.declared.place.Place.TheVariants as places
-use Rattle.command_line.specs.declared.task.Task.TheVariants.{Lines, Nbd, Copy, Tool}
+use Rattle.command_line.specs.declared.task.Task.TheVariants.{Lines, Nbd, Copy, Tool, Convert}
 use Rattle.command_line.specs.declared.task.Task.TheVariants as tasks
 use Rattle.command_line.specs.Program.{habit_names, program}
 use Rattle.command_line.specs.DeviceWords.{AsksForDevice, AsksForNew}
-use Rattle.command_line.specs.DriveWords.{AsksForCopy, AsksForNbd}
+use Rattle.command_line.specs.DriveWords.{AsksForConvert, AsksForCopy, AsksForNbd}
 use Rattle.command_line.specs.EntryWords.{AsksForEntry}
 use Rattle.command_line.specs.ToolWords.{AsksForCheck, AsksForFormat, AsksForInfo, AsksForPlan, HasZonesForm}
 use Rattle.command_line.specs.Values.{HasFlag, HasGeometry, HasHabit, HasImage, HasNumber, HasStop, is_set}
@@ -54,6 +54,7 @@ AsksForFile name rows (Lines job) = AsksForJob name rows job
 AsksForFile name rows (Nbd job) = (name ≡ codes "nbd") × AsksForNbd places.File rows job
 AsksForFile name rows (Copy job) = AsksForCopy places.File name rows job
 AsksForFile name rows (Tool job) = AsksForTool name rows job
+AsksForFile name rows (Convert job) = (name ≡ codes "convert") × AsksForConvert rows job
 AsksForFile name rows (tasks.Device job) = (name ≡ codes "format") × AsksForNew rows job
 
 -- The same of each task. A job on a device is asked for exactly if one is named; a new drive in a file only if none is.

@@ -1,7 +1,7 @@
 ghost use Rattle.std.specs.Prelude.{◌≡◌, [], ◌∷◌, ◌++◌, false, IfOk, codes};
 ghost use Rattle.clap.specs.Words.{Shape, app_of, rule_of};
 ghost use Rattle.command_line.specs.Program.{AddsOptions, AddsSubcommand, IsCommand, aims, below_2_63};
-ghost use Rattle.command_line.specs.Program.{blocks, check_words, device, entry, entry_numbers, export_words, flag};
+ghost use Rattle.command_line.specs.Program.{blocks, check_words, convert_words, device, entry, entry_numbers, export_words, flag};
 ghost use Rattle.command_line.specs.Program.{format, fresh_raw, fresh_words, given_first, habit, image};
 ghost use Rattle.command_line.specs.Program.{import_words, info_words, limits, nbd, number, nvme, optional};
 ghost use Rattle.command_line.specs.Program.{part, parts, plan_words, program, report_words, run, shape, stops};
@@ -35,6 +35,11 @@ const EXPORT_EXAMPLE: &str = "Example:
 
 const IMPORT_EXAMPLE: &str = "Example:
   zonedisk import --image my.drive --sparse < my.blocks";
+
+const CONVERT_EXAMPLE: &str = "Example:
+  zonedisk convert --image my.image --to my.drive
+
+A drive of an image is put into a new file in which it stays, and one that stays in its file into a new image.";
 
 const REPORT_EXAMPLE: &str = "Example:
   zonedisk report --image my.drive";
@@ -171,6 +176,19 @@ fn text_option<'a>(alloc: Global, name: &'a str, letter: &'a str, help: &'a str)
         .long(name)
         .value_name(letter)
         .help(help)
+        .action(ArgAction::Set)
+}
+
+/// An option that takes a text, and has to be given.
+fn needed_option<'a>(alloc: Global, name: &'a str, letter: &'a str, help: &'a str) -> Arg<'a>
+    ensures rule { rule_of result ≡ valued name.entry.now }
+    ensures local { result.global ≡ false }
+{
+    Arg::new(alloc, name)
+        .long(name)
+        .value_name(letter)
+        .help(help)
+        .required(true)
         .action(ArgAction::Set)
 }
 
@@ -338,6 +356,18 @@ fn import_command<'a>(alloc: Global) -> Result<Command<'a>, AllocError>
         .arg(count_option(alloc, "first", "L", first))?
         .arg(flag(alloc, "sparse", sparse))?
         .arg(flag(alloc, "progress", PROGRESS_HELP))
+}
+
+fn convert_command<'a>(alloc: Global) -> Result<Command<'a>, AllocError>
+    ensures { IfOk result (λ new. IsCommand convert_words new) }
+{
+    let image = "The file with the drive or its image, which is only read";
+    let to = "The new file, of the other kind; nothing may be there";
+    Command::new(alloc, "convert")
+        .about("Puts the drive of an image into a file in which it stays, or back into an image")
+        .after_help(CONVERT_EXAMPLE)
+        .arg(needed_option(alloc, "image", "P", image))?
+        .arg(needed_option(alloc, "to", "Q", to))
 }
 
 fn report_command<'a>(alloc: Global) -> Result<Command<'a>, AllocError>
@@ -533,6 +563,7 @@ pub fn program<'a>(alloc: Global, habits: &'a [&'a str]) -> Result<Command<'a>, 
     let command = with_subcommand(command, nbd_command(alloc, habits))?;
     let command = with_subcommand(command, export_command(alloc))?;
     let command = with_subcommand(command, import_command(alloc))?;
+    let command = with_subcommand(command, convert_command(alloc))?;
     let command = with_subcommand(command, report_command(alloc))?;
     let command = with_subcommand(command, check_command(alloc))?;
     let command = with_subcommand(command, info_command(alloc))?;
@@ -555,6 +586,7 @@ pub fn subcommand_named<'a>(
         "nbd" => nbd_command(alloc, habits)?,
         "export" => export_command(alloc)?,
         "import" => import_command(alloc)?,
+        "convert" => convert_command(alloc)?,
         "report" => report_command(alloc)?,
         "check" => check_command(alloc)?,
         "info" => info_command(alloc)?,

@@ -59,6 +59,7 @@ fn run_job(alloc: Global, matches: &ArgMatches<'_>) -> Result<DeviceJob, WordFau
         statistics: has_flag(matches, "statistics"),
         stop,
         habit: habit_of(matches),
+        read_only: false,
         progress: has_flag(matches, "progress"),
     }))
 }
@@ -92,6 +93,7 @@ fn nvme_job(alloc: Global, matches: &ArgMatches<'_>) -> Result<DeviceJob, WordFa
         device: drive_path(alloc, Place::Device, matches)?,
         explain: has_flag(matches, "explain"),
         habit: habit_of(matches),
+        sync: false,
     })
 }
 

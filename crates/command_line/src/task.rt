@@ -1,5 +1,5 @@
 use copy_jobs::CopyJob;
-use device_jobs::DeviceJob;
+use device_jobs::{ConvertJob, DeviceJob};
 use disk_jobs::Job;
 use nbd_jobs::NbdJob;
 use tool_jobs::ToolJob;
@@ -15,6 +15,8 @@ pub enum Task {
     Copy(CopyJob),
     /// A tool that looks at a drive, or plans one.
     Tool(ToolJob),
+    /// A drive that is put into a file of the other kind.
+    Convert(ConvertJob),
     /// A job on the drive of a device, and not on one in a file. Or a new drive is made that stays in its file.
     Device(DeviceJob),
 }

@@ -4,7 +4,7 @@ ghost use Rattle.std.specs.Char.{is_ascii_digit};
 ghost use Rattle.clap.specs.Words.{first_of, found_of, rows_of, subcommand_rows_of};
 ghost use Rattle.command_line.specs.Values.{Finds, HasFlag, HasGeometry, HasHabit, HasImage, HasNumber};
 ghost use Rattle.command_line.specs.Values.{HasNumberIf, HasNumberOr, HasStop, IsNumber, is_set, named_habit};
-ghost use Rattle.command_line.specs.DriveWords.{AsksForCopy, AsksForNbd};
+ghost use Rattle.command_line.specs.DriveWords.{AsksForConvert, AsksForCopy, AsksForNbd};
 ghost use Rattle.command_line.specs.Words.{AsksFor, AsksForFile, AsksForJob, IsAnswerTo};
 ghost use Rattle.command_line.specs.declared.words.WordFault.TheVariants.{Memory};
 
@@ -17,6 +17,7 @@ use crate::task::Task;
 use crate::tools::{check_job, info_job, is_set, plan_tool, zones_form};
 use clap::{ArgMatches, Error};
 use copy_jobs::{CopyJob, ExportJob, ImportJob};
+use device_jobs::ConvertJob;
 use disk_jobs::{Habit, Job, Stop};
 use nbd_jobs::NbdJob;
 use std::alloc::{AllocError, Global};
@@ -365,6 +366,19 @@ pub fn import_job(
     }))
 }
 
+/// The job of `convert`.
+fn convert_job(alloc: Global, matches: &ArgMatches<'_>) -> Result<ConvertJob, WordFault>
+    ensures { Finds (AsksForConvert (rows_of (found_of matches.now))) result }
+{
+    let Some(to) = given(matches, "to") else {
+        return Err(WordFault::Lacks("to"));
+    };
+    Ok(ConvertJob {
+        image: image(alloc, matches)?,
+        to: String::from_str(alloc, to)?,
+    })
+}
+
 /// What a subcommand asks for without a device.
 fn file_task(alloc: Global, name: &str, matches: &ArgMatches<'_>) -> Result<Task, WordFault>
     ensures { Finds (AsksForFile name.now (rows_of (found_of matches.now))) result }
@@ -377,6 +391,7 @@ fn file_task(alloc: Global, name: &str, matches: &ArgMatches<'_>) -> Result<Task
         "check" => Ok(Task::Tool(ToolJob::Check(check_job(alloc, place, matches)?))),
         "info" => Ok(Task::Tool(ToolJob::Info(info_job(alloc, place, matches)?))),
         "plan" => Ok(Task::Tool(plan_tool(alloc, matches)?)),
+        "convert" => Ok(Task::Convert(convert_job(alloc, matches)?)),
         "report" => report_task(alloc, matches),
         "format" => format_task(alloc, matches),
         "entry" => Ok(Task::Tool(ToolJob::Entry(entry_words(alloc, matches)?))),

@@ -1,2 +1,3 @@
 pub mod FormatLaws
 pub mod FormatFaultLaws
+pub mod ShownLaws

@@ -28,9 +28,9 @@ Hardens flushes syncs old (Ok done) new = FlushesBy flushes old (Ok tt) new × (
 Hardens flushes syncs old (Err (faults.Drive fault)) new = FlushesBy flushes old (Err fault) new × (syncs.after ≡ syncs.before)
 Hardens flushes syncs old (Err faults.Medium) new = FlushesBy flushes old (Ok tt) new × (syncs.before ≤ syncs.after)
 
--- A session is served over a device, and then the drive is flushed where a sync of its medium is that.
+-- A session is served over a device, read only if the job says so. Then the drive is flushed where a sync of its medium is that.
 pub record ServesAndFlushes (job : NbdJob) (bytes : Streams) (syncs : SyncsDone) (old : DriveState)
     (ended : Result (Unit {0}) NbdFault) (flushed : Result (Unit {0}) PortFault) (new : DriveState) : Type 0 where
   pub left : DriveState
-  pub serves : ServesStopping false job bytes syncs (stopping job.stop old) ended left
+  pub serves : ServesStopping job.read_only job bytes syncs (stopping job.stop old) ended left
   pub flushes : FlushesBy syncs.flushes left flushed new

@@ -1,5 +1,6 @@
 pub mod Ways
 pub mod Reports
+pub mod Shown
 pub mod Runs
 pub mod Looks
 pub mod Copies

@@ -16,10 +16,10 @@ use Rattle.tool_jobs.specs.declared.fault.ToolFault.TheVariants as tools
 use Rattle.device_jobs.specs.declared.job.DeviceRun.{DeviceRun}
 use Rattle.device_jobs.specs.Reports.{IsUnreported, TellsReport}
 
--- all lines of a trace are taken, and then it is told what was counted if that is asked for
-abbrev pub RunsAsked : Bool → ℕ → Stopping → Exchange → Result (Unit {0}) RunFault → DriveState → Type 0
-RunsAsked true blocks device bytes ended new = RunsCounted false blocks device bytes ended new
-RunsAsked false blocks device bytes ended new = RunsTrace false blocks device bytes ended new
+-- All lines of a trace are taken, or only those that read. Then it is told what was counted if that is asked for.
+abbrev pub RunsAsked : Bool → Bool → ℕ → Stopping → Exchange → Result (Unit {0}) RunFault → DriveState → Type 0
+RunsAsked true only_reads blocks device bytes ended new = RunsCounted only_reads blocks device bytes ended new
+RunsAsked false only_reads blocks device bytes ended new = RunsTrace only_reads blocks device bytes ended new
 
 -- what a fault of a report is to a run
 abbrev pub run_fault : ToolFault → RunFault
@@ -43,6 +43,6 @@ pub record AnswersTrace (job : DeviceRun) (bytes : Exchange) (old : DriveState) 
   pub ran : Result (Unit {0}) RunFault
   pub middle : Known
   pub left : DriveState
-  pub runs : RunsAsked job.statistics job.blocks (stopping job.stop old) (record bytes { contents = middle }) ran left
+  pub runs : RunsAsked job.statistics job.read_only job.blocks (stopping job.stop old) (record bytes { contents = middle }) ran left
   pub tells : TellsMount job.blocks old ran told
   pub shows : ThenReports job.zones left ran middle ended new bytes.contents

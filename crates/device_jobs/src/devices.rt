@@ -8,7 +8,7 @@ use drive_port::Device;
 use nbd_session::Medium;
 use std::alloc::Global;
 use thiserror::Error;
-use zone_drive::Habit;
+use zone_drive::{Drive, Habit};
 use zone_states::Geometry;
 
 /// What a drive says that it is.
@@ -42,6 +42,9 @@ pub enum RawFault {
     /// The drive did not answer the command. What it did of it is not known.
     #[error("the drive did not answer: what it did of the command is not known")]
     Unanswered,
+    /// The drive completed the command, but not the Flush after it.
+    #[error("the command was done, but not the Flush after it: a loss of power may lose it")]
+    Unflushed,
 }
 
 /// A drive to which entries are sent as they are. Nothing is promised of what it answers, and nothing is believed of
@@ -66,6 +69,9 @@ pub trait Devices {
     /// What makes durable what that drive has completed.
     type Medium: Medium + Drop;
 
+    /// The drive of a device that is only read.
+    type Reader: Device + Drop;
+
     /// The drive of a device to which entries are sent as they are.
     type Raw: RawDrive + Drop;
 
@@ -82,6 +88,16 @@ pub trait Devices {
     ) -> Result<OpenDevice<Self::Drive, Self::Medium>, DeviceFault>
         ensures { has_way self.now ≡ false → HasNoWay result };
 
+    /// Opens the device of this path to read it. A drive that stays in its file is left as it is there: what a mount
+    /// repairs is kept in memory, and is forgotten afterwards. A real drive is opened as [`Devices::open`] does it.
+    fn open_reader(
+        &self,
+        alloc: Global,
+        path: &str,
+        habit: Habit,
+    ) -> Result<Self::Reader, DeviceFault>
+        ensures { has_way self.now ≡ false → HasNoWay result };
+
     /// Opens the device of this path to send entries to it as they are. The habit is that of [`Devices::open`].
     fn open_raw(&self, alloc: Global, path: &str, habit: Habit) -> Result<Self::Raw, DeviceFault>
         ensures { has_way self.now ≡ false → HasNoWay result };
@@ -89,5 +105,14 @@ pub trait Devices {
     /// Makes a new drive of this shape, in which nothing is written. It stays in the file of this path, and is refused
     /// where something is there. A way to real drives makes none.
     fn create(&self, path: &str, geometry: &Geometry) -> Result<(), DeviceFault>
+        ensures { has_way self.now ≡ false → HasNoWay result };
+
+    /// Makes a new drive with the zones of this one, which stays in the file of this path. It is refused where
+    /// something is there.
+    fn store(&self, path: &str, drive: &Drive) -> Result<(), DeviceFault>
+        ensures { has_way self.now ≡ false → HasNoWay result };
+
+    /// The drive in memory with the zones of the one that stays in the file of this path. The file is not changed.
+    fn load(&self, alloc: Global, path: &str) -> Result<Drive, DeviceFault>
         ensures { has_way self.now ≡ false → HasNoWay result };
 }

@@ -2,7 +2,8 @@ use copy_jobs::CopyJob;
 use disk_jobs::Stop;
 use nbd_jobs::NbdJob;
 use nvme_wire::ZoneState;
-use tool_jobs::{CheckJob, InfoJob};
+use tool_jobs::{CheckJob, InfoJob, PlanForm, ZonesJob};
+use write_plan::Aim;
 use zone_drive::Habit;
 use zone_states::Geometry;
 
@@ -20,8 +21,18 @@ pub struct DeviceRun {
     pub stop: Stop,
     /// Which zones the drive closes by itself. A real drive has its own habit.
     pub habit: Habit,
+    /// Whether only lines that read are taken. It cannot be chosen for a real drive.
+    pub read_only: bool,
     /// Whether people are told how many lines were read.
     pub progress: bool,
+}
+
+/// A drive that is put into a file of the other kind. Where the file of `image` holds an image, the drive stays in the
+/// new file `to`. Where it holds a drive that stays in it, `to` is an image.
+#[derive(Debug, PartialEq, Eq, Drop)]
+pub struct ConvertJob {
+    pub image: String,
+    pub to: String,
 }
 
 /// What is asked of the drive behind a device, or of one that stays in its file. A job that is also one of an image has
@@ -45,20 +56,28 @@ pub enum DeviceJob {
         device: String,
         state: Option<ZoneState>,
     },
+    /// Shows the zones of the drive in another form. A Full zone is shown as written in full.
+    Zones(ZonesJob),
     /// Sends the entry of each raw line to the drive as it is. With `explain` people are told the status of each
-    /// completion.
+    /// completion. With `sync` a Flush follows each entry that may change the drive, before its completion is shown.
     Nvme {
         device: String,
         explain: bool,
         habit: Habit,
+        sync: bool,
     },
-    /// Serves the drive by the Network Block Device protocol. `read_only` is always false: it cannot be chosen for a
-    /// device.
+    /// Serves the drive by the Network Block Device protocol. `read_only` cannot be chosen for a real drive.
     Nbd(NbdJob),
     /// Shows all faults of the drive.
     Check(CheckJob),
     /// Shows what the drive holds.
     Info(InfoJob),
+    /// Shows what numbers of logical blocks cost on the drive.
+    Plan {
+        device: String,
+        aim: Aim,
+        form: PlanForm,
+    },
     /// Copies blocks out of the drive, or into it.
     Copy(CopyJob),
 }
@@ -69,12 +88,14 @@ impl DeviceJob {
         match self {
             DeviceJob::Format { device, .. }
             | DeviceJob::Report { device, .. }
+            | DeviceJob::Plan { device, .. }
             | DeviceJob::Nvme { device, .. } => device.as_str(),
             DeviceJob::Create { image, .. } => image.as_str(),
             DeviceJob::Run(job) => job.device.as_str(),
             DeviceJob::Nbd(job) => job.image.as_str(),
             DeviceJob::Check(job) => job.image.as_str(),
             DeviceJob::Info(job) => job.image.as_str(),
+            DeviceJob::Zones(job) => job.image.as_str(),
             DeviceJob::Copy(job) => job.image(),
         }
     }

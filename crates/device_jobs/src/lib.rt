@@ -11,7 +11,7 @@
 //! over every `Device` of `drive_port`, and so over a drive in memory.
 //!
 //! A drive that stays in its file is opened by such a way, too. It alone can be made: [`DeviceJob::Create`] is done by
-//! the way itself.
+//! the way itself. And it alone can be read without a change: what only reads opens it by [`Devices::open_reader`].
 //!
 //! No drive is restarted before a job, and none is saved after it: the drive itself keeps what is done.
 //!
@@ -19,15 +19,16 @@
 //!
 //! Over every device, medium, reader and writer:
 //!
-//! * [`run_device`] mounts the drive, and answers the lines of a trace as `disk_runs` promises (`specs/Runs.antt`).
-//!   Then the zones of the drive are shown by a report of it, if they are asked for.
-//! * [`serve_device`] serves the drive as `nbd_session` promises. Each sync of the session is one of the medium, or a
+//! * [`run_device`] mounts the drive, and answers the lines of a trace as `disk_runs` promises: all, or those that read
+//!   (`specs/Runs.antt`). Then the zones of the drive are shown by a report of it, if they are asked for.
+//! * [`serve_device`] serves the drive as `nbd_session` promises, read only where that is asked for. Each sync of the session is one of the medium, or a
 //!   Flush of the drive that the medium counts. [`serve_flushed`] also flushes such a drive at the end.
 //! * [`export_device`] exports the blocks of the disk (`specs/Copies.antt`). The array stays. `import_mounted` of
 //!   `copy_jobs` imports them.
 //! * [`check_device`] finds all faults of the drive, and [`inform_device`] what it holds (`specs/Looks.antt`).
 //!   [`answer_report`] shows its zones (`specs/Reports.antt`). No zone is changed, but that a controller may close
-//!   some.
+//!   some. [`show_zones`] shows them in other forms (`specs/Shown.antt`). [`plan_device`] plans a drive of its shape, as
+//!   `tool_jobs` does.
 //! * [`format_device`] leaves a drive whose zones are all Empty, if it answers `Ok`. Without `force` it changes no
 //!   zone, nor where a zone is Read Only or Offline. Whatever it answers, each zone holds what it held, or is Empty
 //!   (`specs/Formats.antt`). No contract says what it tells on standard error.
@@ -54,6 +55,7 @@ mod raw;
 mod reporting;
 mod running;
 mod serving;
+mod showing;
 
 pub use copying::export_device;
 pub use devices::{Devices, DriveName, OpenDevice, RawDrive, RawFault};
@@ -62,10 +64,11 @@ pub use fault::{DeviceFault, StartCommand, write_device_fault};
 pub use format_fault::{FormatFault, Holding, NamedDrive, Written};
 pub use formatting::format_device;
 pub use hardening::{HardenFault, harden};
-pub use job::{DeviceJob, DeviceRun};
-pub use looking::{check_device, inform_device};
+pub use job::{ConvertJob, DeviceJob, DeviceRun};
+pub use looking::{check_device, inform_device, plan_device};
 pub use no_devices::{NoDevices, NoRawDrive};
 pub use raw::{SendFault, send_lines};
 pub use reporting::answer_report;
 pub use running::{run_device, run_fault};
 pub use serving::{Flushed, Served, serve_client, serve_device, serve_flushed};
+pub use showing::{ShownDrive, show_zones};

@@ -1,9 +1,10 @@
-// What the drive behind a device holds. No zone is changed, but that the controller may close some.
+// What the drive behind a device holds, and what it can hold. No zone is changed, but that the controller may close some.
 
 ghost use Rattle.std.specs.Prelude.{◌≡◌, IfErr, IfOk, OnOk};
 ghost use Rattle.drive_check.specs.Findings.{AreFindings};
 ghost use Rattle.drive_survey.specs.Reported.{KeepsZones};
 ghost use Rattle.tool_jobs.specs.Telling.{TellsFound, TellsNothing};
+ghost use Rattle.tool_jobs.specs.Plans.{IsPlanOf, IsUnplanned};
 ghost use Rattle.device_jobs.specs.Looks.{AreFindingsOf, HoldsInfo, IsUnasked};
 
 use drive_check::{Findings, check_drive};
@@ -11,7 +12,9 @@ use drive_info::{DriveInfo, inspect_drive};
 use drive_port::Device;
 use std::alloc::Global;
 use std::io::Write;
-use tool_jobs::{Form, ToolFault, blocks_taken, interrupted, tell};
+use tool_jobs::{Form, PlanRows, ToolFault, blocks_taken, interrupted, plan_of, tell};
+use write_plan::Aim;
+use zone_states::Geometry;
 
 /// All faults of a drive.
 fn find_faults<D: Device>(alloc: Global, blocks: u64, device: &mut D) -> Result<Findings, ToolFault>
@@ -76,4 +79,21 @@ pub fn inform_device<D: Device, F: Form<DriveInfo>, W: Write>(
 {
     let found = look(alloc, device)?;
     tell(alloc, form, &found, output)
+}
+
+/// Tells what numbers of logical blocks cost on a drive of this shape. Nothing is asked of the drive itself.
+pub fn plan_device<F: Form<PlanRows>, W: Write>(
+    alloc: Global,
+    geometry: Geometry,
+    aim: Aim,
+    form: &F,
+    output: &mut W,
+) -> Result<(), ToolFault>
+    ensures ok { OnOk result (TellsFound (IsPlanOf geometry aim) (F.shows form.now)
+        (W.contents output.old) (W.contents output.new)) }
+    ensures err { IfErr result (λ fault. TellsNothing (IsUnplanned geometry aim) (IsPlanOf geometry aim)
+        (F.shows form.now) fault (W.contents output.old) (W.contents output.new)) }
+{
+    let plan = plan_of(alloc, geometry, aim)?;
+    tell(alloc, form, &plan, output)
 }

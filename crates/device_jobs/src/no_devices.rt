@@ -34,6 +34,8 @@ impl Devices for NoDevices {
 
     type Medium = WriteThrough;
 
+    type Reader = Drive;
+
     type Raw = NoRawDrive;
 
     ghost has_way = { λ _. false };
@@ -47,6 +49,15 @@ impl Devices for NoDevices {
         Err(DeviceFault::NoWay)
     }
 
+    fn open_reader(
+        &self,
+        _alloc: Global,
+        _path: &str,
+        _habit: Habit,
+    ) -> Result<Drive, DeviceFault> {
+        Err(DeviceFault::NoWay)
+    }
+
     fn open_raw(
         &self,
         _alloc: Global,
@@ -57,6 +68,14 @@ impl Devices for NoDevices {
     }
 
     fn create(&self, _path: &str, _geometry: &Geometry) -> Result<(), DeviceFault> {
+        Err(DeviceFault::NoWay)
+    }
+
+    fn store(&self, _path: &str, _drive: &Drive) -> Result<(), DeviceFault> {
+        Err(DeviceFault::NoWay)
+    }
+
+    fn load(&self, _alloc: Global, _path: &str) -> Result<Drive, DeviceFault> {
         Err(DeviceFault::NoWay)
     }
 }

@@ -1,6 +1,6 @@
 // The drive behind a device, served to one client.
 
-ghost use Rattle.std.specs.Prelude.{◌≡◌, false, is_some};
+ghost use Rattle.std.specs.Prelude.{◌≡◌, is_some};
 ghost use Rattle.drive_port.specs.Stop.{drive_of};
 ghost use Rattle.nbd_session.specs.Streams.{streams};
 ghost use Rattle.disk_jobs.specs.Saved.{stopping};
@@ -28,8 +28,8 @@ pub struct Served {
     pub flushed: Result<(), PortFault>,
 }
 
-/// Mounts the drive behind a device, and serves it to a client. Each sync is one of the medium. The disk can be
-/// written, whatever `job.read_only` says.
+/// Mounts the drive behind a device, and serves it to a client, read only if the job says so. Each sync is one of the
+/// medium.
 pub fn serve_device<D: Device + Drop, M: Medium + Drop, R: Client, W: Write>(
     alloc: Global,
     job: &NbdJob,
@@ -38,7 +38,7 @@ pub fn serve_device<D: Device + Drop, M: Medium + Drop, R: Client, W: Write>(
     reader: &mut R,
     writer: &mut W,
 ) -> Ended<D, M>
-    ensures serves { ServesStopping false job.now
+    ensures serves { ServesStopping job.now.read_only job.now
         (streams (R.remaining reader.old) (R.remaining reader.new) (W.contents writer.old) (W.contents writer.new))
         (record {
           before = M.syncs medium;
@@ -52,7 +52,7 @@ pub fn serve_device<D: Device + Drop, M: Medium + Drop, R: Client, W: Write>(
     let kept = Kept {
         device,
         medium,
-        read_only: false,
+        read_only: job.read_only,
     };
     serve_stopping(alloc, job, kept, reader, writer)
 }

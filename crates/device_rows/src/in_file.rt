@@ -12,22 +12,26 @@ use std::rt::Files;
 use std::test::Fail;
 use zonedisk_program::do_task;
 
-// Drives in memory stand for the drives in these files. `other` begins with another version.
-const LINES: [&str; 15] = [
+// Drives in memory stand for the drives in these files. `other` begins with another version, and `made` is an image that
+// a line makes.
+const LINES: [&str; 18] = [
     "zonedisk report --image disk",
     "zonedisk report --image disk --state full",
     "zonedisk report --image other",
     "zonedisk report --image disk --json",
+    "zonedisk report --image disk --brief",
     "zonedisk check --image disk",
     "zonedisk run --image disk --blocks 9 --zones --habit closing",
     "zonedisk run --image disk --blocks 9 --sync",
     "zonedisk run --image disk --blocks 9 --read-only",
     "zonedisk nvme --image disk --explain",
     "zonedisk nvme --image disk --sync",
-    "zonedisk nbd --image disk --read-only",
+    "zonedisk nbd --image other --read-only",
     "zonedisk export --image disk --count 0",
     "zonedisk import --image disk",
-    "zonedisk plan --image disk",
+    "zonedisk plan --image disk --blocks 9",
+    "zonedisk convert --image disk --to made",
+    "zonedisk convert --image made --to new",
     "zonedisk format --image disk --force --block 512 --zones 4 --size 8 --capacity 6 --transfer 4 \
      --active 2 --open 2",
 ];
@@ -62,6 +66,7 @@ pub fn show_in_place<R: Eprint + Files<File = File> + Input + Print>(
         show_task(rt, alloc, line, &NoDevices)?;
         show_task(rt, alloc, line, &MemoryDevices)?;
     }
+    fs::remove_file(rt, "made")?;
     fs::remove_file(rt, "disk")?;
     fs::remove_file(rt, "other")?;
     Ok(())

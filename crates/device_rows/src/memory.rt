@@ -59,6 +59,7 @@ fn with_disk(alloc: Global) -> Result<Drive, DeviceFault> {
         statistics: false,
         stop: Stop::NEVER,
         habit: Habit::Lazy,
+        read_only: false,
         progress: false,
     };
     let mut lines = LineReader::new(alloc, b"fill 0 3 61\n".as_slice());
@@ -130,6 +131,8 @@ impl Devices for MemoryDevices {
 
     type Medium = WriteThrough;
 
+    type Reader = Drive;
+
     type Raw = RawMemory;
 
     ghost has_way = { λ _. true };
@@ -150,6 +153,12 @@ impl Devices for MemoryDevices {
         })
     }
 
+    fn open_reader(&self, alloc: Global, path: &str, habit: Habit) -> Result<Drive, DeviceFault> {
+        let mut drive = drive_of(alloc, path)?;
+        drive.set_habit(habit);
+        Ok(drive)
+    }
+
     fn open_raw(&self, alloc: Global, path: &str, habit: Habit) -> Result<RawMemory, DeviceFault> {
         let mut drive = drive_of(alloc, path)?;
         drive.set_habit(habit);
@@ -168,5 +177,13 @@ impl Devices for MemoryDevices {
             "new" => Ok(()),
             _ => Err(DeviceFault::Exists),
         }
+    }
+
+    fn store(&self, path: &str, drive: &Drive) -> Result<(), DeviceFault> {
+        self.create(path, &drive.geometry())
+    }
+
+    fn load(&self, alloc: Global, path: &str) -> Result<Drive, DeviceFault> {
+        drive_of(alloc, path)
     }
 }

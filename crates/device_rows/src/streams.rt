@@ -27,11 +27,17 @@ fn show_run<R: Print>(rt: &R, alloc: Global, job: &DeviceRun, lines: &[u8]) -> R
 }
 
 // Sends raw lines.
-fn show_sent<R: Print>(rt: &R, alloc: Global, path: &str, lines: &[u8]) -> Result<(), Fail> {
+fn show_sent<R: Print>(
+    rt: &R,
+    alloc: Global,
+    path: &str,
+    sync: bool,
+    lines: &[u8],
+) -> Result<(), Fail> {
     let mut written = Vec::new(alloc);
     let mut reader = LineReader::new(alloc, lines);
     let mut raw = MemoryDevices.open_raw(alloc, path, Habit::Lazy)?;
-    let sent = send_lines(alloc, &mut raw, &mut reader, &mut written);
+    let sent = send_lines(alloc, sync, &mut raw, &mut reader, &mut written);
     print!(rt; "{}", std::str::from_utf8(&written)?)?;
     println!(rt; "{sent:?}")?;
     Ok(())
@@ -85,7 +91,7 @@ pub fn show_streams<R: Print>(
 ) -> Result<bool, Fail> {
     match job {
         DeviceJob::Run(job) => show_run(rt, alloc, job, lines)?,
-        DeviceJob::Nvme { device, .. } => show_sent(rt, alloc, device, lines)?,
+        DeviceJob::Nvme { device, sync, .. } => show_sent(rt, alloc, device, *sync, lines)?,
         DeviceJob::Nbd(job) => show_served(rt, alloc, job, lines)?,
         DeviceJob::Copy(CopyJob::Export(job)) => show_exported(rt, alloc, job)?,
         DeviceJob::Copy(CopyJob::Import(job)) => show_imported(rt, alloc, job, lines)?,

@@ -168,8 +168,9 @@ pub fn image_to_save<F: Files<File = File>>(
     Ok((image, bytes))
 }
 
-/// Makes an empty file for an image. It is removed again where it cannot be locked, unless another program has it.
-fn make<F: Files<File = File>>(
+/// Makes an empty file for an image, where nothing is yet. It is removed again where it cannot be locked, unless another
+/// program has it.
+pub fn new_image<F: Files<File = File>>(
     files: &F,
     alloc: Global,
     path: &str,
@@ -204,7 +205,7 @@ pub fn open_to_format<F: Files<File = File>>(
     force: bool,
 ) -> Result<ImageFile, FileFault> {
     match fs::symlink_metadata(files, path) {
-        Err(error) if error.kind() == ErrorKind::NotFound => return make(files, alloc, path),
+        Err(error) if error.kind() == ErrorKind::NotFound => return new_image(files, alloc, path),
         _ => {}
     }
     let image = open_to_save(files, alloc, path)?;

@@ -57,7 +57,7 @@ pub use changes_output::{ChangesOutput, SentAfter};
 pub use changes_store::ChangesStore;
 pub use file_end::{FileEnd, stays};
 pub use file_fault::{FileFault, SystemError};
-pub use image_file::{ImageFile, image_to_read, image_to_save, open_to_format};
+pub use image_file::{ImageFile, image_to_read, image_to_save, new_image, open_to_format};
 pub use input_gate::{Gate, GatedInput};
 pub use kept_drive::{Begun, DriveFile, keep, restarted_drive, saved_drive};
 pub use new_file::{Saved, Saving, save};

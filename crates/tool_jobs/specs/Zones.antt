@@ -4,7 +4,8 @@ use Rattle.nvme_wire.specs.declared.zone_state.ZoneState.{ZoneState}
 use Rattle.nvme_wire.specs.declared.command.ReportingOptions.TheVariants.{InState}
 use Rattle.zone_report.specs.Report.{report}
 use Rattle.zone_report.specs.ReportText.{IsTextOf}
-use Rattle.drive_port.specs.Drive.{DriveState}
+use Rattle.zone_states.specs.Zone.{Zone}
+use Rattle.zone_states.specs.declared.geometry.Geometry.{Geometry}
 use Rattle.zone_drive.specs.Habits.{MemoryDrive}
 use Rattle.drive_store.specs.Kept.{IsReadIn}
 use Rattle.tool_jobs.specs.Telling.{Bytes}
@@ -12,13 +13,17 @@ use Rattle.tool_jobs.specs.declared.showing.ZonesForm.{ZonesForm}
 use Rattle.tool_jobs.specs.declared.showing.ZonesForm.TheVariants.{Lines}
 
 -- the lines of a report of all zones in a state
-abbrev pub IsStateText : DriveState → ZoneState → List ℕ → Type 0
-IsStateText drive state text = IsTextOf (report drive.geometry drive.zones 0 (InState state) false (16 * (drive.geometry.zones + 1))) text
+abbrev pub IsStateText : Geometry → List Zone → ZoneState → List ℕ → Type 0
+IsStateText geometry zones state text = IsTextOf (report geometry zones 0 (InState state) false (16 * (geometry.zones + 1))) text
 
--- The text of a form. Of the other forms nothing is said.
+-- The text of a form, for zones of a drive of this shape. Of the other forms nothing is said.
+abbrev pub ShowsForm : ZonesForm → Geometry → List Zone → List ℕ → Type 0
+ShowsForm (Lines state) geometry zones text = IsStateText geometry zones state text
+ShowsForm form geometry zones text = ⊤
+
+-- the same for a drive in memory
 abbrev pub ShowsZones : ZonesForm → MemoryDrive → List ℕ → Type 0
-ShowsZones (Lines state) drive text = IsStateText drive.state state text
-ShowsZones form drive text = ⊤
+ShowsZones form drive text = ShowsForm form drive.state.geometry drive.state.zones text
 
 -- the drive in the file, as it was saved
 abbrev pub IsSavedDrive : Bytes → MemoryDrive → Type 0

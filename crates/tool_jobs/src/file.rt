@@ -11,7 +11,7 @@ use std::io::Write;
 use std::rt::Files;
 
 /// What a fault of a file is to a tool: that memory ran out is told as such.
-fn told(fault: FileFault) -> ToolFault {
+pub(crate) fn told(fault: FileFault) -> ToolFault {
     if fault.is_memory() {
         return ToolFault::Memory;
     }

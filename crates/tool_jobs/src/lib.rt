@@ -12,9 +12,9 @@
 //!
 //! * [`answer_check`]: all faults of a drive, and whether a mount would be done.
 //! * [`answer_info`]: what a drive holds, and what a mount takes.
-//! * [`answer_plan`]: what numbers of logical blocks cost on a drive.
+//! * [`answer_plan`]: what numbers of logical blocks cost on a drive. [`plan_of`] plans one of a given shape.
 //! * [`answer_format`]: the words that make a drive for a number of bytes.
-//! * [`answer_zones`]: the zones of a drive, as they were saved.
+//! * [`answer_zones`]: the zones of a drive, as they were saved. [`zones_text`] is their text.
 //! * [`answer_picture`]: the same as a picture, with the live blocks of each zone.
 //! * [`answer_entry`]: the raw line of an entry.
 //!
@@ -30,7 +30,8 @@
 //! * The lines of the zones in a state are those of a report of that state. What the other forms say is tested.
 //! * A picture is given the live blocks of each zone (`specs/Pictures.antt`). That it draws them is tested.
 //!
-//! Nothing is promised of [`do_tool_job`], since no contract says what a file holds.
+//! Nothing is promised of [`do_tool_job`], since no contract says what a file holds. Nor is it of [`drive_in_image`] and
+//! [`make_image`], which read an image file and make one: what stands in their bytes is promised by `drive_store`.
 #![tactic(auto)]
 
 mod answering;
@@ -40,6 +41,7 @@ mod explanation;
 mod fault;
 mod file;
 mod form;
+mod images;
 mod informing;
 mod job;
 mod notes;
@@ -55,10 +57,11 @@ pub use explanation::explain;
 pub use fault::ToolFault;
 pub use file::do_tool_job;
 pub use form::Form;
+pub use images::{drive_in_image, make_image};
 pub use informing::{InfoForm, answer_info, blocks_taken};
 pub use job::{CheckJob, InfoJob, PlanJob, PlannedDrive, ToolJob, ZonesJob};
 pub use notes::tool_note;
-pub use picturing::{Picture, PicturedDrive, answer_picture};
-pub use planning::{FormatLine, PlanForm, PlanRows, answer_format, answer_plan};
-pub use showing::{ZonesForm, answer_zones};
+pub use picturing::{Picture, PicturedDrive, answer_picture, find_live};
+pub use planning::{FormatLine, PlanForm, PlanRows, answer_format, answer_plan, plan_of};
+pub use showing::{ZonesForm, answer_zones, zones_text};
 pub use telling::tell;

@@ -9,7 +9,7 @@ use crate::checking::interrupted;
 use crate::fault::ToolFault;
 use crate::form::Form;
 use crate::informing::blocks_taken;
-use crate::showing::drive_svg;
+use crate::showing::{ZonesForm, zones_text};
 use crate::telling::tell;
 use drive_info::{Info, ZoneInfo, inspect_drive};
 use drive_port::Device;
@@ -38,7 +38,14 @@ impl Form<PicturedDrive> for Picture {
     ghost shows = { λ _ _ _. ⊤ };
 
     fn text(&self, alloc: Global, pictured: &PicturedDrive) -> Result<String, AllocError> {
-        drive_svg(alloc, &pictured.drive, &pictured.live)
+        let drive = &pictured.drive;
+        zones_text(
+            alloc,
+            ZonesForm::Svg,
+            drive,
+            drive.geometry(),
+            &pictured.live,
+        )
     }
 }
 
@@ -64,13 +71,13 @@ fn live_counts(alloc: Global, found: &Result<Info, MountFault>) -> Result<Vec<u3
 }
 
 /// How many live blocks with data each zone of a drive has; none if a mount is refused.
-fn find_live(alloc: Global, drive: &mut Drive) -> Result<Vec<u32>, ToolFault>
-    ensures ok { IfOk result (λ live. FindsLive drive.old.state live.items) }
-    ensures err { IfErr result (LooksNone drive.new.state) }
-    ensures kept { KeepsZones drive.old.state drive.new.state }
+pub fn find_live<D: Device>(alloc: Global, device: &mut D) -> Result<Vec<u32>, ToolFault>
+    ensures ok { IfOk result (λ live. FindsLive (D.drive device.old) live.items) }
+    ensures err { IfErr result (LooksNone (D.drive device.new)) }
+    ensures kept { KeepsZones (D.drive device.old) (D.drive device.new) }
 {
-    let given = blocks_taken(&drive.geometry());
-    match inspect_drive(alloc, drive, given) {
+    let given = blocks_taken(&device.geometry());
+    match inspect_drive(alloc, device, given) {
         Ok(info) => Ok(live_counts(alloc, &info.found)?),
         Err(fault) => Err(interrupted(fault)),
     }

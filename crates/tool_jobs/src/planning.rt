@@ -86,7 +86,7 @@ fn planned_shape<I: Read>(
 }
 
 /// The plan of a drive of this shape.
-fn plan_of(alloc: Global, geometry: Geometry, aim: Aim) -> Result<PlanRows, ToolFault>
+pub fn plan_of(alloc: Global, geometry: Geometry, aim: Aim) -> Result<PlanRows, ToolFault>
     ensures ok { IfOk result (IsPlanOf geometry aim) }
     ensures err { IfErr result (IsUnplanned geometry aim) }
 {

@@ -1,8 +1,8 @@
-// The zones of the drive in a file, in other forms than all lines of a report.
+// The zones of a drive, in other forms than all lines of a report.
 
-ghost use Rattle.std.specs.Prelude.{false, IfErr, IfOk, OnOk, string_bytes};
+ghost use Rattle.std.specs.Prelude.{◌≡◌, false, IfErr, IfOk, OnOk, length, string_bytes};
 ghost use Rattle.tool_jobs.specs.Telling.{HoldsNone, TellsFound, TellsNothing};
-ghost use Rattle.tool_jobs.specs.Zones.{IsSavedDrive, IsStateText};
+ghost use Rattle.tool_jobs.specs.Zones.{IsSavedDrive, IsStateText, ShowsForm};
 
 use crate::fault::ToolFault;
 use crate::form::{Form, as_line};
@@ -14,7 +14,8 @@ use report_forms::{brief_text, zones_json, zones_svg};
 use std::alloc::{AllocError, Global};
 use std::io::{Read, Write};
 use zone_drive::Drive;
-use zone_report::{report_bytes, report_text};
+use zone_report::{ReportedZones, report_bytes, report_text};
+use zone_states::Geometry;
 
 /// How the zones of a drive are shown.
 #[derive(Clone, Copy, Debug, PartialEq, Eq)]
@@ -25,31 +26,60 @@ pub enum ZonesForm {
     Brief,
     /// One object, with the names of nvme-cli: all zones, or those in a state.
     Json(Option<ZoneState>),
-    /// A picture, as SVG. [`answer_picture`](crate::answer_picture) adds the live blocks.
+    /// A picture, as SVG, with the live blocks.
     Svg,
 }
 
 /// The lines of a report of the zones in a state.
-fn state_lines(alloc: Global, drive: &Drive, state: ZoneState) -> Result<String, AllocError>
-    ensures { IfOk result (λ text. IsStateText drive.now.state state (string_bytes text)) }
+fn state_lines<Z: ReportedZones>(
+    alloc: Global,
+    zones: &Z,
+    geometry: Geometry,
+    state: ZoneState,
+) -> Result<String, AllocError>
+    requires { length (Z.zones zones.now) ≡ geometry.zones }
+    ensures { IfOk result (λ text. IsStateText geometry (Z.zones zones.now) state (string_bytes text)) }
 {
-    let geometry = drive.geometry();
     let dwords = 16 * (geometry.zones as u64 + 1);
     let options = ReportingOptions::InState(state);
-    let Ok(report) = report_bytes(alloc, drive, geometry, 0, options, false, dwords) else {
+    let Ok(report) = report_bytes(alloc, zones, geometry, 0, options, false, dwords) else {
         return Err(AllocError);
     };
     report_text(alloc, &report).or(Err(AllocError))
 }
 
-/// The picture of a drive, with these numbers of live blocks of its zones.
-pub(crate) fn drive_svg(alloc: Global, drive: &Drive, live: &[u32]) -> Result<String, AllocError> {
-    let geometry = drive.geometry();
-    // The geometry of a drive is in range.
+/// A picture of zones, with these numbers of live blocks. There is none where the geometry is out of range.
+fn svg_of<Z: ReportedZones>(
+    alloc: Global,
+    zones: &Z,
+    geometry: Geometry,
+    live: &[u32],
+) -> Result<String, AllocError>
+    requires { length (Z.zones zones.now) ≡ geometry.zones }
+{
     if geometry.check().is_err() {
         return Ok(String::new(alloc));
     }
-    zones_svg(alloc, drive, &geometry, live)
+    zones_svg(alloc, zones, &geometry, live)
+}
+
+/// The text of zones in a form. A picture shows the live blocks where their numbers are given.
+pub fn zones_text<Z: ReportedZones>(
+    alloc: Global,
+    form: ZonesForm,
+    zones: &Z,
+    geometry: Geometry,
+    live: &[u32],
+) -> Result<String, AllocError>
+    requires { length (Z.zones zones.now) ≡ geometry.zones }
+    ensures { IfOk result (λ text. ShowsForm form geometry (Z.zones zones.now) (string_bytes text)) }
+{
+    match form {
+        ZonesForm::Lines(state) => state_lines(alloc, zones, geometry, state),
+        ZonesForm::Brief => brief_text(alloc, zones, geometry.zones),
+        ZonesForm::Json(state) => as_line(zones_json(alloc, zones, geometry, state)?),
+        ZonesForm::Svg => svg_of(alloc, zones, geometry, live),
+    }
 }
 
 impl Form<Drive> for ZonesForm {
@@ -58,13 +88,7 @@ impl Form<Drive> for ZonesForm {
     ghost shows = { ShowsZones };
 
     fn text(&self, alloc: Global, drive: &Drive) -> Result<String, AllocError> {
-        let geometry = drive.geometry();
-        match self {
-            ZonesForm::Lines(state) => state_lines(alloc, drive, *state),
-            ZonesForm::Brief => brief_text(alloc, drive, geometry.zones),
-            ZonesForm::Json(state) => as_line(zones_json(alloc, drive, geometry, *state)?),
-            ZonesForm::Svg => drive_svg(alloc, drive, &[]),
-        }
+        zones_text(alloc, *self, drive, drive.geometry(), &[])
     }
 }
 

@@ -2,7 +2,7 @@
 use Rattle.std.specs.Prelude.{◌≡◌, Bool, true, false, Option, Some, None, ⊤}
 use Rattle.std.specs.Process.{exit_status}
 use Rattle.command_line.specs.declared.task.Task.{Task}
-use Rattle.command_line.specs.declared.task.Task.TheVariants.{Device}
+use Rattle.command_line.specs.declared.task.Task.TheVariants.{Convert, Device}
 use Rattle.device_jobs.specs.declared.job.DeviceJob.{DeviceJob}
 use Rattle.device_jobs.specs.declared.job.DeviceJob.TheVariants.{Create}
 use Rattle.std.specs.declared.process.ExitCode.{ExitCode}
@@ -31,17 +31,28 @@ way_of false ways = ways.devices
 abbrev pub reaches : Ways → DeviceJob → Bool
 reaches ways job = way_of (is_new job) ways
 
--- A job on a device, or on a new drive in a file, ends with the status 1 if there is no way to it.
+-- what needs a way ends with the status 1 if there is none
+abbrev pub EndsBy : Bool → ExitCode → Type 0
+EndsBy has_way ended = has_way ≡ false → exit_status ended ≡ 1
+
+-- A job on a device, or on a new drive in a file, needs a way to it. A drive that is put into another file needs a way
+-- to such files.
 abbrev pub EndsTask : Ways → Task → ExitCode → Type 0
-EndsTask ways (Device job) ended = reaches ways job ≡ false → exit_status ended ≡ 1
+EndsTask ways (Device job) ended = EndsBy (reaches ways job) ended
+EndsTask ways (Convert job) ended = EndsBy ways.files ended
 EndsTask ways task ended = ⊤
 
 -- The same of a job on a drive that stays in its file. Where there is no such job, it ends with the status 1.
 abbrev pub EndsJob : Ways → Option DeviceJob → ExitCode → Type 0
-EndsJob ways (Some job) ended = ways.files ≡ false → exit_status ended ≡ 1
+EndsJob ways (Some job) ended = EndsBy ways.files ended
 EndsJob ways None ended = exit_status ended ≡ 1
 
--- a task whose file begins as such a drive does is done in place, and any other as it is
+-- A task whose file begins as such a drive does is done in place. That drive may be put into an image.
+abbrev pub EndsInPlace : Ways → Task → ExitCode → Type 0
+EndsInPlace ways (Convert job) ended = EndsBy ways.files ended
+EndsInPlace ways task ended = EndsJob ways (counterpart task) ended
+
+-- any other task is done as it is
 abbrev pub EndsAsked : Bool → Ways → Task → ExitCode → Type 0
-EndsAsked true ways task ended = EndsJob ways (counterpart task) ended
+EndsAsked true ways task ended = EndsInPlace ways task ended
 EndsAsked false ways task ended = EndsTask ways task ended

@@ -4,15 +4,14 @@ ghost use Rattle.std.specs.Prelude.{◌≡◌, IfErr, IfOk, None, Some};
 ghost use Rattle.device_jobs.specs.declared.job.DeviceJob.TheVariants as jobs;
 ghost use Rattle.command_line.specs.declared.task.Task.TheVariants as tasks;
 ghost use Rattle.tool_jobs.specs.declared.job.ToolJob.TheVariants as tools;
-ghost use Rattle.zonedisk_program.specs.InPlace.{counterpart, lines_counterpart, served_counterpart, tool_counterpart};
-ghost use Rattle.zonedisk_program.specs.InPlace.{zones_counterpart};
+ghost use Rattle.zonedisk_program.specs.InPlace.{counterpart, lines_counterpart, plan_counterpart, tool_counterpart};
+ghost use Rattle.zonedisk_program.specs.InPlace.{zones_in};
 
 use command_line::Task;
 use device_jobs::{DeviceJob, DeviceRun};
 use disk_jobs::Job;
-use nbd_jobs::NbdJob;
 use nvme_wire::ZoneState;
-use tool_jobs::{ToolJob, ZonesForm, ZonesJob};
+use tool_jobs::{PlanJob, PlannedDrive, ToolJob, ZonesForm, ZonesJob};
 
 /// A report of the zones of a drive: all, or those in a state.
 fn report_job(device: String, state: Option<ZoneState>) -> DeviceJob
@@ -35,7 +34,7 @@ fn lines_in_place(job: Job) -> Result<DeviceJob, Task>
             stop,
             habit,
             sync: false,
-            read_only: false,
+            read_only,
             progress,
         } => Ok(DeviceJob::Run(DeviceRun {
             device: image,
@@ -44,6 +43,7 @@ fn lines_in_place(job: Job) -> Result<DeviceJob, Task>
             statistics,
             stop,
             habit,
+            read_only,
             progress,
         })),
         Job::Report { image } => Ok(report_job(image, None)),
@@ -51,35 +51,36 @@ fn lines_in_place(job: Job) -> Result<DeviceJob, Task>
             image,
             explain,
             habit,
-            sync: false,
+            sync,
         } => Ok(DeviceJob::Nvme {
             device: image,
             explain,
             habit,
+            sync,
         }),
         job => Err(Task::Lines(job)),
     }
 }
 
-/// A session of the Network Block Device protocol. A mount repairs the drive, so it is not only read.
-fn served_in_place(job: NbdJob) -> Result<DeviceJob, Task>
-    ensures ok { IfOk result (λ new. served_counterpart job ≡ Some new) }
-    ensures err { IfErr result (λ left. (left ≡ tasks.Nbd job) × (served_counterpart job ≡ None)) }
-{
-    if job.read_only {
-        return Err(Task::Nbd(job));
-    }
-    Ok(DeviceJob::Nbd(job))
-}
-
-/// The zones in a state. No other form is shown of a drive that stays in its file.
-fn zones_in_place(job: ZonesJob) -> Result<DeviceJob, Task>
-    ensures ok { IfOk result (λ new. zones_counterpart job ≡ Some new) }
-    ensures err { IfErr result (λ left. (left ≡ tasks.Tool (tools.Zones job)) × (zones_counterpart job ≡ None)) }
+/// The lines of the zones in a state, or another form.
+fn zones_in_place(job: ZonesJob) -> DeviceJob
+    ensures { result ≡ zones_in job.form job }
 {
     match job.form {
-        ZonesForm::Lines(state) => Ok(report_job(job.image, Some(state))),
-        _ => Err(Task::Tool(ToolJob::Zones(job))),
+        ZonesForm::Lines(state) => report_job(job.image, Some(state)),
+        _ => DeviceJob::Zones(job),
+    }
+}
+
+/// The plan of a drive in a file.
+fn plan_in_place(job: PlanJob) -> Result<DeviceJob, Task>
+    ensures ok { IfOk result (λ new. plan_counterpart job ≡ Some new) }
+    ensures err { IfErr result (λ left. (left ≡ tasks.Tool (tools.Plan job)) × (plan_counterpart job ≡ None)) }
+{
+    let PlanJob { drive, aim, form } = job;
+    match drive {
+        PlannedDrive::Image(device) => Ok(DeviceJob::Plan { device, aim, form }),
+        drive => Err(Task::Tool(ToolJob::Plan(PlanJob { drive, aim, form }))),
     }
 }
 
@@ -91,7 +92,8 @@ fn tool_in_place(job: ToolJob) -> Result<DeviceJob, Task>
     match job {
         ToolJob::Check(job) => Ok(DeviceJob::Check(job)),
         ToolJob::Info(job) => Ok(DeviceJob::Info(job)),
-        ToolJob::Zones(job) => zones_in_place(job),
+        ToolJob::Plan(job) => plan_in_place(job),
+        ToolJob::Zones(job) => Ok(zones_in_place(job)),
         job => Err(Task::Tool(job)),
     }
 }
@@ -104,9 +106,10 @@ pub fn in_place(task: Task) -> Result<DeviceJob, Task>
 {
     match task {
         Task::Lines(job) => lines_in_place(job),
-        Task::Nbd(job) => served_in_place(job),
+        Task::Nbd(job) => Ok(DeviceJob::Nbd(job)),
         Task::Copy(job) => Ok(DeviceJob::Copy(job)),
         Task::Tool(job) => tool_in_place(job),
+        Task::Convert(job) => Err(Task::Convert(job)),
         Task::Device(job) => Err(Task::Device(job)),
     }
 }

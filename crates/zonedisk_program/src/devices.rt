@@ -10,8 +10,9 @@ use block_copies::ExportFault;
 use copy_jobs::{CopyFault, CopyJob, ExportJob, ImportJob, import_mounted};
 use device_jobs::{
     DeviceFault, DeviceJob, DeviceRun, Devices, FormatFault, NamedDrive, OpenDevice, SendFault,
-    answer_report, check_device, explain_run, explain_sent, export_device, format_device, harden,
-    inform_device, run_device, run_fault, send_lines, serve_client, write_device_fault,
+    Served, answer_report, check_device, explain_run, explain_sent, export_device, format_device,
+    harden, inform_device, plan_device, run_device, run_fault, send_lines, serve_client,
+    show_zones, write_device_fault,
 };
 use disk_files::write_out;
 use disk_jobs::{
@@ -20,16 +21,17 @@ use disk_jobs::{
 use disk_runs::RunFault;
 use drive_port::{Device, Geometry};
 use nbd_jobs::NbdJob;
-use nbd_session::Medium;
+use nbd_session::{Medium, WriteThrough};
 use nvme_wire::ZoneState;
 use std::alloc::Global;
 use std::io;
 use std::io::Write;
 use std::process::ExitCode;
-use tool_jobs::{CheckJob, InfoJob, ToolFault};
+use tool_jobs::{CheckJob, InfoJob, PlanForm, ToolFault, ZonesJob};
+use write_plan::Aim;
 
 /// Says on standard error why a device is not used.
-fn refuse<R: Eprint>(rt: &R, path: &str, fault: DeviceFault) -> ExitCode
+pub(crate) fn refuse<R: Eprint>(rt: &R, path: &str, fault: DeviceFault) -> ExitCode
     ensures { exit_status result ≡ 1 }
 {
     let _ = eprintln!(rt; "zonedisk: {path} {fault}");
@@ -123,6 +125,15 @@ fn do_format<R: Eprint, D: Devices, W: Write>(
     sync_after(rt, alloc, path, ExitCode::SUCCESS, &mut drive, &mut medium)
 }
 
+/// Says that a drive was made in the file of this path.
+pub(crate) fn end_made<R: Eprint, W: Write>(rt: &R, path: &str, output: &mut W) -> ExitCode {
+    if write_out(output, b"ok\n").is_ok() && output.flush().is_ok() {
+        return ExitCode::SUCCESS;
+    }
+    let _ = eprintln!(rt; "zonedisk: {path}: the drive was made, but standard output failed");
+    ExitCode::FAILURE
+}
+
 /// Makes a new drive that stays in its file.
 fn do_create<R: Eprint, D: Devices, W: Write>(
     rt: &R,
@@ -136,11 +147,7 @@ fn do_create<R: Eprint, D: Devices, W: Write>(
     if let Err(fault) = devices.create(path, geometry) {
         return refuse_lines(rt, path, fault, output);
     }
-    if write_out(output, b"ok\n").is_ok() && output.flush().is_ok() {
-        return ExitCode::SUCCESS;
-    }
-    let _ = eprintln!(rt; "zonedisk: {path}: the drive was made, but standard output failed");
-    ExitCode::FAILURE
+    end_made(rt, path, output)
 }
 
 /// How a run ended, as the program tells it.
@@ -177,8 +184,24 @@ fn answer_lines<R: Eprint + Input, D: Device + Drop, W: Write>(
     (drive, code)
 }
 
+/// Mounts the drive in memory, and answers the lines of a trace that read.
+fn read_run<R: Eprint + Input, D: Devices, W: Write>(
+    rt: &R,
+    alloc: Global,
+    devices: &D,
+    job: &DeviceRun,
+    output: &mut W,
+) -> ExitCode
+    ensures { D.has_way devices.now ≡ false → exit_status result ≡ 1 }
+{
+    match devices.open_reader(alloc, &job.device, job.habit) {
+        Ok(drive) => answer_lines(rt, alloc, drive, job, output).1,
+        Err(fault) => refuse_lines(rt, &job.device, fault, output),
+    }
+}
+
 /// Mounts the drive, and answers a trace. It ends with a sync, unless the drive has to stop before.
-fn do_run<R: Eprint + Input, D: Devices, W: Write>(
+fn change_run<R: Eprint + Input, D: Devices, W: Write>(
     rt: &R,
     alloc: Global,
     devices: &D,
@@ -205,6 +228,23 @@ fn do_run<R: Eprint + Input, D: Devices, W: Write>(
     }
 }
 
+/// Mounts the drive, and answers a trace, or the lines of it that read.
+fn do_run<R: Eprint + Input, D: Devices, W: Write>(
+    rt: &R,
+    alloc: Global,
+    devices: &D,
+    job: &DeviceRun,
+    output: &mut W,
+) -> ExitCode
+    ensures { D.has_way devices.now ≡ false → exit_status result ≡ 1 }
+{
+    if job.read_only {
+        read_run(rt, alloc, devices, job, output)
+    } else {
+        change_run(rt, alloc, devices, job, output)
+    }
+}
+
 /// Shows the zones of the drive.
 fn do_report<R: Eprint, D: Devices, W: Write>(
     rt: &R,
@@ -216,8 +256,8 @@ fn do_report<R: Eprint, D: Devices, W: Write>(
 ) -> ExitCode
     ensures { D.has_way devices.now ≡ false → exit_status result ≡ 1 }
 {
-    let mut drive = match devices.open(alloc, path, Habit::Lazy) {
-        Ok(open) => open.drive,
+    let mut drive = match devices.open_reader(alloc, path, Habit::Lazy) {
+        Ok(drive) => drive,
         Err(fault) => return refuse_lines(rt, path, fault, output),
     };
     let told = answer_report(alloc, &mut drive, state, output);
@@ -230,30 +270,56 @@ fn do_report<R: Eprint, D: Devices, W: Write>(
     code
 }
 
+/// Shows the zones of the drive in another form.
+fn do_zones<R: Eprint, D: Devices, W: Write>(
+    rt: &R,
+    alloc: Global,
+    devices: &D,
+    job: &ZonesJob,
+    output: &mut W,
+) -> ExitCode
+    ensures { D.has_way devices.now ≡ false → exit_status result ≡ 1 }
+{
+    let mut drive = match devices.open_reader(alloc, &job.image, Habit::Lazy) {
+        Ok(drive) => drive,
+        Err(fault) => return refuse(rt, &job.image, fault),
+    };
+    let told = show_zones(alloc, job.form, &mut drive, output);
+    end_tool(rt, &job.image, told.map(|()| true), output)
+}
+
+/// Raw lines that are sent to the drive of a path.
+#[derive(Clone, Copy)]
+struct RawJob<'j> {
+    path: &'j str,
+    explain: bool,
+    habit: Habit,
+    sync: bool,
+}
+
 /// Sends raw lines, and says why they are answered no further.
 fn do_nvme<R: Eprint + Input, D: Devices, W: Write>(
     rt: &R,
     alloc: Global,
     devices: &D,
-    path: &str,
-    explain: bool,
-    habit: Habit,
+    job: &RawJob<'_>,
     output: &mut W,
 ) -> ExitCode
     ensures { D.has_way devices.now ≡ false → exit_status result ≡ 1 }
 {
-    let mut drive = match devices.open_raw(alloc, path, habit) {
+    let RawJob { path, sync, .. } = *job;
+    let mut drive = match devices.open_raw(alloc, path, job.habit) {
         Ok(drive) => drive,
         Err(fault) => return refuse_lines(rt, path, fault, output),
     };
     let gate = Gate::open();
     let count = LineCount::new();
     let mut input = JobInput::new(alloc, &gate, &count, rt.reader());
-    let sent = if explain {
+    let sent = if job.explain {
         let mut explained = Explained::new(rt, output);
-        send_lines(alloc, &mut drive, input.reader(), &mut explained)
+        send_lines(alloc, sync, &mut drive, input.reader(), &mut explained)
     } else {
-        send_lines(alloc, &mut drive, input.reader(), output)
+        send_lines(alloc, sync, &mut drive, input.reader(), output)
     };
     let sent = sent.and(output.flush().or(Err(SendFault::Run(RunFault::Output))));
     let Err(fault) = sent else {
@@ -266,21 +332,19 @@ fn do_nvme<R: Eprint + Input, D: Devices, W: Write>(
     code
 }
 
-/// Serves the drive on the standard streams. What people are told goes to standard error.
-fn do_nbd<R: Eprint + Input + Print, D: Devices>(
+/// Serves a drive on the standard streams.
+fn serve<R: Input + Print, D: Device + Drop, M: Medium + Drop>(
     rt: &R,
     alloc: Global,
-    devices: &D,
     job: &NbdJob,
-) -> ExitCode
-    ensures { D.has_way devices.now ≡ false → exit_status result ≡ 1 }
-{
-    let open = match devices.open(alloc, &job.image, job.habit) {
-        Ok(open) => open,
-        Err(fault) => return refuse(rt, &job.image, fault),
-    };
-    let output = &mut io::writer(rt);
-    let served = serve_client(alloc, job, open.drive, open.medium, rt.reader(), output);
+    drive: D,
+    medium: M,
+) -> Served {
+    serve_client(alloc, job, drive, medium, rt.reader(), &mut io::writer(rt))
+}
+
+/// Tells on standard error how a session ended.
+fn end_session<R: Eprint>(rt: &R, alloc: Global, job: &NbdJob, served: Served) -> ExitCode {
     tell_size(rt, alloc, &job.image, job.blocks, served.disk);
     if let Some(text) = &served.statistics {
         let _ = eprint!(rt; "{text}");
@@ -296,6 +360,29 @@ fn do_nbd<R: Eprint + Input + Print, D: Devices>(
         let _ = eprintln!(rt; "zonedisk: {text}");
     }
     ExitCode::FAILURE
+}
+
+/// Serves the drive on the standard streams, or only reads it. What people are told goes to standard error.
+fn do_nbd<R: Eprint + Input + Print, D: Devices>(
+    rt: &R,
+    alloc: Global,
+    devices: &D,
+    job: &NbdJob,
+) -> ExitCode
+    ensures { D.has_way devices.now ≡ false → exit_status result ≡ 1 }
+{
+    let served = if job.read_only {
+        match devices.open_reader(alloc, &job.image, job.habit) {
+            Ok(drive) => serve(rt, alloc, job, drive, WriteThrough::new()),
+            Err(fault) => return refuse(rt, &job.image, fault),
+        }
+    } else {
+        match devices.open(alloc, &job.image, job.habit) {
+            Ok(open) => serve(rt, alloc, job, open.drive, open.medium),
+            Err(fault) => return refuse(rt, &job.image, fault),
+        }
+    };
+    end_session(rt, alloc, job, served)
 }
 
 /// Sends what a tool wrote, and says why it told nothing. A check may say that not all is well.
@@ -329,8 +416,8 @@ fn do_check<R: Eprint, D: Devices, W: Write>(
 ) -> ExitCode
     ensures { D.has_way devices.now ≡ false → exit_status result ≡ 1 }
 {
-    let mut drive = match devices.open(alloc, &job.image, Habit::Lazy) {
-        Ok(open) => open.drive,
+    let mut drive = match devices.open_reader(alloc, &job.image, Habit::Lazy) {
+        Ok(drive) => drive,
         Err(fault) => return refuse(rt, &job.image, fault),
     };
     let told = check_device(alloc, job.blocks, &mut drive, &job.form, output);
@@ -347,12 +434,32 @@ fn do_info<R: Eprint, D: Devices, W: Write>(
 ) -> ExitCode
     ensures { D.has_way devices.now ≡ false → exit_status result ≡ 1 }
 {
-    let mut drive = match devices.open(alloc, &job.image, Habit::Lazy) {
-        Ok(open) => open.drive,
+    let mut drive = match devices.open_reader(alloc, &job.image, Habit::Lazy) {
+        Ok(drive) => drive,
         Err(fault) => return refuse(rt, &job.image, fault),
     };
     let told = inform_device(alloc, &mut drive, &job.form, output);
     end_tool(rt, &job.image, told.map(|()| true), output)
+}
+
+/// Shows what numbers of logical blocks cost on the drive.
+fn do_plan<R: Eprint, D: Devices, W: Write>(
+    rt: &R,
+    alloc: Global,
+    devices: &D,
+    path: &str,
+    aim: Aim,
+    form: PlanForm,
+    output: &mut W,
+) -> ExitCode
+    ensures { D.has_way devices.now ≡ false → exit_status result ≡ 1 }
+{
+    let geometry = match devices.open_reader(alloc, path, Habit::Lazy) {
+        Ok(drive) => drive.geometry(),
+        Err(fault) => return refuse(rt, path, fault),
+    };
+    let told = plan_device(alloc, geometry, aim, &form, output);
+    end_tool(rt, path, told.map(|()| true), output)
 }
 
 /// What is counted of a copy, if it is shown how far it is.
@@ -401,7 +508,32 @@ fn end_copy<R: Eprint>(
     ExitCode::FAILURE
 }
 
-/// Copies blocks out of the drive, or into it. An import ends with a sync.
+/// Opens the drive, and copies blocks into it. That ends with a sync.
+fn import_into<R: Eprint + Input, D: Devices>(
+    rt: &R,
+    alloc: Global,
+    devices: &D,
+    job: &CopyJob,
+    asked: &ImportJob,
+) -> ExitCode
+    ensures { D.has_way devices.now ≡ false → exit_status result ≡ 1 }
+{
+    match devices.open(alloc, job.image(), Habit::Lazy) {
+        Ok(open) => {
+            let OpenDevice {
+                drive,
+                mut medium,
+                ..
+            } = open;
+            let (mut drive, imported) = import(rt, alloc, drive, asked);
+            let ended = end_copy(rt, alloc, job, imported);
+            sync_after(rt, alloc, job.image(), ended, &mut drive, &mut medium)
+        }
+        Err(fault) => refuse(rt, job.image(), fault),
+    }
+}
+
+/// Copies blocks out of the drive, which is only read, or into it.
 fn do_copy<R: Eprint + Input + Print, D: Devices>(
     rt: &R,
     alloc: Global,
@@ -410,24 +542,12 @@ fn do_copy<R: Eprint + Input + Print, D: Devices>(
 ) -> ExitCode
     ensures { D.has_way devices.now ≡ false → exit_status result ≡ 1 }
 {
-    let open = match devices.open(alloc, job.image(), Habit::Lazy) {
-        Ok(open) => open,
-        Err(fault) => return refuse(rt, job.image(), fault),
-    };
-    let OpenDevice {
-        drive,
-        mut medium,
-        ..
-    } = open;
     match job {
-        CopyJob::Export(export_job) => {
-            end_copy(rt, alloc, job, export(rt, alloc, drive, export_job))
-        }
-        CopyJob::Import(import_job) => {
-            let (mut drive, imported) = import(rt, alloc, drive, import_job);
-            let ended = end_copy(rt, alloc, job, imported);
-            sync_after(rt, alloc, job.image(), ended, &mut drive, &mut medium)
-        }
+        CopyJob::Export(asked) => match devices.open_reader(alloc, job.image(), Habit::Lazy) {
+            Ok(drive) => end_copy(rt, alloc, job, export(rt, alloc, drive, asked)),
+            Err(fault) => refuse(rt, job.image(), fault),
+        },
+        CopyJob::Import(asked) => import_into(rt, alloc, devices, job, asked),
     }
 }
 
@@ -455,10 +575,23 @@ pub fn do_device<R: Eprint + Input + Print, D: Devices, W: Write>(
             device,
             explain,
             habit,
-        } => do_nvme(rt, alloc, devices, device, *explain, *habit, output),
+            sync,
+        } => {
+            let job = RawJob {
+                path: device,
+                explain: *explain,
+                habit: *habit,
+                sync: *sync,
+            };
+            do_nvme(rt, alloc, devices, &job, output)
+        }
         DeviceJob::Nbd(job) => do_nbd(rt, alloc, devices, job),
         DeviceJob::Check(job) => do_check(rt, alloc, devices, job, output),
         DeviceJob::Info(job) => do_info(rt, alloc, devices, job, output),
+        DeviceJob::Zones(job) => do_zones(rt, alloc, devices, job, output),
+        DeviceJob::Plan { device, aim, form } => {
+            do_plan(rt, alloc, devices, device, *aim, *form, output)
+        }
         DeviceJob::Copy(job) => do_copy(rt, alloc, devices, job),
     }
 }

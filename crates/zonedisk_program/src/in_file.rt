@@ -11,18 +11,20 @@ use std::io::{Read, Write};
 use std::process::ExitCode;
 use std::rt::Files;
 use std::{fs, io};
-use tool_jobs::{ToolJob, ZonesForm};
+use tool_jobs::ToolJob;
 
 /// How a drive begins that stays in its file. Two bytes follow, which say its version.
 const BEGINNING: &[u8] = b"ZNSDRV";
 
-/// The path of the image that a task is about, if it is about one.
+/// The path of the image that a task is about, if it is about one. A format replaces the file, whatever it holds.
 fn image_of(task: &Task) -> Option<&str> {
     match task {
+        Task::Lines(Job::Format { .. }) => None,
         Task::Lines(job) => job.image(),
         Task::Nbd(job) => Some(job.image.as_str()),
         Task::Copy(job) => Some(job.image()),
         Task::Tool(job) => job.image(),
+        Task::Convert(job) => Some(job.image.as_str()),
         Task::Device(_) => None,
     }
 }
@@ -70,8 +72,8 @@ pub(crate) fn begins_in_place<F: Files<File = fs::File>>(files: &F, task: &Task)
 fn undone_lines(job: &Job) -> &'static str {
     match job {
         Job::Format { .. } => "format",
-        Job::Run { read_only, .. } if *read_only => "--read-only",
-        Job::Run { .. } | Job::Nvme { .. } => "--sync",
+        Job::Run { .. } => "--sync",
+        Job::Nvme { .. } => "nvme",
         Job::Report { .. } => "report",
         Job::Fresh { .. } => "fresh",
         Job::FreshRaw { .. } => "fresh-raw",
@@ -81,12 +83,7 @@ fn undone_lines(job: &Job) -> &'static str {
 /// The same of a tool.
 fn undone_tool(job: &ToolJob) -> &'static str {
     match job {
-        ToolJob::Zones(job) => match job.form {
-            ZonesForm::Lines(_) => "--state",
-            ZonesForm::Brief => "--brief",
-            ZonesForm::Json(_) => "--json",
-            ZonesForm::Svg => "--svg",
-        },
+        ToolJob::Zones(_) => "report",
         ToolJob::Plan(_) | ToolJob::Format { .. } => "plan",
         ToolJob::Entry(_) => "entry",
         ToolJob::Check(_) => "check",
@@ -98,9 +95,10 @@ fn undone_tool(job: &ToolJob) -> &'static str {
 fn undone(task: &Task) -> &'static str {
     match task {
         Task::Lines(job) => undone_lines(job),
-        Task::Nbd(_) => "--read-only",
+        Task::Nbd(_) => "nbd",
         Task::Copy(_) => "a copy of blocks",
         Task::Tool(job) => undone_tool(job),
+        Task::Convert(_) => "convert",
         Task::Device(_) => "a job on a device",
     }
 }

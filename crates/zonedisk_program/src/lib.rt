@@ -15,7 +15,8 @@
 //! `nvme --explain`, and what to know of the size of a disk.
 //!
 //! A file that is named by `--image` may hold a drive that stays in it. The first bytes of the file say so. Then the
-//! task becomes a job on a device with that path ([`in_place`]), and the second way opens it.
+//! task becomes a job on a device with that path ([`in_place`]), and the second way opens it. A drive is put into a file
+//! of the other kind by `convert`: the first bytes of its file say which.
 //!
 //! # What is promised
 //!
@@ -29,11 +30,13 @@ ghost use Rattle.std.specs.Prelude.{◌≡◌, false};
 ghost use Rattle.std.specs.Process.{exit_status};
 ghost use Rattle.zonedisk_program.specs.Ends.{EndsAsked, EndsTask, is_new, reaches};
 
+mod converting;
 mod counterpart;
 mod devices;
 mod files;
 mod in_file;
 
+use crate::converting::{into_drive_file, into_image};
 pub use crate::counterpart::in_place;
 pub use crate::devices::do_device;
 use crate::files::{copy, do_lines, do_nbd, fail, use_tool};
@@ -114,6 +117,7 @@ fn do_as_it_is<
         Task::Nbd(job) => do_nbd(rt, alloc, job, &mut io::writer(rt)),
         Task::Copy(job) => copy(rt, alloc, job),
         Task::Tool(job) => use_tool(rt, alloc, job, output),
+        Task::Convert(job) => into_drive_file(rt, alloc, files, job, output),
         Task::Device(job) => do_named(rt, alloc, devices, files, job, output),
     }
 }
@@ -140,6 +144,7 @@ fn do_asked<
     }
     match in_place(task) {
         Ok(job) => do_device(rt, alloc, files, &job, output),
+        Err(Task::Convert(job)) => into_image(rt, alloc, files, &job, output),
         Err(task) => refuse_in_place(rt, &task, output),
     }
 }

@@ -1,0 +1,40 @@
+-- Zones of a drive that are shown in another form than the lines of a report.
+use Rattle.std.specs.Prelude.{◌≡◌, ◌⊎◌, ℕ, true, List, [], map, replicate, ⊤}
+use Rattle.zone_states.specs.Geometry.{IsInRange}
+use Rattle.zone_states.specs.Zone.{Zone}
+use Rattle.drive_port.specs.Drive.{DriveState}
+use Rattle.drive_survey.specs.Reported.{ReportsZones}
+use Rattle.drive_survey.specs.declared.reported.ReportedZone.{ReportedZone}
+use Rattle.tool_jobs.specs.Pictures.{FindsLive}
+use Rattle.tool_jobs.specs.Zones.{ShowsForm}
+use Rattle.tool_jobs.specs.declared.fault.ToolFault.{ToolFault}
+use Rattle.tool_jobs.specs.declared.fault.ToolFault.TheVariants.{Memory, Stopped}
+use Rattle.tool_jobs.specs.declared.showing.ZonesForm.{ZonesForm}
+use Rattle.tool_jobs.specs.declared.showing.ZonesForm.TheVariants.{Svg}
+use Rattle.device_jobs.specs.declared.showing.ShownDrive.{ShownDrive}
+
+-- a zone of which a report tells this: of its blocks only the number is known
+abbrev pub zone_like : ReportedZone → Zone
+zone_like reported = record { state = reported.state; blocks = replicate reported.blocks [] }
+
+-- a picture shows the live blocks of a drive, and no other form does
+abbrev pub IsLiveFor : ZonesForm → DriveState → List ℕ → Type 0
+IsLiveFor Svg drive live = FindsLive drive live
+IsLiveFor form drive live = live ≡ []
+
+-- The zones of a drive were reported at a moment, and their live blocks were looked for after that.
+pub record IsShownDrive (form : ZonesForm) (old : DriveState) (shown : ShownDrive) : Type 0 where
+  pub middle : DriveState
+  pub geometry : shown.geometry ≡ old.geometry
+  pub reported : ReportsZones old shown.zones.items middle
+  pub live : IsLiveFor form middle shown.live.items
+
+-- the text of a form, for the zones as they were reported
+abbrev pub ShowsDrive : ZonesForm → ShownDrive → List ℕ → Type 0
+ShowsDrive form shown text = ShowsForm form shown.geometry (map zone_like shown.zones.items) text
+
+-- why they are not shown: the drive has stopped, or its shape is out of range, or memory ran out
+abbrev pub IsUnshown : DriveState → DriveState → ToolFault → Type 0
+IsUnshown old new Stopped = (new.stopped ≡ true) ⊎ (IsInRange old.geometry → ⊥)
+IsUnshown old new Memory = ⊤
+IsUnshown old new fault = ⊥
