@@ -149,9 +149,23 @@ class Postgres:
         with open(f"{self.folder}/cluster", "w", encoding="ascii") as file:
             file.write("made\n")
 
+    def unlock(self):
+        """Removes the lock of a server that has ended, but that its parent has not waited for. It would seem to run."""
+        lock = f"{self.path}/postmaster.pid"
+        try:
+            with open(lock, encoding="utf-8") as file:
+                number = int(file.readline())
+            with open(f"/proc/{number}/stat", encoding="utf-8") as file:
+                state = file.read().rsplit(")", 1)[1].split()[0]
+        except (OSError, ValueError):
+            return
+        if state == "Z":
+            os.remove(lock)
+
     def start(self):
         """Starts the server, which repairs what a stop left."""
         self.made()
+        self.unlock()
         status, text = self.as_user(f"{self.bin}/pg_ctl", "-D", self.path, "-w", "-t", "100", "-l",
                                     f"{self.folder}/postgres.log", "start")
         look(status == 0, f"PostgreSQL does not start: {text[-300:]} {self.log()}")
