@@ -7,6 +7,7 @@ use Rattle.tool_jobs.specs.declared.showing.ZonesForm.TheVariants as zones
 use Rattle.device_jobs.specs.declared.job.DeviceJob.{DeviceJob}
 use Rattle.device_jobs.specs.declared.job.DeviceJob.TheVariants as jobs
 use Rattle.device_jobs.specs.declared.job.DeviceRun.{DeviceRun}
+use Rattle.disk_runs.specs.declared.taking.Taking.TheVariants.{All}
 use Rattle.command_line.specs.declared.place.Place.TheVariants as places
 use Rattle.command_line.specs.DriveWords.{AsksForCopy, AsksForNbd}
 use Rattle.command_line.specs.ToolWords.{AsksForCheck, AsksForInfo, HasZonesForm, part_names}
@@ -24,7 +25,7 @@ pub record AsksForRun (rows : List Row) (job : DeviceRun) : Type 0 where
   pub statistics : HasFlag rows (codes "statistics") job.statistics
   pub stop : HasStop rows job.stop
   pub habit : HasHabit rows job.habit
-  pub reads : job.read_only ≡ false
+  pub takes : job.takes ≡ All
   pub progress : HasFlag rows (codes "progress") job.progress
 
 -- What the job of a subcommand holds is what its options were given. A format has no part of a geometry, and makes no new drive.

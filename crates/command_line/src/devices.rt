@@ -13,6 +13,7 @@ use crate::words::{
 };
 use clap::ArgMatches;
 use device_jobs::{DeviceJob, DeviceRun};
+use disk_runs::Taking;
 use std::alloc::Global;
 use tool_jobs::ZonesForm;
 
@@ -59,7 +60,7 @@ fn run_job(alloc: Global, matches: &ArgMatches<'_>) -> Result<DeviceJob, WordFau
         statistics: has_flag(matches, "statistics"),
         stop,
         habit: habit_of(matches),
-        read_only: false,
+        takes: Taking::All,
         progress: has_flag(matches, "progress"),
     }))
 }

@@ -7,6 +7,7 @@ use Rattle.drive_port.specs.Stop.{Stopping}
 use Rattle.disk_runs.specs.Run.{Exchange, Known}
 use Rattle.disk_runs.specs.declared.fault.RunFault.{RunFault}
 use Rattle.disk_runs.specs.declared.fault.RunFault.TheVariants as runs
+use Rattle.disk_runs.specs.declared.taking.Taking.{Taking}
 use Rattle.zone_translator.specs.declared.fault.DiskFault.TheVariants.{Stopped}
 use Rattle.disk_jobs.specs.Mounted.{TellsMount}
 use Rattle.disk_jobs.specs.Saved.{RunsCounted, RunsTrace, stopping}
@@ -16,10 +17,10 @@ use Rattle.tool_jobs.specs.declared.fault.ToolFault.TheVariants as tools
 use Rattle.device_jobs.specs.declared.job.DeviceRun.{DeviceRun}
 use Rattle.device_jobs.specs.Reports.{IsUnreported, TellsReport}
 
--- All lines of a trace are taken, or only those that read. Then it is told what was counted if that is asked for.
-abbrev pub RunsAsked : Bool → Bool → ℕ → Stopping → Exchange → Result (Unit {0}) RunFault → DriveState → Type 0
-RunsAsked true only_reads blocks device bytes ended new = RunsCounted only_reads blocks device bytes ended new
-RunsAsked false only_reads blocks device bytes ended new = RunsTrace only_reads blocks device bytes ended new
+-- The lines of a trace are taken as it is asked. Then it is told what was counted if that is asked for.
+abbrev pub RunsAsked : Bool → Taking → ℕ → Stopping → Exchange → Result (Unit {0}) RunFault → DriveState → Type 0
+RunsAsked true takes blocks device bytes ended new = RunsCounted takes blocks device bytes ended new
+RunsAsked false takes blocks device bytes ended new = RunsTrace takes blocks device bytes ended new
 
 -- what a fault of a report is to a run
 abbrev pub run_fault : ToolFault → RunFault
@@ -43,6 +44,6 @@ pub record AnswersTrace (job : DeviceRun) (bytes : Exchange) (old : DriveState) 
   pub ran : Result (Unit {0}) RunFault
   pub middle : Known
   pub left : DriveState
-  pub runs : RunsAsked job.statistics job.read_only job.blocks (stopping job.stop old) (record bytes { contents = middle }) ran left
+  pub runs : RunsAsked job.statistics job.takes job.blocks (stopping job.stop old) (record bytes { contents = middle }) ran left
   pub tells : TellsMount job.blocks old ran told
   pub shows : ThenReports job.zones left ran middle ended new bytes.contents

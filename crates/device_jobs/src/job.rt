@@ -1,5 +1,6 @@
 use copy_jobs::CopyJob;
 use disk_jobs::Stop;
+use disk_runs::Taking;
 use nbd_jobs::NbdJob;
 use nvme_wire::ZoneState;
 use tool_jobs::{CheckJob, InfoJob, PlanForm, ZonesJob};
@@ -21,8 +22,9 @@ pub struct DeviceRun {
     pub stop: Stop,
     /// Which zones the drive closes by itself. A real drive has its own habit.
     pub habit: Habit,
-    /// Whether only lines that read are taken. It cannot be chosen for a real drive.
-    pub read_only: bool,
+    /// Which lines are taken, and whether the drive is flushed after each that changes it. Of a real drive all are taken,
+    /// and it is flushed at the end.
+    pub takes: Taking,
     /// Whether people are told how many lines were read.
     pub progress: bool,
 }

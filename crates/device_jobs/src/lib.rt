@@ -19,8 +19,8 @@
 //!
 //! Over every device, medium, reader and writer:
 //!
-//! * [`run_device`] mounts the drive, and answers the lines of a trace as `disk_runs` promises: all, or those that read
-//!   (`specs/Runs.antt`). Then the zones of the drive are shown by a report of it, if they are asked for.
+//! * [`run_device`] mounts the drive, and answers the lines of a trace as `disk_runs` promises: all, or those that read,
+//!   or all with a Flush after each that changes the drive (`specs/Runs.antt`). Then the zones of the drive are shown by a report of it, if they are asked for.
 //! * [`serve_device`] serves the drive as `nbd_session` promises, read only where that is asked for. Each sync of the session is one of the medium, or a
 //!   Flush of the drive that the medium counts. [`serve_flushed`] also flushes such a drive at the end.
 //! * [`export_device`] exports the blocks of the disk (`specs/Copies.antt`). The array stays. `import_mounted` of

@@ -25,14 +25,14 @@ fn answer_asked<D: Device + Drop, R: Read + Drop, W: Write>(
     input: &mut LineReader<R>,
     output: &mut W,
 ) -> (D, Mounting, Result<(), RunFault>)
-    ensures runs { RunsAsked job.now.statistics job.now.read_only job.now.blocks (stopping job.now.stop (D.drive device))
+    ensures runs { RunsAsked job.now.statistics job.now.takes job.now.blocks (stopping job.now.stop (D.drive device))
         (exchange input.old.left (W.contents output.old) (W.contents output.new)) result.2 (D.drive result.0) }
     ensures mounting { TellsMount job.now.blocks (D.drive device) result.2 result.1 }
 {
     let how = TraceRun {
         blocks: job.blocks,
         stop: job.stop,
-        only_reads: job.read_only,
+        takes: job.takes,
     };
     if job.statistics {
         run_counted(alloc, device, how, input, output)

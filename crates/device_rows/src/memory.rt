@@ -6,6 +6,7 @@ use device_jobs::{
 };
 use disk_files::LineReader;
 use disk_jobs::{Habit, Stop};
+use disk_runs::Taking;
 use drive_port::{Device, Geometry, Halt};
 use nbd_session::WriteThrough;
 use std::alloc::{AllocError, Global};
@@ -59,7 +60,7 @@ fn with_disk(alloc: Global) -> Result<Drive, DeviceFault> {
         statistics: false,
         stop: Stop::NEVER,
         habit: Habit::Lazy,
-        read_only: false,
+        takes: Taking::All,
         progress: false,
     };
     let mut lines = LineReader::new(alloc, b"fill 0 3 61\n".as_slice());

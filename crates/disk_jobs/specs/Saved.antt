@@ -20,12 +20,14 @@ use Rattle.disk_files.specs.Output.{AppendsFront}
 use Rattle.disk_files.specs.Reply.{ok_text}
 use Rattle.drive_journal.specs.File.{IsStored}
 use Rattle.drive_journal.specs.FileFaults.{IsFileFault}
-use Rattle.disk_runs.specs.FlatLines.{flat_lines}
 use Rattle.disk_runs.specs.RawLines.{raw}
 use Rattle.disk_runs.specs.Run.{Exchange, Known, Runs}
-use Rattle.disk_runs.specs.Trace.{RunGives, RunLeaves, disk_lines}
+use Rattle.disk_runs.specs.Taken.{disk_lines, flat_lines, unsynced}
+use Rattle.disk_runs.specs.Trace.{RunGives, RunLeaves}
 use Rattle.disk_runs.specs.declared.fault.RunFault.{RunFault}
 use Rattle.disk_runs.specs.declared.fault.RunFault.TheVariants as runs
+use Rattle.disk_runs.specs.declared.taking.Taking.{Taking}
+use Rattle.disk_runs.specs.declared.taking.Taking.TheVariants.{All}
 use Rattle.disk_jobs.specs.declared.fault.ProgramFault.{ProgramFault}
 use Rattle.disk_jobs.specs.declared.fault.ProgramFault.TheVariants as program
 use Rattle.drive_store.specs.Kept.{IsReadIn, IsRestarted, stays}
@@ -118,12 +120,12 @@ HasDrive job file (Some begun) old new = BeginsOn job file begun × SaysFirst jo
 abbrev pub stopping : Stop → DriveState → Stopping
 stopping stop drive = record { inner = drive; limit = stop.commands; tear = stop.tear; completed = 0; progress = Going }
 
--- A trace is run over the device, mounted as that many blocks, and leaves the zones of this drive. All lines are taken, or only those that read.
-pub record RunsTrace (only_reads : Bool) (blocks : ℕ) (device : Stopping) (bytes : Exchange) (ended : Result (Unit {0}) RunFault)
+-- A trace is run over the device, mounted as that many blocks, and leaves the zones of this drive. It is said which lines are taken.
+pub record RunsTrace (takes : Taking) (blocks : ℕ) (device : Stopping) (bytes : Exchange) (ended : Result (Unit {0}) RunFault)
     (new : DriveState) : Type 0 where
   pub seen : DriveState
-  pub gives : RunGives (flat_lines only_reads) blocks bytes (drive_of device) ended seen
-  pub leaves : RunLeaves (disk_lines only_reads) blocks bytes (drive_of device) ended seen
+  pub gives : RunGives (flat_lines takes) blocks bytes (drive_of device) ended seen
+  pub leaves : RunLeaves (disk_lines takes) blocks bytes (drive_of device) ended seen
   pub geometry : new.geometry ≡ seen.geometry
   pub zones : new.zones ≡ seen.zones
   pub durable : new.durable ≡ seen.durable
@@ -137,11 +139,11 @@ ThenTells (Ok done) old (Err fault) new = ⊥
 ThenTells ran old ended new = (ended ≡ ran) × (new ≡ old)
 
 -- a trace is run over the device, whose commands are counted, and then it is told what was counted
-pub record RunsCounted (only_reads : Bool) (blocks : ℕ) (device : Stopping) (bytes : Exchange) (ended : Result (Unit {0}) RunFault)
+pub record RunsCounted (takes : Taking) (blocks : ℕ) (device : Stopping) (bytes : Exchange) (ended : Result (Unit {0}) RunFault)
     (new : DriveState) : Type 0 where
   pub ran : Result (Unit {0}) RunFault
   pub middle : Known
-  pub runs : RunsTrace only_reads blocks device (record bytes { contents = middle }) ran new
+  pub runs : RunsTrace takes blocks device (record bytes { contents = middle }) ran new
   pub tells : ThenTells ran middle ended bytes.contents
 
 -- a run that was done is followed by the zones, if they are asked for
@@ -155,11 +157,11 @@ ThenShows zones drive ran old ended new = (ended ≡ ran) × (new ≡ old)
 -- what the lines of a job do over a drive
 abbrev pub RunsLines : Job → Exchange → DriveState → Result (Unit {0}) RunFault → DriveState → Type 0
 RunsLines (jobs.Run path blocks zones false stop habit sync read_only progress) bytes old ended new =
-    RunsTrace read_only blocks (stopping stop old) bytes ended new
+    RunsTrace (unsynced read_only) blocks (stopping stop old) bytes ended new
 RunsLines (jobs.Run path blocks zones true stop habit sync read_only progress) bytes old ended new =
-    RunsCounted read_only blocks (stopping stop old) bytes ended new
-RunsLines (jobs.Fresh geometry blocks shown false stop habit) bytes old ended new = RunsTrace false blocks (stopping stop old) bytes ended new
-RunsLines (jobs.Fresh geometry blocks shown true stop habit) bytes old ended new = RunsCounted false blocks (stopping stop old) bytes ended new
+    RunsCounted (unsynced read_only) blocks (stopping stop old) bytes ended new
+RunsLines (jobs.Fresh geometry blocks shown false stop habit) bytes old ended new = RunsTrace All blocks (stopping stop old) bytes ended new
+RunsLines (jobs.Fresh geometry blocks shown true stop habit) bytes old ended new = RunsCounted All blocks (stopping stop old) bytes ended new
 RunsLines (jobs.Nvme path explain habit sync) bytes old ended new = Runs raw bytes old ended new
 RunsLines (jobs.FreshRaw geometry habit) bytes old ended new = Runs raw bytes old ended new
 RunsLines job bytes old ended new = (ended ≡ Ok tt) × (bytes.contents ≡ bytes.written) × (new ≡ old)

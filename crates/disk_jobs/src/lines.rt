@@ -1,8 +1,7 @@
 // The lines of a job, answered over its drive.
 
 ghost use Rattle.std.specs.Prelude.{◌≡◌, false, true};
-ghost use Rattle.disk_runs.specs.Run.{Runs, exchange};
-ghost use Rattle.disk_runs.specs.Trace.{disk_lines};
+ghost use Rattle.disk_runs.specs.Run.{exchange};
 ghost use Rattle.disk_jobs.specs.Mounted.{TellsJob, TellsMount};
 ghost use Rattle.disk_jobs.specs.Saved.{LeavesDrive, RunsLines, RunsTrace, ThenShows};
 ghost use Rattle.disk_jobs.specs.Saved.{has_changes, shows_zones, stopping};
@@ -12,7 +11,7 @@ use crate::job::{Job, Stop};
 use crate::mounting::Mounting;
 use crate::statistics::run_counted;
 use disk_files::LineReader;
-use disk_runs::{RunFault, answer_reads, answer_trace, run_raw};
+use disk_runs::{RunFault, Taking, answer_trace, run_raw};
 use drive_journal::{Journaling, Store};
 use drive_port::{Device, StopAfter};
 use drive_store::Begun;
@@ -49,13 +48,13 @@ pub(crate) struct Stored<S: Store<Drive> + Drop> {
     pub(crate) was_image: bool,
 }
 
-/// How a trace is run: the number of logical blocks that the mount is given, when the device stops, and whether only
-/// lines that read are taken.
+/// How a trace is run: the number of logical blocks that the mount is given, when the device stops, and which lines are
+/// taken. A job with a store does not flush: its store makes changes durable.
 #[derive(Clone, Copy)]
 pub struct TraceRun {
     pub blocks: u64,
     pub stop: Stop,
-    pub only_reads: bool,
+    pub takes: Taking,
 }
 
 /// A device that stops after the commands of a stop, or inside the Append after them. Then the first blocks of the
@@ -66,24 +65,6 @@ pub fn stopping<D: Device + Drop>(device: D, stop: Stop) -> StopAfter<D>
     StopAfter::tearing(device, stop.commands, stop.tear)
 }
 
-/// Answers lines over a disk that is mounted: those of a trace, or of them only those that read.
-pub(crate) fn answer_lines<D: Device + Drop, R: Read + Drop, W: Write>(
-    alloc: Global,
-    only_reads: bool,
-    disk: Disk<D>,
-    input: &mut LineReader<R>,
-    output: &mut W,
-) -> (Disk<D>, Result<(), RunFault>)
-    ensures { Runs (disk_lines only_reads) (exchange input.old.left (W.contents output.old) (W.contents output.new))
-        disk result.1 result.0 }
-{
-    if only_reads {
-        answer_reads(alloc, input, output, disk)
-    } else {
-        answer_trace(alloc, input, output, disk)
-    }
-}
-
 /// Answers a trace over a device that stops. It tells what is known of the mount.
 pub fn run_stopping<D: Device + Drop, R: Read + Drop, W: Write>(
     alloc: Global,
@@ -92,7 +73,7 @@ pub fn run_stopping<D: Device + Drop, R: Read + Drop, W: Write>(
     input: &mut LineReader<R>,
     output: &mut W,
 ) -> (D, Mounting, Result<(), RunFault>)
-    ensures runs { RunsTrace how.only_reads how.blocks (stopping how.stop (D.drive device))
+    ensures runs { RunsTrace how.takes how.blocks (stopping how.stop (D.drive device))
         (exchange input.old.left (W.contents output.old) (W.contents output.new)) result.2 (D.drive result.0) }
     ensures mounting { TellsMount how.blocks (D.drive device) result.2 result.1 }
 {
@@ -104,7 +85,7 @@ pub fn run_stopping<D: Device + Drop, R: Read + Drop, W: Write>(
         }
     };
     let mounting = Mounting::done(&disk);
-    let (disk, result) = answer_lines(alloc, how.only_reads, disk, input, output);
+    let (disk, result) = answer_trace(alloc, how.takes, input, output, disk);
     (disk.into_device().into_inner(), mounting, result)
 }
 
@@ -136,7 +117,7 @@ fn run_lines<D: Device + Drop, R: Read + Drop, W: Write>(
             let how = TraceRun {
                 blocks: *blocks,
                 stop: *stop,
-                only_reads: job.reads_only(),
+                takes: Taking::unsynced(job.reads_only()),
             };
             if *statistics {
                 run_counted(alloc, device, how, input, output)

@@ -3,10 +3,10 @@ ghost use Rattle.disk_runs.specs.Run.{exchange};
 ghost use Rattle.disk_jobs.specs.Mounted.{TellsMount};
 ghost use Rattle.disk_jobs.specs.Saved.{RunsCounted, ThenTells, stopping};
 
-use crate::lines::{TraceRun, answer_lines, stopping};
+use crate::lines::{TraceRun, stopping};
 use crate::mounting::Mounting;
 use disk_files::{LineReader, write_out};
-use disk_runs::RunFault;
+use disk_runs::{RunFault, answer_trace};
 use drive_counter::{Counter, Spread, statistics_text};
 use drive_port::Device;
 use std::alloc::{AllocError, Global};
@@ -71,7 +71,7 @@ pub fn run_counted<D: Device + Drop, R: Read + Drop, W: Write>(
     input: &mut LineReader<R>,
     output: &mut W,
 ) -> (D, Mounting, Result<(), RunFault>)
-    ensures runs { RunsCounted how.only_reads how.blocks (stopping how.stop (D.drive device))
+    ensures runs { RunsCounted how.takes how.blocks (stopping how.stop (D.drive device))
         (exchange input.old.left (W.contents output.old) (W.contents output.new)) result.2 (D.drive result.0) }
     ensures mounting { TellsMount how.blocks (D.drive device) result.2 result.1 }
 {
@@ -85,7 +85,7 @@ pub fn run_counted<D: Device + Drop, R: Read + Drop, W: Write>(
         }
     };
     let mounting = Mounting::done(&disk);
-    let (disk, ran) = answer_lines(alloc, how.only_reads, disk, input, output);
+    let (disk, ran) = answer_trace(alloc, how.takes, input, output, disk);
     let told = tell_after(alloc, &disk, ran, output);
     let device = disk.into_device().into_inner();
     (device.into_inner(), mounting, told)

@@ -1,6 +1,9 @@
 pub mod CallLaws
+pub mod FlushLaws
+pub mod LossLaws
 pub mod ProgressLaws
 pub mod ReadLaws
 pub mod RequestLaws
 pub mod RunLaws
+pub mod TakenLaws
 pub mod TraceLaws

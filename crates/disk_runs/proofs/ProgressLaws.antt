@@ -7,11 +7,14 @@ use Rattle.disk_files.specs.declared.trace_line.TraceLine.TheVariants.{Read, Fil
 use Rattle.zone_cleaner.specs.Clean.{CleanView}
 use Rattle.zone_translator.specs.View.{CompletesAtMost, DiskView, disk_turns}
 use Rattle.zone_translator.specs.declared.fault.DiskFault.{DiskFault}
-use Rattle.disk_runs.specs.Laws.{CleansEnd, CommandsAreFew, LastIsFew, Pauses, PausesAmong, PausesAt, TurnsAreFew, all_commands, all_turns, most_commands, mounts, turns_asked}
+use Rattle.disk_runs.specs.Laws.{CleansEnd, CommandsAreFew, LastIsFew, Pauses, PausesAmong, PausesAt, PausesWith, TurnsAreFew, all_commands, all_turns, most_commands, mounts, turns_asked, with_flush}
 use Rattle.disk_runs.specs.Run.{AnswersAll}
-use Rattle.disk_runs.specs.Trace.{Does, DoesSaid, StopsSaid, TakesFewer, TakesOne, TakesTurns, TurnsBy, disk_lines, said_by}
+use Rattle.disk_runs.specs.Taken.{AnswersWith, RefusesWith, disk_lines, is_flushed}
+use Rattle.disk_runs.specs.Trace.{Does, DoesSaid, StopsSaid, TakesFewer, TakesOne, TakesTurns, TurnsBy, said_by}
 use Rattle.disk_runs.specs.declared.fault.RunFault.TheVariants as runs
 use Rattle.disk_runs.specs.declared.fault.RunFault.TheVariants.{Disk, Mount, Output, Memory}
+use Rattle.disk_runs.specs.declared.taking.Taking.{Taking}
+use Rattle.disk_runs.proofs.TraceLaws.{no_geometry}
 
 -- ---- commands
 
@@ -59,13 +62,23 @@ said_keep : (said : Option (TraceLine × List ℕ)) (old new : DiskView) → Doe
 said_keep None old new does = ap (λ (d : DiskView). d.drive.geometry) does
 said_keep (Some (line, bytes)) old new does = does_keep line bytes old new does
 
+-- a line that is answered, and its flush
+answer_few : (flushed : Bool) (old new : DiskView) (line reply : List ℕ) → mounts (said_by line) ≡ false → AnswersWith flushed old line reply new
+    → CompletesAtMost old (with_flush flushed (most_commands old.drive.geometry (said_by line))) new
+answer_few false old new line reply none a = said_few (said_by line) old new none a.does
+answer_few true old new line reply none a = omega (arith, said_few (said_by line) old a.middle none a.answers.does, a.flushed.completed)
+
+answer_keep : (flushed : Bool) (old new : DiskView) (line reply : List ℕ) → AnswersWith flushed old line reply new → new.drive.geometry ≡ old.drive.geometry
+answer_keep false old new line reply a = said_keep (said_by line) old new a.does
+answer_keep true old new line reply a = a.flushed.answers.kept.geometry ∙ said_keep (said_by line) old a.middle a.answers.does
+
 pub commands_are_few : CommandsAreFew
-commands_are_few only_reads old new [] text all none = rw all.1 (omega arith)
-commands_are_few only_reads old new (line ∷ lines) text all none =
-    let first = said_few (said_by line) old all.middle none.0 all.answers.does in
-    let same : all.middle.drive.geometry ≡ old.drive.geometry = said_keep (said_by line) old all.middle all.answers.does in
-    let rest = commands_are_few only_reads all.middle new lines all.after all.rest none.1 in
-    let after : CompletesAtMost all.middle (all_commands old.drive.geometry lines) new = rw same at rest in
+commands_are_few taking old new [] text all none = rw all.1 (omega arith)
+commands_are_few taking old new (line ∷ lines) text all none =
+    let first = answer_few (is_flushed taking line) old all.middle line all.reply none.0 all.answers in
+    let same : all.middle.drive.geometry ≡ old.drive.geometry = answer_keep (is_flushed taking line) old all.middle line all.reply all.answers in
+    let rest = commands_are_few taking all.middle new lines all.after all.rest none.1 in
+    let after : CompletesAtMost all.middle (all_commands taking old.drive.geometry lines) new = rw same at rest in
     omega (arith, first, after)
 
 -- ---- the line that ends a run
@@ -74,15 +87,22 @@ refused_few : (said : Option (TraceLine × List ℕ)) (fault : DiskFault) (old n
 refused_few None fault old new none stops = absurd stops
 refused_few (Some (line, bytes)) fault old new none stops = does_few line bytes (Err fault) old new none stops
 
+-- or whose flush is
+refusal_few : (flushed : Bool) (fault : DiskFault) (old new : DiskView) (line : List ℕ) → mounts (said_by line) ≡ false → RefusesWith flushed old line (Disk fault) new
+    → CompletesAtMost old (with_flush flushed (most_commands old.drive.geometry (said_by line))) new
+refusal_few false fault old new line none r = refused_few (said_by line) fault old new none r.does
+refusal_few true fault old new line none (inl r) = omega (arith, refused_few (said_by line) fault old new none r.does)
+refusal_few true fault old new line none (inr u) = omega (arith, said_few (said_by line) old u.1.middle none u.1.answers.does, u.1.flushed.completed)
+
 pub last_is_few : LastIsFew
-last_is_few only_reads Output left number old shown new s = λ none. said_few (said_by s.line) old new none s.does.answers.does
-last_is_few only_reads (Disk fault) left number old shown new s = λ none. refused_few (said_by s.1.line) fault old new none s.1.does.does
-last_is_few only_reads (Mount fault) left number old shown new s = tt
-last_is_few only_reads Memory left number old shown new s = s.1.reads.completed
-last_is_few only_reads (runs.Line m) left number old shown new s = rw s.3 (omega arith)
-last_is_few only_reads (runs.Long m) left number old shown new s = rw s.3 (omega arith)
-last_is_few only_reads runs.Input left number old shown new s = rw s.1 (omega arith)
-last_is_few only_reads (runs.Geometry fault) left number old shown new s = absurd s.1.does.cause
+last_is_few taking Output left number old shown new s = λ none. answer_few (is_flushed taking s.line) old new s.line s.does.reply none s.does.answers
+last_is_few taking (Disk fault) left number old shown new s = λ none. refusal_few (is_flushed taking s.1.line) fault old new s.1.line none s.1.does
+last_is_few taking (Mount fault) left number old shown new s = tt
+last_is_few taking Memory left number old shown new s = s.1.reads.completed
+last_is_few taking (runs.Line m) left number old shown new s = rw s.3 (omega arith)
+last_is_few taking (runs.Long m) left number old shown new s = rw s.3 (omega arith)
+last_is_few taking runs.Input left number old shown new s = rw s.1 (omega arith)
+last_is_few taking (runs.Geometry fault) left number old shown new s = absurd (no_geometry (is_flushed taking s.1.line) fault old new s.1.line s.1.does)
 
 -- ---- turns
 
@@ -121,15 +141,20 @@ said_turns : (said : Option (TraceLine × List ℕ)) (old new : DiskView) → Do
 said_turns None old new does few = rw does few
 said_turns (Some (line, bytes)) old new does few = does_turns line bytes old new does few
 
-all_few : (only_reads : Bool) (old new : DiskView) (lines : List (List ℕ)) (text : List ℕ) → AnswersAll (disk_lines only_reads) old lines text new → disk_turns old < old.drive.geometry.capacity → disk_turns new < new.drive.geometry.capacity
-all_few only_reads old new [] text all few = rw all.1 few
-all_few only_reads old new (line ∷ lines) text all few = all_few only_reads all.middle new lines all.after all.rest (said_turns (said_by line) old all.middle all.answers.does few)
+answer_turns : (flushed : Bool) (old new : DiskView) (line reply : List ℕ) → AnswersWith flushed old line reply new → disk_turns old < old.drive.geometry.capacity → disk_turns new < new.drive.geometry.capacity
+answer_turns false old new line reply a few = said_turns (said_by line) old new a.does few
+answer_turns true old new line reply a few =
+    host_few a.middle new a.flushed.answers.kept.geometry (omega (arith, a.flushed.turns)) (said_turns (said_by line) old a.middle a.answers.does few)
+
+all_few : (taking : Taking) (old new : DiskView) (lines : List (List ℕ)) (text : List ℕ) → AnswersAll (disk_lines taking) old lines text new → disk_turns old < old.drive.geometry.capacity → disk_turns new < new.drive.geometry.capacity
+all_few taking old new [] text all few = rw all.1 few
+all_few taking old new (line ∷ lines) text all few = all_few taking all.middle new lines all.after all.rest (answer_turns (is_flushed taking line) old all.middle line all.reply all.answers few)
 
 pub turns_are_few : TurnsAreFew
-turns_are_few only_reads drive n first new lines text mounted kept all =
+turns_are_few taking drive n first new lines text mounted kept all =
     let none = no_turns first mounted.clean in
     let capacity : first.drive.geometry.capacity ≡ drive.geometry.capacity = ap (λ (g : Geometry). g.capacity) kept.geometry in
-    all_few only_reads first new lines text all (omega (arith, none, capacity, mounted.can.geometry.capacity.0))
+    all_few taking first new lines text all (omega (arith, none, capacity, mounted.can.geometry.capacity.0))
 
 -- ---- how a clean ends
 
@@ -161,6 +186,17 @@ said_pause (Some (Idle n, bytes)) old new does = pauses n old new does.1
 said_pause (Some (Grow size, bytes)) old new does = inr (omega (arith, does.turns))
 said_pause (Some (Remount, bytes)) old new does = inr (omega (arith, no_turns new does.disk.clean))
 
+-- and of a line that is answered
+answer_pause : (flushed : Bool) (old : DiskView) (line reply : List ℕ) (new : DiskView) (a : AnswersWith flushed old line reply new)
+    → PausesWith flushed old line reply new a ⊎ (disk_turns new + turns_asked (said_by line) ≤ disk_turns old)
+answer_pause false old line reply new a = said_pause (said_by line) old new a.does
+answer_pause true old line reply new a = by (said_pause (said_by line) old a.middle a.answers.does)
+  where
+    by : PausesAt (said_by line) old a.middle a.answers.does ⊎ (disk_turns a.middle + turns_asked (said_by line) ≤ disk_turns old)
+        → PausesAt (said_by line) old a.middle a.answers.does ⊎ (disk_turns new + turns_asked (said_by line) ≤ disk_turns old)
+    by (inl p) = inl p
+    by (inr le) = inr (omega (arith, le, a.flushed.turns))
+
 -- of a disk that has none left no clean runs
 none_runs : (disk : DiskView) → disk_turns disk ≤ 0 → disk.clean ≡ None
 none_runs disk few = by disk.clean refl
@@ -170,11 +206,11 @@ none_runs disk few = by disk.clean refl
     by (Some clean) e = let bad = rw e at few in absurd (omega (arith, bad))
 
 pub cleans_end : CleansEnd
-cleans_end only_reads old new [] text all few = none_runs old few
-cleans_end only_reads old new (line ∷ lines) text all few =
-    by (said_pause (said_by line) old all.middle all.answers.does) (cleans_end only_reads all.middle new lines all.after all.rest)
+cleans_end taking old new [] text all few = none_runs old few
+cleans_end taking old new (line ∷ lines) text all few =
+    by (answer_pause (is_flushed taking line) old line all.reply all.middle all.answers) (cleans_end taking all.middle new lines all.after all.rest)
   where
-    by : PausesAt (said_by line) old all.middle all.answers.does ⊎ (disk_turns all.middle + turns_asked (said_by line) ≤ disk_turns old)
-        → (disk_turns all.middle ≤ all_turns lines → Pauses only_reads all.middle lines all.after new all.rest) → Pauses only_reads old (line ∷ lines) text new all
+    by : PausesWith (is_flushed taking line) old line all.reply all.middle all.answers ⊎ (disk_turns all.middle + turns_asked (said_by line) ≤ disk_turns old)
+        → (disk_turns all.middle ≤ all_turns lines → Pauses taking all.middle lines all.after new all.rest) → Pauses taking old (line ∷ lines) text new all
     by (inl p) rest = inl p
     by (inr le) rest = inr (rest (omega (arith, le, few)))

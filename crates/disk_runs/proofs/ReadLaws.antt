@@ -8,12 +8,13 @@ use Rattle.zone_translator.specs.Flat.{Answer, Begun, FlatCall, FlatDisk, known_
 use Rattle.zone_translator.specs.View.{DiskView, disk_array, flat_of}
 use Rattle.zone_translator.specs.declared.fault.DiskFault.{DiskFault}
 use Rattle.drive_survey.specs.declared.fault.MountFault.{MountFault}
-use Rattle.disk_runs.specs.FlatLines.{AnswersRequest, RefusesRequest, Request, asked, is_read, request_of, says_read, single, takes}
+use Rattle.disk_runs.specs.FlatLines.{AnswersRequest, RefusesRequest, Request, asked, request_of, single}
 use Rattle.disk_runs.specs.Run.{AnswersAll, Exchange, Known, Runs, StopsAt}
-use Rattle.disk_runs.specs.Trace.{reads}
+use Rattle.disk_runs.specs.Taken.{is_read, reads, says_read, takes}
 use Rattle.disk_runs.specs.declared.fault.RunFault.{RunFault}
 use Rattle.disk_runs.specs.declared.fault.RunFault.TheVariants as runs
 use Rattle.disk_runs.specs.declared.fault.RunFault.TheVariants.{Line, Long, Disk, Mount, Input, Output, Memory}
+use Rattle.disk_runs.specs.declared.taking.Taking.TheVariants.{Reads}
 
 -- ---- a read
 
@@ -34,7 +35,7 @@ read_same old new first n answer called = by (known_answer old (read first n)) c
 -- ---- a line
 
 -- what holds of a line that asks for nothing, and of each that asks for a read, holds of each line that is taken
-of_taken : (P : Option Request → Type 0) (size : ℕ) (line : List ℕ) → takes true size line ≡ true → P None → ((first n : ℕ) → P (Some (single (read first n)))) → P (request_of size line)
+of_taken : (P : Option Request → Type 0) (size : ℕ) (line : List ℕ) → takes Reads size line ≡ true → P None → ((first n : ℕ) → P (Some (single (read first n)))) → P (request_of size line)
 of_taken P size line taken none some = by (is_skipped line) (trace_line line) taken
   where
     asks : (call : TraceLine) (bytes : List ℕ) → is_read call ≡ true → P (asked size call bytes)
@@ -53,19 +54,19 @@ of_taken P size line taken none some = by (is_skipped line) (trace_line line) ta
     by false (Some said) e = asks said.0 said.1 e
 
 -- a line that was answered
-answered_same : (old new : FlatDisk) (line reply : List ℕ) → takes true old.block line ≡ true → AnswersRequest old (request_of old.block line) reply new → new.array ≡ old.array
+pub answered_same : (old new : FlatDisk) (line reply : List ℕ) → takes Reads old.block line ≡ true → AnswersRequest old (request_of old.block line) reply new → new.array ≡ old.array
 answered_same old new line reply taken =
     of_taken (λ wanted. AnswersRequest old wanted reply new → new.array ≡ old.array) old.block line taken
     (λ p. ap (λ (d : FlatDisk). d.array) p.1) (λ first n p. read_same old new first n p.answer p.flat)
 
 -- and one that was refused
-refused_same : (old new : FlatDisk) (line : List ℕ) (fault : DiskFault) → takes true old.block line ≡ true → RefusesRequest old (request_of old.block line) (Disk fault) new → new.array ≡ old.array
+refused_same : (old new : FlatDisk) (line : List ℕ) (fault : DiskFault) → takes Reads old.block line ≡ true → RefusesRequest old (request_of old.block line) (Disk fault) new → new.array ≡ old.array
 refused_same old new line fault taken =
     of_taken (λ wanted. RefusesRequest old wanted (Disk fault) new → new.array ≡ old.array) old.block line taken
     (λ p. absurd p) (λ first n p. read_same old new first n (with_nothing (Err fault)) p.flat)
 
 -- no line that reads is refused by a mount
-mount_same : (old new : FlatDisk) (line : List ℕ) (fault : MountFault) → takes true old.block line ≡ true → RefusesRequest old (request_of old.block line) (Mount fault) new → new.array ≡ old.array
+mount_same : (old new : FlatDisk) (line : List ℕ) (fault : MountFault) → takes Reads old.block line ≡ true → RefusesRequest old (request_of old.block line) (Mount fault) new → new.array ≡ old.array
 mount_same old new line fault taken =
     of_taken (λ wanted. RefusesRequest old wanted (Mount fault) new → new.array ≡ old.array) old.block line taken
     (λ p. absurd p) (λ first n p. absurd p)

@@ -1,7 +1,8 @@
 -- A run from a drive to a drive.
-use Rattle.std.proofs.Common.{◌≡◌, ℕ, ◌+◌, List, [], ◌∷◌, length, Option, Some, None, Ok, Err, inr, refl, sym, ap, subst, ◌∙◌}
+use Rattle.std.proofs.Common.{◌≡◌, ℕ, ◌+◌, true, false, List, [], ◌∷◌, length, Option, Some, None, Ok, Err, inl, inr, refl, sym, ap, subst, ◌∙◌}
 use Rattle.std.specs.Prelude.{Bool, IfErr, Result}
 use Rattle.zone_states.specs.declared.geometry.Geometry.{Geometry}
+use Rattle.zone_states.specs.declared.geometry.GeometryFault.{GeometryFault}
 use Rattle.drive_port.specs.Drive.{DriveState}
 use Rattle.drive_array.specs.ZoneLogs.{spelled}
 use Rattle.drive_array.specs.Reserve.{most_size}
@@ -17,62 +18,86 @@ use Rattle.zone_translator.specs.declared.status.DiskStatus.{DiskStatus}
 use Rattle.zone_translator.specs.declared.status.DiskStatus.TheVariants as statuses
 use Rattle.disk_files.specs.declared.trace_line.TraceLine.{TraceLine}
 use Rattle.disk_files.specs.declared.trace_line.TraceLine.TheVariants.{Read, Fill, Write, Trim, Idle, Grow, Remount}
-use Rattle.disk_runs.specs.FlatLines.{flat_lines}
+use Rattle.disk_runs.specs.FlatLines.{AnswersRequest}
 use Rattle.disk_runs.specs.Run.{AnswersAll, AtLine, Exchange, IsBeginning, IsLine, Known, Runs, StopsEarly, StopsAt}
-use Rattle.disk_runs.specs.Trace.{CallCause, Does, DoesSaid, EndCause, KeepsDrive, KeepsFault, KeepsServed, MountsAgain, RefusesLine, RunGives, RunKeeps, RunLeaves, RunsFlat, disk_at_first, disk_lines, disk_on, said_by}
+use Rattle.disk_runs.specs.Taken.{AnswersWith, FlatRefusesWith, FlushesDisk, RefusesWith, disk_lines, flat_lines, is_flushed}
+use Rattle.disk_runs.specs.Trace.{CallCause, Does, DoesSaid, EndCause, KeepsDrive, KeepsFault, KeepsServed, MountsAgain, RunGives, RunKeeps, RunLeaves, RunsFlat, disk_at_first, disk_on, said_by, wanted_of}
 use Rattle.disk_runs.specs.declared.fault.RunFault.{RunFault}
 use Rattle.disk_runs.specs.declared.fault.RunFault.TheVariants as runs
 use Rattle.disk_runs.specs.declared.fault.RunFault.TheVariants.{Line, Long, Disk, Mount, Input, Output, Memory}
+use Rattle.disk_runs.specs.declared.taking.Taking.{Taking}
+use Rattle.disk_runs.proofs.CallLaws.{cause_of}
+use Rattle.disk_runs.proofs.FlushLaws.{flush_unchanged, flush_untold}
 
 -- ---- a run, as a flat disk sees it
 
-line_flat : (only_reads : Bool) (disk : DiskView) (line : List ℕ) → IsLine (disk_lines only_reads) disk line → IsLine (flat_lines only_reads) (flat_of disk) line
-line_flat only_reads disk line p = record { short = p.short; legal = p.legal }
+line_flat : (taking : Taking) (disk : DiskView) (line : List ℕ) → IsLine (disk_lines taking) disk line → IsLine (flat_lines taking) (flat_of disk) line
+line_flat taking disk line p = record { short = p.short; legal = p.legal }
 
-all_flat : (only_reads : Bool) (lines : List (List ℕ)) (text : List ℕ) (old new : DiskView) → AnswersAll (disk_lines only_reads) old lines text new → AnswersAll (flat_lines only_reads) (flat_of old) lines text (flat_of new)
-all_flat only_reads [] text old new p = (p.0, ap flat_of p.1)
-all_flat only_reads (line ∷ lines) text old new p = record {
+-- a line that is answered is answered by a flat disk, of which a flush changes nothing
+answer_flat : (flushed : Bool) (old new : DiskView) (line reply : List ℕ) → AnswersWith flushed old line reply new → AnswersRequest (flat_of old) (wanted_of old line) reply (flat_of new)
+answer_flat false old new line reply a = a.flat
+answer_flat true old new line reply a =
+    subst (λ (d : FlatDisk). AnswersRequest (flat_of old) (wanted_of old line) reply d) (sym (flush_unchanged a.middle new a.flushed)) a.answers.flat
+
+-- and one that is refused is refused by it, or its flush is
+refusal_flat : (flushed : Bool) (fault : RunFault) (old new : DiskView) (line : List ℕ) → RefusesWith flushed old line fault new → FlatRefusesWith flushed (flat_of old) line fault (flat_of new)
+refusal_flat false fault old new line r = r.flat
+refusal_flat true (Disk f) old new line (inl r) = inl r.flat
+refusal_flat true (Disk f) old new line (inr u) =
+    inr (record { reply = u.0; middle = flat_of u.1.middle; answers = u.1.answers.flat; refused = u.1.flushed.answers.flat })
+refusal_flat true (Line m) old new line r = r.flat
+refusal_flat true (Long m) old new line r = r.flat
+refusal_flat true (Mount f) old new line r = r.flat
+refusal_flat true (runs.Geometry f) old new line r = r.flat
+refusal_flat true Input old new line r = r.flat
+refusal_flat true Output old new line r = r.flat
+refusal_flat true Memory old new line r = r.flat
+
+all_flat : (taking : Taking) (lines : List (List ℕ)) (text : List ℕ) (old new : DiskView) → AnswersAll (disk_lines taking) old lines text new → AnswersAll (flat_lines taking) (flat_of old) lines text (flat_of new)
+all_flat taking [] text old new p = (p.0, ap flat_of p.1)
+all_flat taking (line ∷ lines) text old new p = record {
   reply = p.reply;
   after = p.after;
   middle = flat_of p.middle;
-  is_line = line_flat only_reads old line p.is_line;
-  answers = p.answers.flat;
-  rest = all_flat only_reads lines p.after p.middle new p.rest;
+  is_line = line_flat taking old line p.is_line;
+  answers = answer_flat (is_flushed taking line) old p.middle line p.reply p.answers;
+  rest = all_flat taking lines p.after p.middle new p.rest;
   text_is = p.text_is;
 }
 
-at_flat : (only_reads : Bool) (left : Known) (old : DiskView) (P Q : List ℕ → Type 0) → ((line : List ℕ) → P line → Q line) → AtLine (disk_lines only_reads) left old P → AtLine (flat_lines only_reads) left (flat_of old) Q
-at_flat only_reads left old P Q f p = record { line = p.line; next = p.next; is_line = line_flat only_reads old p.line p.is_line; does = f p.line p.does }
+at_flat : (taking : Taking) (left : Known) (old : DiskView) (P Q : List ℕ → Type 0) → ((line : List ℕ) → P line → Q line) → AtLine (disk_lines taking) left old P → AtLine (flat_lines taking) left (flat_of old) Q
+at_flat taking left old P Q f p = record { line = p.line; next = p.next; is_line = line_flat taking old p.line p.is_line; does = f p.line p.does }
 
-stops_flat : (only_reads : Bool) (fault : RunFault) (left : Known) (number : ℕ) (old : DiskView) (shown : List ℕ) (new : DiskView) → StopsAt (disk_lines only_reads) fault left number old shown new
-    → StopsAt (flat_lines only_reads) fault left number (flat_of old) shown (flat_of new)
-stops_flat only_reads (Line m) left number old shown new p =
+stops_flat : (taking : Taking) (fault : RunFault) (left : Known) (number : ℕ) (old : DiskView) (shown : List ℕ) (new : DiskView) → StopsAt (disk_lines taking) fault left number old shown new
+    → StopsAt (flat_lines taking) fault left number (flat_of old) shown (flat_of new)
+stops_flat taking (Line m) left number old shown new p =
     (p.0, record { line = p.1.line; next = p.1.next; short = p.1.short; wrong = p.1.wrong }, p.2, ap flat_of p.3)
-stops_flat only_reads (Long m) left number old shown new p = (p.0, p.1, p.2, ap flat_of p.3)
-stops_flat only_reads Input left number old shown new p = (p.0, ap flat_of p.1)
-stops_flat only_reads Output left number old shown new p =
-    at_flat only_reads left old (λ line. IsBeginning (disk_lines only_reads) old line shown new) (λ line. IsBeginning (flat_lines only_reads) (flat_of old) line shown (flat_of new))
-    (λ line b. record { reply = b.reply; count = b.count; answers = b.answers.flat; short = b.short; shown_is = b.shown_is }) p
-stops_flat only_reads Memory left number old shown new p = (p.0, p.1.flat)
-stops_flat only_reads (Disk f) left number old shown new p =
-    (p.0, at_flat only_reads left old (λ line. RefusesLine old line (Disk f) new) (λ line. (flat_lines only_reads).Refuses (flat_of old) line (Disk f) (flat_of new)) (λ line r. r.flat) p.1)
-stops_flat only_reads (Mount f) left number old shown new p =
-    (p.0, at_flat only_reads left old (λ line. RefusesLine old line (Mount f) new) (λ line. (flat_lines only_reads).Refuses (flat_of old) line (Mount f) (flat_of new)) (λ line r. r.flat) p.1)
-stops_flat only_reads (runs.Geometry f) left number old shown new p =
-    (p.0, at_flat only_reads left old (λ line. RefusesLine old line (runs.Geometry f) new) (λ line. (flat_lines only_reads).Refuses (flat_of old) line (runs.Geometry f) (flat_of new)) (λ line r. r.flat) p.1)
+stops_flat taking (Long m) left number old shown new p = (p.0, p.1, p.2, ap flat_of p.3)
+stops_flat taking Input left number old shown new p = (p.0, ap flat_of p.1)
+stops_flat taking Output left number old shown new p =
+    at_flat taking left old (λ line. IsBeginning (disk_lines taking) old line shown new) (λ line. IsBeginning (flat_lines taking) (flat_of old) line shown (flat_of new))
+    (λ line b. record { reply = b.reply; count = b.count; answers = answer_flat (is_flushed taking line) old new line b.reply b.answers; short = b.short; shown_is = b.shown_is }) p
+stops_flat taking Memory left number old shown new p = (p.0, p.1.flat)
+stops_flat taking (Disk f) left number old shown new p =
+    (p.0, at_flat taking left old (λ line. (disk_lines taking).Refuses old line (Disk f) new) (λ line. (flat_lines taking).Refuses (flat_of old) line (Disk f) (flat_of new)) (λ line r. refusal_flat (is_flushed taking line) (Disk f) old new line r) p.1)
+stops_flat taking (Mount f) left number old shown new p =
+    (p.0, at_flat taking left old (λ line. (disk_lines taking).Refuses old line (Mount f) new) (λ line. (flat_lines taking).Refuses (flat_of old) line (Mount f) (flat_of new)) (λ line r. refusal_flat (is_flushed taking line) (Mount f) old new line r) p.1)
+stops_flat taking (runs.Geometry f) left number old shown new p =
+    (p.0, at_flat taking left old (λ line. (disk_lines taking).Refuses old line (runs.Geometry f) new) (λ line. (flat_lines taking).Refuses (flat_of old) line (runs.Geometry f) (flat_of new)) (λ line r. refusal_flat (is_flushed taking line) (runs.Geometry f) old new line r) p.1)
 
-runs_flat : (only_reads : Bool) (bytes : Exchange) (old new : DiskView) (ended : Result (Unit {0}) RunFault) → Runs (disk_lines only_reads) bytes old ended new → Runs (flat_lines only_reads) bytes (flat_of old) ended (flat_of new)
-runs_flat only_reads bytes old new (Ok done) r = record { lines = r.lines; text = r.text; read = r.read; answered = all_flat only_reads r.lines r.text old new r.answered; written = r.written }
-runs_flat only_reads bytes old new (Err fault) r = record {
+runs_flat : (taking : Taking) (bytes : Exchange) (old new : DiskView) (ended : Result (Unit {0}) RunFault) → Runs (disk_lines taking) bytes old ended new → Runs (flat_lines taking) bytes (flat_of old) ended (flat_of new)
+runs_flat taking bytes old new (Ok done) r = record { lines = r.lines; text = r.text; read = r.read; answered = all_flat taking r.lines r.text old new r.answered; written = r.written }
+runs_flat taking bytes old new (Err fault) r = record {
   lines = r.lines;
   left = r.left;
   text = r.text;
   shown = r.shown;
   middle = flat_of r.middle;
   read = r.read;
-  answered = all_flat only_reads r.lines r.text old r.middle r.answered;
+  answered = all_flat taking r.lines r.text old r.middle r.answered;
   written = r.written;
-  stops = stops_flat only_reads fault r.left (length r.lines + 1) r.middle r.shown new r.stops;
+  stops = stops_flat taking fault r.left (length r.lines + 1) r.middle r.shown new r.stops;
 }
 
 -- ---- what lines keep of a disk
@@ -123,12 +148,22 @@ on_said : (said : Option (TraceLine × List ℕ)) (old new : DiskView) → IsMou
 on_said None old new m d = rw d (record { drive = kept_same old m; unmounted = λ e. e })
 on_said (Some (line, bytes)) old new m d = on_line line bytes old new m d
 
-on_all : (only_reads : Bool) (lines : List (List ℕ)) (text : List ℕ) (old new : DiskView) → IsMountable old.drive (given_size old) → AnswersAll (disk_lines only_reads) old lines text new → KeepsOn old new
-on_all only_reads [] text old new m p = rw p.1 (record { drive = kept_same old m; unmounted = λ e. e })
-on_all only_reads (line ∷ lines) text old new m p =
-    let one = on_said (said_by line) old p.middle m p.answers.does in
-    let more = on_all only_reads lines p.after p.middle new one.drive.mountable p.rest in
-    record { drive = kept_on old p.middle new one.drive more.drive; unmounted = λ e. one.unmounted (more.unmounted e) }
+on_more : (a b c : DiskView) → KeepsOn a b → KeepsOn b c → KeepsOn a c
+on_more a b c p q = record { drive = kept_on a b c p.drive q.drive; unmounted = λ e. p.unmounted (q.unmounted e) }
+
+on_flush : (old new : DiskView) (result : Result (Unit {0}) DiskFault) → FlushesDisk old result new → KeepsOn old new
+on_flush old new result f = record { drive = kept_served old new f.answers.kept; unmounted = f.answers.kept.unmounted }
+
+-- a line that is answered, and flushed where a flush follows it
+pub on_answer : (flushed : Bool) (old new : DiskView) (line reply : List ℕ) → IsMountable old.drive (given_size old) → AnswersWith flushed old line reply new → KeepsOn old new
+on_answer false old new line reply m a = on_said (said_by line) old new m a.does
+on_answer true old new line reply m a = on_more old a.middle new (on_said (said_by line) old a.middle m a.answers.does) (on_flush a.middle new (Ok tt) a.flushed)
+
+pub on_all : (taking : Taking) (lines : List (List ℕ)) (text : List ℕ) (old new : DiskView) → IsMountable old.drive (given_size old) → AnswersAll (disk_lines taking) old lines text new → KeepsOn old new
+on_all taking [] text old new m p = rw p.1 (record { drive = kept_same old m; unmounted = λ e. e })
+on_all taking (line ∷ lines) text old new m p =
+    let one = on_answer (is_flushed taking line) old p.middle line p.reply m p.answers in
+    on_more old p.middle new one (on_all taking lines p.after p.middle new one.drive.mountable p.rest)
 
 -- a line that ends a run
 kept_fault : (fault : RunFault) (old new : DiskView) → IsMountable old.drive (given_size old) → KeepsFault fault old new → KeepsDrive old new
@@ -141,21 +176,35 @@ kept_fault Input old new can k = kept_served old new (k.mounted can)
 kept_fault Output old new can k = kept_served old new (k.mounted can)
 kept_fault Memory old new can k = kept_served old new (k.mounted can)
 
-kept_stop : (only_reads : Bool) (fault : RunFault) (left : Known) (number : ℕ) (old : DiskView) (shown : List ℕ) (new : DiskView) → IsMountable old.drive (given_size old) → StopsAt (disk_lines only_reads) fault left number old shown new → KeepsDrive old new
-kept_stop only_reads (Line m) left number old shown new can p = rw p.3 (kept_same old can)
-kept_stop only_reads (Long m) left number old shown new can p = rw p.3 (kept_same old can)
-kept_stop only_reads Input left number old shown new can p = rw p.1 (kept_same old can)
-kept_stop only_reads Output left number old shown new can p = (on_said (said_by p.line) old new can p.does.answers.does).drive
-kept_stop only_reads Memory left number old shown new can p = kept_served old new (p.1.keeps.mounted can)
-kept_stop only_reads (Disk f) left number old shown new can p = kept_fault (Disk f) old new can p.1.does.keeps
-kept_stop only_reads (Mount f) left number old shown new can p = kept_fault (Mount f) old new can p.1.does.keeps
-kept_stop only_reads (runs.Geometry f) left number old shown new can p = kept_fault (runs.Geometry f) old new can p.1.does.keeps
+-- a line that is refused, or whose flush is
+kept_refused : (flushed : Bool) (fault : RunFault) (old new : DiskView) (line : List ℕ) → IsMountable old.drive (given_size old) → RefusesWith flushed old line fault new → KeepsDrive old new
+kept_refused false fault old new line can r = kept_fault fault old new can r.keeps
+kept_refused true (Disk f) old new line can (inl r) = kept_fault (Disk f) old new can r.keeps
+kept_refused true (Disk f) old new line can (inr u) =
+    (on_more old u.1.middle new (on_said (said_by line) old u.1.middle can u.1.answers.does) (on_flush u.1.middle new (Err f) u.1.flushed)).drive
+kept_refused true (Line m) old new line can r = kept_fault (Line m) old new can r.keeps
+kept_refused true (Long m) old new line can r = kept_fault (Long m) old new can r.keeps
+kept_refused true (Mount f) old new line can r = kept_fault (Mount f) old new can r.keeps
+kept_refused true (runs.Geometry f) old new line can r = kept_fault (runs.Geometry f) old new can r.keeps
+kept_refused true Input old new line can r = kept_fault Input old new can r.keeps
+kept_refused true Output old new line can r = kept_fault Output old new can r.keeps
+kept_refused true Memory old new line can r = kept_fault Memory old new can r.keeps
 
-kept_run : (only_reads : Bool) (bytes : Exchange) (first last : DiskView) (ended : Result (Unit {0}) RunFault) → IsMountable first.drive (given_size first) → Runs (disk_lines only_reads) bytes first ended last → KeepsDrive first last
-kept_run only_reads bytes first last (Ok done) can r = (on_all only_reads r.lines r.text first last can r.answered).drive
-kept_run only_reads bytes first last (Err fault) can r =
-    let before = (on_all only_reads r.lines r.text first r.middle can r.answered).drive in
-    kept_on first r.middle last before (kept_stop only_reads fault r.left (length r.lines + 1) r.middle r.shown last before.mountable r.stops)
+kept_stop : (taking : Taking) (fault : RunFault) (left : Known) (number : ℕ) (old : DiskView) (shown : List ℕ) (new : DiskView) → IsMountable old.drive (given_size old) → StopsAt (disk_lines taking) fault left number old shown new → KeepsDrive old new
+kept_stop taking (Line m) left number old shown new can p = rw p.3 (kept_same old can)
+kept_stop taking (Long m) left number old shown new can p = rw p.3 (kept_same old can)
+kept_stop taking Input left number old shown new can p = rw p.1 (kept_same old can)
+kept_stop taking Output left number old shown new can p = (on_answer (is_flushed taking p.line) old new p.line p.does.reply can p.does.answers).drive
+kept_stop taking Memory left number old shown new can p = kept_served old new (p.1.keeps.mounted can)
+kept_stop taking (Disk f) left number old shown new can p = kept_refused (is_flushed taking p.1.line) (Disk f) old new p.1.line can p.1.does
+kept_stop taking (Mount f) left number old shown new can p = kept_refused (is_flushed taking p.1.line) (Mount f) old new p.1.line can p.1.does
+kept_stop taking (runs.Geometry f) left number old shown new can p = kept_refused (is_flushed taking p.1.line) (runs.Geometry f) old new p.1.line can p.1.does
+
+kept_run : (taking : Taking) (bytes : Exchange) (first last : DiskView) (ended : Result (Unit {0}) RunFault) → IsMountable first.drive (given_size first) → Runs (disk_lines taking) bytes first ended last → KeepsDrive first last
+kept_run taking bytes first last (Ok done) can r = (on_all taking r.lines r.text first last can r.answered).drive
+kept_run taking bytes first last (Err fault) can r =
+    let before = (on_all taking r.lines r.text first r.middle can r.answered).drive in
+    kept_on first r.middle last before (kept_stop taking fault r.left (length r.lines + 1) r.middle r.shown last before.mountable r.stops)
 
 -- ---- why a run ended
 
@@ -169,18 +218,33 @@ call_cause faults.Smaller old new kept serves cause = cause
 call_cause faults.Reserve old new kept serves cause = cause
 call_cause faults.Unmounted old new kept serves cause = absurd (serves (kept.unmounted cause))
 
-run_cause : (only_reads : Bool) (bytes : Exchange) (first last : DiskView) (fault : RunFault) → IsMountable first.drive (given_size first) → first.status ≡ statuses.Serving → StopsEarly (disk_lines only_reads) bytes first fault last → CallCause last fault
-run_cause only_reads bytes first last (Line m) can serves r = tt
-run_cause only_reads bytes first last (Long m) can serves r = tt
-run_cause only_reads bytes first last Input can serves r = tt
-run_cause only_reads bytes first last Output can serves r = tt
-run_cause only_reads bytes first last Memory can serves r = tt
-run_cause only_reads bytes first last (Mount f) can serves r = tt
-run_cause only_reads bytes first last (runs.Geometry f) can serves r = tt
-run_cause only_reads bytes first last (Disk f) can serves r =
-    let before = on_all only_reads r.lines r.text first r.middle can r.answered in
-    let refused = r.stops.1.does in
-    call_cause f r.middle last (refused.keeps.mounted before.drive.mountable) (λ e. let bad = sym serves ∙ before.unmounted e in absurd (cc)) refused.cause
+-- why a line was refused, or its flush
+refusal_cause : (flushed : Bool) (fault : DiskFault) (old new : DiskView) (line : List ℕ) → IsMountable old.drive (given_size old) → (old.status ≡ statuses.Unmounted → ⊥) → RefusesWith flushed old line (Disk fault) new
+    → IsCause new.drive (next_sequence new) fault
+refusal_cause false fault old new line can serves r = call_cause fault old new (r.keeps.mounted can) serves r.cause
+refusal_cause true fault old new line can serves (inl r) = call_cause fault old new (r.keeps.mounted can) serves r.cause
+refusal_cause true fault old new line can serves (inr u) =
+    let one = on_said (said_by line) old u.1.middle can u.1.answers.does in
+    let untold = flush_untold (flat_of u.1.middle) (flat_of new) fault u.1.flushed.answers.flat in
+    call_cause fault u.1.middle new u.1.flushed.answers.kept (λ e. serves (one.unmounted e)) (cause_of new fault untold u.1.flushed.answers.cause)
+
+-- none is refused for a geometry
+pub no_geometry : (flushed : Bool) (fault : GeometryFault) (old new : DiskView) (line : List ℕ) → RefusesWith flushed old line (runs.Geometry fault) new → ⊥
+no_geometry false fault old new line r = r.cause
+no_geometry true fault old new line r = r.cause
+
+run_cause : (taking : Taking) (bytes : Exchange) (first last : DiskView) (fault : RunFault) → IsMountable first.drive (given_size first) → first.status ≡ statuses.Serving → StopsEarly (disk_lines taking) bytes first fault last → CallCause last fault
+run_cause taking bytes first last (Line m) can serves r = tt
+run_cause taking bytes first last (Long m) can serves r = tt
+run_cause taking bytes first last Input can serves r = tt
+run_cause taking bytes first last Output can serves r = tt
+run_cause taking bytes first last Memory can serves r = tt
+run_cause taking bytes first last (Mount f) can serves r = tt
+run_cause taking bytes first last (runs.Geometry f) can serves r = tt
+run_cause taking bytes first last (Disk f) can serves r =
+    let before = on_all taking r.lines r.text first r.middle can r.answered in
+    let line = r.stops.1.line in
+    refusal_cause (is_flushed taking line) f r.middle last line before.drive.mountable (λ e. let bad = sym serves ∙ before.unmounted e in absurd (cc)) r.stops.1.does
 
 -- ---- a run, from a drive to a drive
 
@@ -203,27 +267,27 @@ at_last : (n : ℕ) (last : DiskView) → given_size last ≡ n → flat_of last
 at_last n last same = ap (λ (k : ℕ). disk_on k last.drive (disk_size last) last.status) same
 
 -- what every run has
-pub record Led (only_reads : Bool) (n : ℕ) (bytes : Exchange) (old : DriveState) (ended : Result (Unit {0}) RunFault) (new : DriveState) : Type 0 where
-  pub flat : RunsFlat (flat_lines only_reads) n bytes old ended new
-  pub keeps : RunKeeps (disk_lines only_reads) n bytes old ended new
+pub record Led (taking : Taking) (n : ℕ) (bytes : Exchange) (old : DriveState) (ended : Result (Unit {0}) RunFault) (new : DriveState) : Type 0 where
+  pub flat : RunsFlat (flat_lines taking) n bytes old ended new
+  pub keeps : RunKeeps (disk_lines taking) n bytes old ended new
 
-cause_of_end : (only_reads : Bool) (bytes : Exchange) (first last : DiskView) (ended : Result (Unit {0}) RunFault) → IsMountable first.drive (given_size first) → first.status ≡ statuses.Serving → Runs (disk_lines only_reads) bytes first ended last → IfErr ended (CallCause last)
-cause_of_end only_reads bytes first last (Ok done) can serves r = tt
-cause_of_end only_reads bytes first last (Err fault) can serves r = run_cause only_reads bytes first last fault can serves r
+cause_of_end : (taking : Taking) (bytes : Exchange) (first last : DiskView) (ended : Result (Unit {0}) RunFault) → IsMountable first.drive (given_size first) → first.status ≡ statuses.Serving → Runs (disk_lines taking) bytes first ended last → IfErr ended (CallCause last)
+cause_of_end taking bytes first last (Ok done) can serves r = tt
+cause_of_end taking bytes first last (Err fault) can serves r = run_cause taking bytes first last fault can serves r
 
 -- a run was mounted, and led on
-pub led : (only_reads : Bool) (n : ℕ) (bytes : Exchange) (old : DriveState) (first last : DiskView) (ended : Result (Unit {0}) RunFault) → MountsDisk old n first → KeepsMountable n old first.drive → IsMountable first.drive (given_size first)
-    → Runs (disk_lines only_reads) bytes first ended last → Led only_reads n bytes old ended last.drive
-led only_reads n bytes old first last ended mounted kept can r =
-    let keeps = kept_run only_reads bytes first last ended can r in
+pub led : (taking : Taking) (n : ℕ) (bytes : Exchange) (old : DriveState) (first last : DiskView) (ended : Result (Unit {0}) RunFault) → MountsDisk old n first → KeepsMountable n old first.drive → IsMountable first.drive (given_size first)
+    → Runs (disk_lines taking) bytes first ended last → Led taking n bytes old ended last.drive
+led taking n bytes old first last ended mounted kept can r =
+    let keeps = kept_run taking bytes first last ended can r in
     let begins = at_first n old first mounted kept.geometry in
     let given : given_size last ≡ n = keeps.given ∙ mounted.given in
     record {
       flat = (
         disk_size last,
         last.status,
-        subst (λ (d : FlatDisk). Runs (flat_lines only_reads) bytes (disk_at_first n old) ended d) (at_last n last given)
-            (subst (λ (d : FlatDisk). Runs (flat_lines only_reads) bytes d ended (flat_of last)) begins (runs_flat only_reads bytes first last ended r)),
+        subst (λ (d : FlatDisk). Runs (flat_lines taking) bytes (disk_at_first n old) ended d) (at_last n last given)
+            (subst (λ (d : FlatDisk). Runs (flat_lines taking) bytes d ended (flat_of last)) begins (runs_flat taking bytes first last ended r)),
       );
       keeps = record {
         can = mounted.can;
@@ -235,31 +299,31 @@ led only_reads n bytes old first last ended mounted kept can r =
         kept = kept;
         last = last;
         runs = r;
-        cause = cause_of_end only_reads bytes first last ended can mounted.status r;
+        cause = cause_of_end taking bytes first last ended can mounted.status r;
         drive = refl;
       };
     }
 
 -- what such a run gives
-pub led_gives : (only_reads : Bool) (n : ℕ) (bytes : Exchange) (old : DriveState) (ended : Result (Unit {0}) RunFault) (new : DriveState) → Led only_reads n bytes old ended new → RunGives (flat_lines only_reads) n bytes old ended new
-led_gives only_reads n bytes old (Ok done) new l = l.flat
-led_gives only_reads n bytes old (Err (Line m)) new l = l.flat
-led_gives only_reads n bytes old (Err (Long m)) new l = l.flat
-led_gives only_reads n bytes old (Err (Disk f)) new l = l.flat
-led_gives only_reads n bytes old (Err (Mount f)) new l = inr l.flat
-led_gives only_reads n bytes old (Err (runs.Geometry f)) new l = l.flat
-led_gives only_reads n bytes old (Err Input) new l = l.flat
-led_gives only_reads n bytes old (Err Output) new l = l.flat
-led_gives only_reads n bytes old (Err Memory) new l = l.flat
+pub led_gives : (taking : Taking) (n : ℕ) (bytes : Exchange) (old : DriveState) (ended : Result (Unit {0}) RunFault) (new : DriveState) → Led taking n bytes old ended new → RunGives (flat_lines taking) n bytes old ended new
+led_gives taking n bytes old (Ok done) new l = l.flat
+led_gives taking n bytes old (Err (Line m)) new l = l.flat
+led_gives taking n bytes old (Err (Long m)) new l = l.flat
+led_gives taking n bytes old (Err (Disk f)) new l = l.flat
+led_gives taking n bytes old (Err (Mount f)) new l = inr l.flat
+led_gives taking n bytes old (Err (runs.Geometry f)) new l = l.flat
+led_gives taking n bytes old (Err Input) new l = l.flat
+led_gives taking n bytes old (Err Output) new l = l.flat
+led_gives taking n bytes old (Err Memory) new l = l.flat
 
 -- and what it leaves
-pub led_leaves : (only_reads : Bool) (n : ℕ) (bytes : Exchange) (old : DriveState) (ended : Result (Unit {0}) RunFault) (new : DriveState) → Led only_reads n bytes old ended new → RunLeaves (disk_lines only_reads) n bytes old ended new
-led_leaves only_reads n bytes old (Ok done) new l = l.keeps
-led_leaves only_reads n bytes old (Err (Line m)) new l = l.keeps
-led_leaves only_reads n bytes old (Err (Long m)) new l = l.keeps
-led_leaves only_reads n bytes old (Err (Disk f)) new l = l.keeps
-led_leaves only_reads n bytes old (Err (Mount f)) new l = inr l.keeps
-led_leaves only_reads n bytes old (Err (runs.Geometry f)) new l = absurd (l.keeps.runs.stops.1.does.cause)
-led_leaves only_reads n bytes old (Err Input) new l = l.keeps
-led_leaves only_reads n bytes old (Err Output) new l = l.keeps
-led_leaves only_reads n bytes old (Err Memory) new l = l.keeps
+pub led_leaves : (taking : Taking) (n : ℕ) (bytes : Exchange) (old : DriveState) (ended : Result (Unit {0}) RunFault) (new : DriveState) → Led taking n bytes old ended new → RunLeaves (disk_lines taking) n bytes old ended new
+led_leaves taking n bytes old (Ok done) new l = l.keeps
+led_leaves taking n bytes old (Err (Line m)) new l = l.keeps
+led_leaves taking n bytes old (Err (Long m)) new l = l.keeps
+led_leaves taking n bytes old (Err (Disk f)) new l = l.keeps
+led_leaves taking n bytes old (Err (Mount f)) new l = inr l.keeps
+led_leaves taking n bytes old (Err (runs.Geometry f)) new l = let s = l.keeps.runs in absurd (no_geometry (is_flushed taking s.stops.1.line) f s.middle l.keeps.last s.stops.1.line s.stops.1.does)
+led_leaves taking n bytes old (Err Input) new l = l.keeps
+led_leaves taking n bytes old (Err Output) new l = l.keeps
+led_leaves taking n bytes old (Err Memory) new l = l.keeps

@@ -1,5 +1,5 @@
 -- What a conventional disk replies to the lines of a trace. It knows nothing of zones.
-use Rattle.std.specs.Prelude.{◌≡◌, ℕ, zero, suc, ◌+◌, ◌*◌, ◌<◌, ◌/◌, ◌%◌, ◌==◌, ◌||◌, if◌then◌else◌, Bool, true, false, List}
+use Rattle.std.specs.Prelude.{◌≡◌, ℕ, zero, suc, ◌+◌, ◌*◌, ◌<◌, ◌/◌, ◌%◌, ◌==◌, ◌||◌, if◌then◌else◌, Bool, List}
 use Rattle.std.specs.Prelude.{[], length, Option, Some, None, Result, Ok, Err, is_some, option_and_then}
 use Rattle.zone_states.specs.Zone.{cut_blocks}
 use Rattle.disk_files.specs.Reply.{out_of_range_text, read_text, reserve_text, smaller_text}
@@ -48,23 +48,6 @@ request_of size line = if is_skipped line then None else asked_by size line
 -- whether a line is skipped or asks for something
 abbrev pub is_legal : ℕ → List ℕ → Bool
 is_legal size line = is_skipped line || is_some (asked_by size line)
-
--- ---- only reads
-
--- whether a line says `read`
-abbrev pub is_read : TraceLine → Bool
-is_read (Read first n) = true
-is_read line = false
-
--- the same of the line's text
-abbrev pub says_read : Option (TraceLine × List ℕ) → Bool
-says_read (Some said) = is_read said.0
-says_read None = false
-
--- which lines are taken, over blocks of this many bytes: all that are legal, or only those that are skipped or say `read`
-abbrev pub takes : Bool → ℕ → List ℕ → Bool
-takes false size line = is_legal size line
-takes true size line = is_skipped line || says_read (trace_line line)
 
 -- ---- what is answered to it
 
@@ -157,7 +140,3 @@ flat = record {
   Refuses = λ old line fault new. RefusesRequest old (request_of old.block line) fault new;
   Same = λ old new. new ≡ old;
 }
-
--- the same, of which all are taken or only those that read
-abbrev pub flat_lines : Bool → Language FlatDisk
-flat_lines only_reads = record flat { is_legal = λ disk line. takes only_reads disk.block line }

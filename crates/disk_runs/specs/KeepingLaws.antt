@@ -39,4 +39,4 @@ reads_none n disk = record { turns = refl; completed = omega arith }
 
 -- a disk of which nothing came
 pub nothing_same : (disk : DiskView) → ComesToNothing disk disk
-nothing_same disk = record { flat = refl; keeps = keeps_same disk; reads = reads_none (disk_size disk) disk }
+nothing_same disk = record { flat = refl; keeps = keeps_same disk; reads = reads_none (disk_size disk) disk; durable = refl }

@@ -23,7 +23,7 @@ use Rattle.zone_translator.specs.declared.fault.DiskFault.{DiskFault}
 use Rattle.zone_translator.specs.declared.fault.DiskFault.TheVariants.{Unmounted}
 use Rattle.zone_translator.specs.declared.status.DiskStatus.{DiskStatus}
 use Rattle.zone_translator.specs.declared.status.DiskStatus.TheVariants as statuses
-use Rattle.disk_runs.specs.FlatLines.{AnswersRequest, RefusesRequest, Request, is_legal, request_of, takes}
+use Rattle.disk_runs.specs.FlatLines.{AnswersRequest, RefusesRequest, Request, is_legal, request_of}
 use Rattle.disk_runs.specs.Run.{Exchange, Language, Runs}
 use Rattle.disk_runs.specs.declared.fault.RunFault.{RunFault}
 use Rattle.disk_runs.specs.declared.fault.RunFault.TheVariants.{Disk, Mount, Geometry, Memory}
@@ -150,10 +150,11 @@ HasCause Cause fault = ⊤
 abbrev pub wanted_of : DiskView → List ℕ → Option Request
 wanted_of disk line = request_of disk.drive.geometry.block line
 
--- a line is answered as a flat disk answers it, and does to the disk and its drive what it says
+-- a line is answered as a flat disk answers it, does to the disk and its drive what it says, and leaves what is durable
 pub record AnswersLine (old : DiskView) (line reply : List ℕ) (new : DiskView) : Type 0 where
   pub flat : AnswersRequest (flat_of old) (wanted_of old line) reply (flat_of new)
   pub does : DoesSaid (said_by line) old new
+  pub durable : new.drive.durable ≡ old.drive.durable
 
 -- a line is refused as a flat disk refuses it, for a cause of its own, and costs no more than one that is done
 pub record RefusesLine (old : DiskView) (line : List ℕ) (fault : RunFault) (new : DiskView) : Type 0 where
@@ -161,12 +162,14 @@ pub record RefusesLine (old : DiskView) (line : List ℕ) (fault : RunFault) (ne
   pub keeps : KeepsFault fault old new
   pub cause : EndCause new fault
   pub does : StopsSaid (said_by line) fault old new
+  pub durable : new.drive.durable ≡ old.drive.durable
 
 -- nothing came of a line, but that blocks of the disk were read
 pub record ComesToNothing (old new : DiskView) : Type 0 where
   pub flat : flat_of new ≡ flat_of old
   pub keeps : KeepsServed old new
   pub reads : ReadsFew (disk_size old) old new
+  pub durable : new.drive.durable ≡ old.drive.durable
 
 -- the lines of a trace, as a disk above a drive answers them
 abbrev pub trace : Language DiskView
@@ -176,14 +179,6 @@ trace = record {
   Refuses = RefusesLine;
   Same = ComesToNothing;
 }
-
--- the same, of which all are taken or only those that read
-abbrev pub disk_lines : Bool → Language DiskView
-disk_lines only_reads = record trace { is_legal = λ disk line. takes only_reads disk.drive.geometry.block line }
-
--- only the lines that are skipped or ask for a read: none of them changes the array
-abbrev pub reads : Language DiskView
-reads = disk_lines true
 
 -- ---- a run
 

@@ -1,6 +1,7 @@
 //! What holds of runs. Each function carries laws as its contract, and changes nothing.
 
-ghost use Rattle.disk_runs.specs.Laws.{CleansEnd, CommandsAreFew, LastIsFew, ReadsKeepArray, TurnsAreFew};
+ghost use Rattle.disk_runs.specs.Laws.{AnsweredIsDurable, CleansEnd, CommandsAreFew, DriveIsDurable, LastIsFew};
+ghost use Rattle.disk_runs.specs.Laws.{ReadsKeepArray, RunIsDurable, TurnsAreFew};
 
 /// A run of which only the lines are taken that read leaves the array as it was.
 pub fn reads_keep_array()
@@ -10,7 +11,8 @@ pub fn reads_keep_array()
 /// Whatever lines a run is given, it takes no more commands than those lines may. A clean that runs ends by its C-th
 /// turn, where a zone has C blocks, whatever lines fall between its turns.
 pub fn runs_make_progress()
-    // Each answered line takes so many commands at most. Those of a line that mounts the drive again are not counted.
+    // Each answered line takes so many commands at most, with its flush if one is due. Those of a line that mounts the
+    // drive again are not counted.
     ensures commands { CommandsAreFew }
     // So does the line that ends a run.
     ensures last { LastIsFew }
@@ -18,4 +20,15 @@ pub fn runs_make_progress()
     ensures few { TurnsAreFew }
     // Once lines have asked for as many turns as were left, there was a moment when no clean ran.
     ensures ends { CleansEnd }
+{}
+
+/// In a synced run a loss of power leaves the array after the last line that was answered, whenever it comes: it leaves
+/// zones that the drive says, and a mount of them finds that array.
+pub fn replied_is_durable()
+    // Whatever lines were answered so far. If no flush was due, what was left before them may be left, too.
+    ensures answered { AnsweredIsDurable }
+    // So it is however the run ends. If the line that ended it was done, the array after that line may be left, too.
+    ensures runs { RunIsDurable }
+    // The same of the drive that was mounted for a run, and is given back.
+    ensures drives { DriveIsDurable }
 {}

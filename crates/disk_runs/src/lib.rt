@@ -1,8 +1,8 @@
 //! Runs of lines: the lines of a reader are answered, in order, and a writer gets their replies.
 //!
 //! [`run_trace`] mounts a drive as a disk and answers the lines of a trace by the disk's calls. [`run_raw`]
-//! submits the entry of each raw line to a drive. Both give the drive back. [`answer_trace`] and [`answer_reads`]
-//! answer lines over a disk that is mounted: all of a trace, or only those that read.
+//! submits the entry of each raw line to a drive. Both give the drive back. [`answer_trace`] answers lines over a disk
+//! that is mounted: [`Taking`] says which, and whether the disk is flushed before a reply.
 //!
 //! ```text
 //! let alloc = rt.alloc();
@@ -36,6 +36,9 @@
 //!   So a run takes no more than all its lines may, and a clean ends by its last turn ([`laws`]).
 //! - Where only reads are taken, any other call is not done, and ends the run as a line that is not in the grammar
 //!   does. Such a run leaves the array as it was ([`laws`]).
+//! - In a synced run the disk is flushed after each line but those that read or are skipped, before the reply. So a
+//!   loss of power leaves the array after the last line that was replied to ([`laws`]). If the flush is refused, that
+//!   ends the run, and the line has no reply. A flush is one command more.
 //! - Data of a `write` that is not whole blocks is refused as a line that is not in the grammar.
 //! - Each answer but `Mount` comes from a drive that was mounted, and that can be mounted again. `Mount` is the
 //!   fault of the first mount, and then nothing is written; or of a line `remount`, which is refused only where
@@ -49,14 +52,14 @@ mod fault;
 mod fault_line;
 pub mod laws;
 mod lines;
-mod only_reads;
 mod raw;
 mod reads;
 mod requests;
+mod taking;
 mod trace;
 
 pub use fault::RunFault;
 pub use fault_line::write_fault;
-pub use only_reads::answer_reads;
 pub use raw::run_raw;
+pub use taking::Taking;
 pub use trace::{answer_trace, run_trace};

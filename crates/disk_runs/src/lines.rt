@@ -1,4 +1,4 @@
-ghost use Rattle.std.specs.Prelude.{ℕ, List, IfErr, OnErr, OnOk};
+ghost use Rattle.std.specs.Prelude.{◌≡◌, ℕ, List, IfErr, OnErr, OnOk};
 ghost use Rattle.std.specs.Io.KnownBytes.{Appends};
 ghost use Rattle.disk_files.specs.Output.{AppendsFront};
 ghost use Rattle.disk_runs.specs.Run.{IsAnswered, Language, LineStops, Runs, exchange};
@@ -14,18 +14,24 @@ pub(crate) trait Answerer {
 
     ghost state: { Self → State };
 
+    /// What it goes by, which no answer changes.
+    ghost Mode: { Type 0 };
+
+    ghost mode: { Self → Mode };
+
     /// What lines mean to it.
-    ghost language: { Language State };
+    ghost language: { Mode → Language State };
 
     /// The reply that is held.
     ghost reply: { Self → List ℕ };
 
     /// Answers the line of this number.
     fn answer(&mut self, line: &[u8], number: u64) -> Result<(), RunFault>
-        ensures ok { OnOk result
-            (IsAnswered language (state self.old) line.now (reply self.new) (state self.new)) }
-        ensures err { IfErr result
-            (λ fault. LineStops language number (state self.old) line.now fault (state self.new)) };
+        ensures ok { OnOk result (IsAnswered (language (mode self.old))
+            (state self.old) line.now (reply self.new) (state self.new)) }
+        ensures err { IfErr result (λ fault. LineStops (language (mode self.old)) number
+            (state self.old) line.now fault (state self.new)) }
+        ensures goes_by { mode self.new ≡ mode self.old };
 
     /// Writes the reply that is held. After a fault a beginning of it is written.
     fn write_reply<W: Write>(&self, writer: &mut W) -> Result<(), WriteFault>
@@ -34,7 +40,7 @@ pub(crate) trait Answerer {
         ensures err { OnErr result
             (AppendsFront (W.contents writer.old) (W.contents writer.new) (reply self.now)) };
 
-    ghost same: { (x : State) → language.Same x x };
+    ghost same: { (by : Mode) (x : State) → (language by).Same x x };
 }
 
 /// Writes the reply that is held. If no whole line waits to be answered, the replies are sent on their way, so that
@@ -64,7 +70,7 @@ pub(crate) fn answer_lines<R: Read + Drop, W: Write, A: Answerer>(
     writer: &mut W,
     answerer: &mut A,
 ) -> Result<(), RunFault>
-    ensures { Runs A.language
+    ensures { Runs (A.language (A.mode answerer.old))
         (exchange reader.old.left (W.contents writer.old) (W.contents writer.new))
         (A.state answerer.old) result (A.state answerer.new) }
 {

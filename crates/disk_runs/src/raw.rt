@@ -28,11 +28,15 @@ impl<D: Device + Drop> Answerer for RawAnswerer<D> {
 
     ghost state = { λ r. D.drive r.device };
 
-    ghost language = { raw };
+    ghost Mode = { Unit {0} };
+
+    ghost mode = { λ _. tt };
+
+    ghost language = { λ _. raw };
 
     ghost reply = { λ r. held_reply r.completion r.returned.items };
 
-    ghost same = { λ _. refl };
+    ghost same = { λ _ _. refl };
 
     fn answer(&mut self, line: &[u8], number: u64) -> Result<(), RunFault> {
         self.completion = None;

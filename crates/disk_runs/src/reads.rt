@@ -46,9 +46,11 @@ fn show_blocks<D: Device + Drop>(
     ensures cause { IfErr result (HasCause (EndCause disk.new)) }
     ensures full { IfErr result (λ fault. fault ≡ Memory →
         IsFull (vec_capacity reply.new) (vec_len reply.new) (vec_len block.new)) }
-    // Whatever it answers, a drive that could be mounted still can be, and a block takes one command at most.
+    // Whatever it answers, a drive that could be mounted still can be, and a block takes one command at most. What is
+    // durable is the same.
     ensures keeps { KeepsServed disk.old disk.new }
     ensures costs { ReadsFew blocks disk.old disk.new }
+    ensures durable { disk.new.drive.durable ≡ disk.old.drive.durable }
 {
     for i in 0..blocks {
         if let Err(fault) = disk.read(first + i, 1, block) {
@@ -82,10 +84,12 @@ pub(crate) fn read_blocks<D: Device + Drop>(
     ensures cause { IfErr result (HasCause (EndCause disk.new)) }
     ensures full { IfErr result (λ fault. fault ≡ Memory →
         IsFull (vec_capacity reply.new) (vec_len reply.new) (vec_len block.new)) }
-    // Whatever it answers, a drive that could be mounted still can be, and a block takes one command at most.
+    // Whatever it answers, a drive that could be mounted still can be, and a block takes one command at most. What is
+    // durable is the same.
     ensures keeps { KeepsServed disk.old disk.new }
     ensures costs { ReadsFew blocks disk.old disk.new }
     ensures few { ReadsFew (disk_size disk.old) disk.old disk.new }
+    ensures durable { disk.new.drive.durable ≡ disk.old.drive.durable }
 {
     if is_past_end(disk.blocks(), first, blocks) {
         out_of_range_reply(reply).unwrap();

@@ -3,6 +3,7 @@ ghost use Rattle.std.specs.Prelude.{vec_capacity, vec_len};
 ghost use Rattle.zone_translator.specs.View.{DiskCause, flat_of};
 ghost use Rattle.disk_runs.specs.FlatLines.{AnswersRequest, IsFull, IsUntold, RepliesTo, RequestStops};
 ghost use Rattle.disk_runs.specs.FlatLines.{Turns, asked, remount, reply_of};
+ghost use Rattle.disk_runs.specs.Taken.{FlushesIf};
 ghost use Rattle.disk_runs.specs.declared.fault.RunFault.TheVariants.{Memory};
 ghost use Rattle.disk_runs.specs.Trace.{Does, EndCause, HasCause, KeepsFault, KeepsServed};
 ghost use Rattle.disk_runs.specs.Trace.{MountsAgain, StopsBy, TurnsBy};
@@ -53,8 +54,9 @@ fn clean<D: Device + Drop>(disk: &mut Disk<D>, turns: u32) -> Result<(), DiskFau
     ensures flat { Turns turns (flat_of disk.old) result (flat_of disk.new) }
     ensures turns { TurnsBy result turns disk.old disk.new }
     ensures cause { IfErr result (DiskCause disk.new) }
-    // Whatever it answers, a drive that could be mounted still can be.
+    // Whatever it answers, a drive that could be mounted still can be, and what is durable is the same.
     ensures keeps { KeepsServed disk.old disk.new }
+    ensures durable { disk.new.drive.durable ≡ disk.old.drive.durable }
 {
     for _turn in 0..turns {
         let ran = disk.is_cleaning();
@@ -78,9 +80,11 @@ fn mount_again<D: Device + Drop>(disk: &mut Disk<D>, reply: &mut Vec<u8>) -> Res
         (λ fault. RequestStops (flat_of disk.old) (Some remount) fault (flat_of disk.new)) }
     ensures cause { IfErr result (HasCause (EndCause disk.new)) }
     ensures no_memory { IfErr result (λ fault. fault ≢ Memory) }
-    // Done, the drive was mounted again. Whatever it answers, a drive that could be mounted still can be.
+    // Done, the drive was mounted again. Whatever it answers, a drive that could be mounted still can be, and what is
+    // durable is the same.
     ensures keeps { OnOk result (MountsAgain disk.old disk.new) }
     ensures leaves { IfErr result (λ fault. KeepsFault fault disk.old disk.new) }
+    ensures durable { disk.new.drive.durable ≡ disk.old.drive.durable }
 {
     if let Err(fault) = disk.remount() {
         return Err(RunFault::Mount(fault));
@@ -118,6 +122,8 @@ pub(crate) fn answer_request<D: Device + Drop>(
     ensures leaves { IfErr result (λ fault. KeepsFault fault disk.old disk.new) }
     // Refused, it takes no more commands than one that is done, and the clean that ran is not thrown back.
     ensures stops { IfErr result (λ fault. StopsBy fault line bytes.now disk.old disk.new) }
+    // In any case what is durable of the drive is the same.
+    ensures durable { disk.new.drive.durable ≡ disk.old.drive.durable }
 {
     match line {
         TraceLine::Read { first, blocks } => read_blocks(disk, first, blocks, block, reply),
@@ -132,4 +138,14 @@ pub(crate) fn answer_request<D: Device + Drop>(
         TraceLine::Grow { blocks } => tell(disk.grow(blocks), reply),
         TraceLine::Remount => mount_again(disk, reply),
     }
+}
+
+/// Flushes a disk, if that is asked for.
+pub(crate) fn flush_if<D: Device + Drop>(disk: &mut Disk<D>, flushes: bool) -> Result<(), DiskFault>
+    ensures { FlushesIf flushes disk.old result disk.new }
+{
+    if !flushes {
+        return Ok(());
+    }
+    disk.flush()
 }

@@ -2,11 +2,14 @@ ghost use Rattle.zone_translator.specs.View.{DiskView};
 ghost use Rattle.disk_runs.specs.FlatLines.{flat};
 ghost use Rattle.disk_runs.specs.KeepingLaws.{nothing_same};
 ghost use Rattle.disk_runs.specs.Run.{Runs, exchange};
+ghost use Rattle.disk_runs.specs.Taken.{disk_lines};
 ghost use Rattle.disk_runs.specs.Trace.{RunGives, RunLeaves, trace};
+ghost use Rattle.disk_runs.specs.declared.taking.Taking.{Taking};
 
 use crate::fault::RunFault;
 use crate::lines::{Answerer, answer_lines};
-use crate::requests::{SHORT_REPLY, answer_request, is_request};
+use crate::requests::{SHORT_REPLY, answer_request, flush_if};
+use crate::taking::Taking;
 use disk_files::{LineReader, ParseFault, TraceLine, WriteFault, is_skipped, write_out};
 use drive_port::Device;
 use std::alloc::Global;
@@ -17,6 +20,8 @@ use zone_translator::Disk;
 #[derive(Drop)]
 struct TraceAnswerer<D: Device + Drop> {
     disk: Disk<D>,
+    /// Which lines it takes, and how.
+    taking: Taking,
     /// The data of the last line, if it was a `write`.
     bytes: Vec<u8>,
     /// The block that a read showed last.
@@ -29,11 +34,15 @@ impl<D: Device + Drop> Answerer for TraceAnswerer<D> {
 
     ghost state = { λ t. t.disk };
 
-    ghost language = { trace };
+    ghost Mode = { Taking };
+
+    ghost mode = { λ t. t.taking };
+
+    ghost language = { disk_lines };
 
     ghost reply = { λ t. t.reply.items };
 
-    ghost same = { λ disk. nothing_same disk };
+    ghost same = { λ _ disk. nothing_same disk };
 
     fn answer(&mut self, line: &[u8], number: u64) -> Result<(), RunFault> {
         self.reply.clear();
@@ -45,7 +54,8 @@ impl<D: Device + Drop> Answerer for TraceAnswerer<D> {
             Err(ParseFault::Grammar) => return Err(RunFault::Line(number)),
             Err(ParseFault::Memory) => return Err(RunFault::Memory),
         };
-        if !is_request(request, &self.bytes, self.disk.block_bytes()) {
+        let block_bytes = self.disk.block_bytes();
+        if !self.taking.takes(request, &self.bytes, block_bytes) {
             return Err(RunFault::Line(number));
         }
         // With this room the reply to a call that is done can always be held.
@@ -56,7 +66,11 @@ impl<D: Device + Drop> Answerer for TraceAnswerer<D> {
             &self.bytes,
             &mut self.block,
             &mut self.reply,
-        )
+        )?;
+        if let Err(fault) = flush_if(&mut self.disk, self.taking.flushes(request)) {
+            return Err(RunFault::Disk(fault));
+        }
+        Ok(())
     }
 
     fn write_reply<W: Write>(&self, writer: &mut W) -> Result<(), WriteFault> {
@@ -64,22 +78,24 @@ impl<D: Device + Drop> Answerer for TraceAnswerer<D> {
     }
 }
 
-/// Answers each line of the reader by the calls of a disk, and writes its reply, until the lines end. The disk is
-/// given back.
+/// Answers each line of the reader by the calls of a disk, and writes its reply, until the lines end. `taking` says
+/// which lines are taken, and whether the disk is flushed before a reply. The disk is given back.
 ///
 /// After a fault the replies of all lines before stand and, where the writer failed, a beginning of the
-/// next one.
+/// next one. A line whose flush was refused is done, and has no reply.
 pub fn answer_trace<R: Read + Drop, W: Write, D: Device + Drop>(
     alloc: Global,
+    taking: Taking,
     reader: &mut LineReader<R>,
     writer: &mut W,
     disk: Disk<D>,
 ) -> (Disk<D>, Result<(), RunFault>)
-    ensures { Runs trace (exchange reader.old.left (W.contents writer.old) (W.contents writer.new))
+    ensures { Runs (disk_lines taking) (exchange reader.old.left (W.contents writer.old) (W.contents writer.new))
         disk result.1 result.0 }
 {
     let mut answerer = TraceAnswerer {
         disk,
+        taking,
         bytes: Vec::new(alloc),
         block: Vec::new(alloc),
         reply: Vec::new(alloc),
@@ -110,6 +126,6 @@ pub fn run_trace<R: Read + Drop, W: Write, D: Device + Drop>(
         Ok(disk) => disk,
         Err((fault, device)) => return (device, Err(RunFault::Mount(fault))),
     };
-    let (disk, result) = answer_trace(alloc, reader, writer, disk);
+    let (disk, result) = answer_trace(alloc, Taking::All, reader, writer, disk);
     (disk.into_device(), result)
 }

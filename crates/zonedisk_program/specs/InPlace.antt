@@ -1,5 +1,7 @@
 -- The job on a drive that stays in its file which a task on the image in that file stands for.
-use Rattle.std.specs.Prelude.{false, Option, Some, None}
+use Rattle.std.specs.Prelude.{Bool, true, false, Option, Some, None}
+use Rattle.disk_runs.specs.declared.taking.Taking.{Taking}
+use Rattle.disk_runs.specs.declared.taking.Taking.TheVariants.{All, Reads, Synced}
 use Rattle.disk_jobs.specs.declared.job.Job.{Job}
 use Rattle.disk_jobs.specs.declared.job.Job.TheVariants as lines
 use Rattle.tool_jobs.specs.declared.job.ToolJob.{ToolJob}
@@ -15,16 +17,22 @@ use Rattle.device_jobs.specs.declared.job.DeviceJob.TheVariants as jobs
 use Rattle.command_line.specs.declared.task.Task.{Task}
 use Rattle.command_line.specs.declared.task.Task.TheVariants as tasks
 
--- A trace without --sync, all lines of a report, and raw lines. No other job of lines.
+-- Which lines of a trace are taken, by whether it only reads, and whether it is synced. One that only reads is never synced.
+abbrev pub taking_of : Bool → Bool → Taking
+taking_of true sync = Reads
+taking_of false true = Synced
+taking_of false false = All
+
+-- A trace, all lines of a report, and raw lines. No other job of lines.
 abbrev pub lines_counterpart : Job → Option DeviceJob
-lines_counterpart (lines.Run path blocks zones statistics stop habit false read_only progress) = Some (jobs.Run (record {
+lines_counterpart (lines.Run path blocks zones statistics stop habit sync read_only progress) = Some (jobs.Run (record {
   device = path;
   blocks = blocks;
   zones = zones;
   statistics = statistics;
   stop = stop;
   habit = habit;
-  read_only = read_only;
+  takes = taking_of read_only sync;
   progress = progress;
 }))
 lines_counterpart (lines.Report path) = Some (jobs.Report path None)

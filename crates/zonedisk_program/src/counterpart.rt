@@ -5,11 +5,12 @@ ghost use Rattle.device_jobs.specs.declared.job.DeviceJob.TheVariants as jobs;
 ghost use Rattle.command_line.specs.declared.task.Task.TheVariants as tasks;
 ghost use Rattle.tool_jobs.specs.declared.job.ToolJob.TheVariants as tools;
 ghost use Rattle.zonedisk_program.specs.InPlace.{counterpart, lines_counterpart, plan_counterpart, tool_counterpart};
-ghost use Rattle.zonedisk_program.specs.InPlace.{zones_in};
+ghost use Rattle.zonedisk_program.specs.InPlace.{taking_of, zones_in};
 
 use command_line::Task;
 use device_jobs::{DeviceJob, DeviceRun};
 use disk_jobs::Job;
+use disk_runs::Taking;
 use nvme_wire::ZoneState;
 use tool_jobs::{PlanJob, PlannedDrive, ToolJob, ZonesForm, ZonesJob};
 
@@ -18,6 +19,16 @@ fn report_job(device: String, state: Option<ZoneState>) -> DeviceJob
     ensures { result ≡ jobs.Report device state }
 {
     DeviceJob::Report { device, state }
+}
+
+/// Which lines of a trace are taken: one that only reads is never synced.
+fn taking_of(read_only: bool, sync: bool) -> Taking
+    ensures { result ≡ taking_of read_only sync }
+{
+    if read_only {
+        return Taking::Reads;
+    }
+    if sync { Taking::Synced } else { Taking::All }
 }
 
 /// The job of lines.
@@ -33,7 +44,7 @@ fn lines_in_place(job: Job) -> Result<DeviceJob, Task>
             statistics,
             stop,
             habit,
-            sync: false,
+            sync,
             read_only,
             progress,
         } => Ok(DeviceJob::Run(DeviceRun {
@@ -43,7 +54,7 @@ fn lines_in_place(job: Job) -> Result<DeviceJob, Task>
             statistics,
             stop,
             habit,
-            read_only,
+            takes: taking_of(read_only, sync),
             progress,
         })),
         Job::Report { image } => Ok(report_job(image, None)),

@@ -18,7 +18,7 @@ use disk_files::write_out;
 use disk_jobs::{
     Counted, Explained, Gate, Habit, JobInput, LineCount, ProgramFault, Stop, Watched, run_told,
 };
-use disk_runs::RunFault;
+use disk_runs::{RunFault, Taking};
 use drive_port::{Device, Geometry};
 use nbd_jobs::NbdJob;
 use nbd_session::{Medium, WriteThrough};
@@ -238,7 +238,7 @@ fn do_run<R: Eprint + Input, D: Devices, W: Write>(
 ) -> ExitCode
     ensures { D.has_way devices.now ≡ false → exit_status result ≡ 1 }
 {
-    if job.read_only {
+    if job.takes == Taking::Reads {
         read_run(rt, alloc, devices, job, output)
     } else {
         change_run(rt, alloc, devices, job, output)

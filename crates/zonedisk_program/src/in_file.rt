@@ -5,13 +5,11 @@ ghost use Rattle.std.specs.Process.{exit_status};
 ghost use Rattle.zonedisk_program.specs.Ends.{is_device};
 
 use command_line::Task;
-use device_jobs::write_device_fault;
 use disk_jobs::Job;
-use std::io::{Read, Write};
+use std::io::Read;
 use std::process::ExitCode;
 use std::rt::Files;
 use std::{fs, io};
-use tool_jobs::ToolJob;
 
 /// How a drive begins that stays in its file. Two bytes follow, which say its version.
 const BEGINNING: &[u8] = b"ZNSDRV";
@@ -68,54 +66,14 @@ pub(crate) fn begins_in_place<F: Files<File = fs::File>>(files: &F, task: &Task)
     }
 }
 
-/// What of a job of lines cannot be done on a drive that stays in its file: an option, or the job.
-fn undone_lines(job: &Job) -> &'static str {
-    match job {
-        Job::Format { .. } => "format",
-        Job::Run { .. } => "--sync",
-        Job::Nvme { .. } => "nvme",
-        Job::Report { .. } => "report",
-        Job::Fresh { .. } => "fresh",
-        Job::FreshRaw { .. } => "fresh-raw",
-    }
-}
-
-/// The same of a tool.
-fn undone_tool(job: &ToolJob) -> &'static str {
-    match job {
-        ToolJob::Zones(_) => "report",
-        ToolJob::Plan(_) | ToolJob::Format { .. } => "plan",
-        ToolJob::Entry(_) => "entry",
-        ToolJob::Check(_) => "check",
-        ToolJob::Info(_) => "info",
-    }
-}
-
-/// The same of a task.
-fn undone(task: &Task) -> &'static str {
-    match task {
-        Task::Lines(job) => undone_lines(job),
-        Task::Nbd(_) => "nbd",
-        Task::Copy(_) => "a copy of blocks",
-        Task::Tool(job) => undone_tool(job),
-        Task::Convert(_) => "convert",
-        Task::Device(_) => "a job on a device",
-    }
-}
-
-/// Says on standard error what of a task cannot be done on the drive that stays in its file. A task with lines shows it
-/// by a line, too.
-pub(crate) fn refuse_in_place<R: Eprint, W: Write>(rt: &R, task: &Task, output: &mut W) -> ExitCode
+/// Says on standard error that a task cannot be done on the drive that stays in its file. Each task that is about the
+/// image in a file can be.
+pub(crate) fn refuse_in_place<R: Eprint>(rt: &R, task: &Task) -> ExitCode
     ensures { exit_status result ≡ 1 }
 {
-    if matches!(task, Task::Lines(_)) {
-        let _ = write_device_fault(output);
-        let _ = output.flush();
-    }
     let path = image_of(task).unwrap_or("");
-    let what = undone(task);
     let _ = eprintln!(rt;
-        "zonedisk: {path}: {what} cannot be done yet on a drive that stays in its file"
+        "zonedisk: {path}: this cannot be done on a drive that stays in its file"
     );
     ExitCode::FAILURE
 }

@@ -145,7 +145,7 @@ fn do_asked<
     match in_place(task) {
         Ok(job) => do_device(rt, alloc, files, &job, output),
         Err(Task::Convert(job)) => into_image(rt, alloc, files, &job, output),
-        Err(task) => refuse_in_place(rt, &task, output),
+        Err(task) => refuse_in_place(rt, &task),
     }
 }
 

@@ -1,9 +1,9 @@
 use Rattle.std.proofs.Common.{ap, inl, rules}
 use Rattle.drive_port.specs.Drive.{DriveState}
 use Rattle.drive_port.specs.Stop.{drive_of}
-use Rattle.disk_runs.specs.FlatLines.{flat_lines}
 use Rattle.disk_runs.specs.Run.{exchange}
-use Rattle.disk_runs.specs.Trace.{IsNotMounted, RunGives, RunLeaves, disk_lines}
+use Rattle.disk_runs.specs.Taken.{disk_lines, flat_lines}
+use Rattle.disk_runs.specs.Trace.{IsNotMounted, RunGives, RunLeaves}
 use Rattle.disk_runs.proofs.TraceLaws.{led, led_gives, led_leaves}
 use Rattle.disk_jobs.specs.Saved.{stopping}
 use Rattle.disk_jobs.proofs.MountLaws.{mount_told}
@@ -12,17 +12,17 @@ use Rattle.disk_jobs.proofs.lines.run_stopping.Goals as goal
 -- the lines were answered by the disk that was mounted
 pub returns-clause-runs : goal.returns-clause-runs
 returns-clause-runs g c =
-    let only_reads = c.args.how.only_reads in
+    let takes = c.args.how.takes in
     let n = c.args.how.blocks in
     let old = drive_of c.stopping.result in
     let made = c.in-Ok.ensures in
-    let bytes = exchange c.args.input.now.left (g.W.Write.contents c.args.output.now) (g.W.Write.contents c.answer_lines-disk.new.output) in
-    let ended = c.answer_lines-disk.result.1 in
+    let bytes = exchange c.args.input.now.left (g.W.Write.contents c.args.output.now) (g.W.Write.contents c.answer_trace-disk.new.writer) in
+    let ended = c.answer_trace-disk.result.1 in
     let seen = drive_of c.into_device.result in
-    let gives : RunGives (flat_lines only_reads) n bytes old ended seen = rw c.into_device.ensures
-    (led_gives only_reads n bytes old ended _ (led only_reads n bytes old c.in-Ok.disk c.answer_lines-disk.result.0 ended made.disk.mounts made.disk.kept made.disk.mountable c.answer_lines-disk.ensures)) in
-    let leaves : RunLeaves (disk_lines only_reads) n bytes old ended seen = rw c.into_device.ensures
-    (led_leaves only_reads n bytes old ended _ (led only_reads n bytes old c.in-Ok.disk c.answer_lines-disk.result.0 ended made.disk.mounts made.disk.kept made.disk.mountable c.answer_lines-disk.ensures)) in
+    let gives : RunGives (flat_lines takes) n bytes old ended seen = rw c.into_device.ensures
+    (led_gives takes n bytes old ended _ (led takes n bytes old c.in-Ok.disk c.answer_trace-disk.result.0 ended made.disk.mounts made.disk.kept made.disk.mountable c.answer_trace-disk.ensures)) in
+    let leaves : RunLeaves (disk_lines takes) n bytes old ended seen = rw c.into_device.ensures
+    (led_leaves takes n bytes old ended _ (led takes n bytes old c.in-Ok.disk c.answer_trace-disk.result.0 ended made.disk.mounts made.disk.kept made.disk.mountable c.answer_trace-disk.ensures)) in
     record {
       seen = seen;
       gives = rw c.stopping.ensures at gives;

@@ -1,9 +1,9 @@
 use Rattle.std.proofs.Common.{◌∙◌, ap, inl, refl, rules}
 use Rattle.drive_port.specs.Drive.{DriveState}
 use Rattle.drive_port.specs.Stop.{drive_of}
-use Rattle.disk_runs.specs.FlatLines.{flat_lines}
 use Rattle.disk_runs.specs.Run.{exchange}
-use Rattle.disk_runs.specs.Trace.{IsNotMounted, RunGives, RunLeaves, disk_lines}
+use Rattle.disk_runs.specs.Taken.{disk_lines, flat_lines}
+use Rattle.disk_runs.specs.Trace.{IsNotMounted, RunGives, RunLeaves}
 use Rattle.disk_runs.specs.declared.fault.RunFault.TheVariants.{Mount}
 use Rattle.std.specs.Prelude.{Err}
 use Rattle.disk_runs.proofs.TraceLaws.{led, led_gives, led_leaves}
@@ -14,17 +14,17 @@ use Rattle.disk_jobs.proofs.statistics.run_counted.Goals as goal
 -- the lines were answered by the disk that was mounted, and then it was told what was counted
 pub returns-clause-runs : goal.returns-clause-runs
 returns-clause-runs g c =
-    let only_reads = c.args.how.only_reads in
+    let takes = c.args.how.takes in
     let n = c.args.how.blocks in
     let old = c.new.result.inner in
     let made = c.in-Ok.ensures in
-    let middle = g.W.Write.contents c.answer_lines-disk.new.output in
+    let middle = g.W.Write.contents c.answer_trace-disk.new.writer in
     let bytes = exchange c.args.input.now.left (g.W.Write.contents c.args.output.now) middle in
-    let ended = c.answer_lines-disk.result.1 in
-    let last = c.answer_lines-disk.result.0 in
-    let ran = led only_reads n bytes old c.in-Ok.disk last ended made.disk.mounts made.disk.kept made.disk.mountable c.answer_lines-disk.ensures in
-    let gives : RunGives (flat_lines only_reads) n bytes old ended last.drive = led_gives only_reads n bytes old ended last.drive ran in
-    let leaves : RunLeaves (disk_lines only_reads) n bytes old ended last.drive = led_leaves only_reads n bytes old ended last.drive ran in
+    let ended = c.answer_trace-disk.result.1 in
+    let last = c.answer_trace-disk.result.0 in
+    let ran = led takes n bytes old c.in-Ok.disk last ended made.disk.mounts made.disk.kept made.disk.mountable c.answer_trace-disk.ensures in
+    let gives : RunGives (flat_lines takes) n bytes old ended last.drive = led_gives takes n bytes old ended last.drive ran in
+    let leaves : RunLeaves (disk_lines takes) n bytes old ended last.drive = led_leaves takes n bytes old ended last.drive ran in
     record {
       ran = ended;
       middle = middle;

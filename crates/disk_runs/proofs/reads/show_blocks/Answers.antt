@@ -25,6 +25,7 @@ loop-i-preserved g c =
       reads_more c.loop-i.i c.args.disk.now c.loop-i.disk c.read.new.self c.loop-i.invariant.3 c.read.ensures.turns c.read.ensures.completed,
       line_more (disk_array c.args.disk.now) (disk_size c.args.disk.now) c.args.first c.loop-i.i c.args.blocks c.args.reply.now.items c.loop-i.reply.items c.block_line.new.out.items c.deref.result.now
           (sym (c.requires.array shows.serves)) (omega (arith, c.loop-i-test.true)) c.requires.in_range (c.deref.ensures.value ∙ shows.bytes_are) c.loop-i.invariant.4 c.in_ok-block_line.ensures.ok,
+      c.read.ensures.answers.durable ∙ c.loop-i.invariant.5,
     )
 
 pub returns-in-Err-clause-costs : goal.returns-in-Err-clause-costs

@@ -9,4 +9,4 @@ use Rattle.disk_runs.proofs.reads.show_blocks.Given as goal
 abbrev pub invariant-loop-i : goal.invariant-loop-i
 invariant-loop-i g l =
     (flat_of l.disk ≡ flat_of l.fn.disk) × (0 < l.i → l.fn.disk.status ≡ Serving) × KeepsServed l.fn.disk l.disk × ReadsFew l.i l.fn.disk l.disk
-    × (l.reply.items ≡ l.fn.reply.items ++ block_lines l.first (blocks_from (disk_array l.fn.disk) l.first l.i))
+    × (l.reply.items ≡ l.fn.reply.items ++ block_lines l.first (blocks_from (disk_array l.fn.disk) l.first l.i)) × (l.disk.drive.durable ≡ l.fn.disk.drive.durable)

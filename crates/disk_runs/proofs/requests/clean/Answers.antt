@@ -17,6 +17,7 @@ loop-turn-preserved g c =
       subst (λ (n : ℕ). TakesTurns n c.args.disk.now c.idle.new.self) next
           (takes_more c.loop-turn._turn c.args.disk.now c.loop-turn.disk c.idle.new.self so_far.3
           (takes_one c.loop-turn.disk c.idle.new.self c.in_ok-idle.ensures.answers.kept (c.in_ok-idle.ensures.turn.turn done.1) (c.in_ok-idle.ensures.turn.turns done.1) c.in_ok-idle.ensures.completed)),
+      c.idle.ensures.answers.durable ∙ so_far.4,
     )
 
 pub returns-clause-flat : goal.returns-clause-flat
