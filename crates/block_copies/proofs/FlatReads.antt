@@ -10,13 +10,13 @@ use Rattle.std.proofs.lemmas.Bool.Decides.{nat_tests}
 use Rattle.std.proofs.lemmas.List.{drop-drop, length-append, take-append-le}
 use Rattle.std.proofs.lemmas.List.Folds.{concat-append}
 use Rattle.disk_files.specs.Output.{AppendsFront}
+use Rattle.disk_files.proofs.OutputLaws.{front_second}
 use Rattle.zone_translator.specs.Flat.{Answer, Begun, FlatCall, FlatDisk, blocks_from, may_refuse, read, with_nothing}
 use Rattle.zone_translator.specs.View.{DiskCause, DiskView, disk_array, disk_size, flat_of}
 use Rattle.zone_translator.specs.declared.fault.DiskFault.{DiskFault}
 use Rattle.zone_translator.specs.declared.fault.DiskFault.TheVariants.{OutOfRange, OutOfMemory, Stopped, Spent, Unmounted, Smaller, Reserve}
 use Rattle.zone_translator.specs.declared.status.DiskStatus.{DiskStatus}
 use Rattle.zone_translator.specs.declared.status.DiskStatus.TheVariants as statuses
-use Rattle.nbd_session.proofs.KnownLaws.{front_second}
 use Rattle.block_copies.specs.declared.fault.ExportFault.{ExportFault}
 use Rattle.block_copies.specs.declared.fault.ExportFault.TheVariants.{Disk, Output}
 use Rattle.block_copies.specs.Copies.{Exports, RefusesRange}

@@ -10,12 +10,12 @@ use Rattle.std.proofs.lemmas.Nat.{mod-mul-add}
 use Rattle.std.proofs.Math.Nat.{add-mul, div-mul-le_self, mod-eq-sub-div-mul, mod-lt}
 use Rattle.zone_states.specs.declared.geometry.Geometry.{Geometry}
 use Rattle.zone_states.proofs.Cutting.{concat-cut, length-cut}
+use Rattle.disk_files.specs.Input.{DropsFewer}
 use Rattle.drive_port.specs.Calls.{block_count, data_blocks}
 use Rattle.zone_translator.specs.Answers.{write_bytes}
 use Rattle.zone_translator.specs.Flat.{FlatCall, FlatDisk, with_nothing, write}
 use Rattle.zone_translator.specs.View.{DiskCause, DiskView, disk_size, flat_of}
 use Rattle.zone_translator.specs.declared.fault.DiskFault.{DiskFault}
-use Rattle.nbd_session.specs.Streams.{DropsFewer}
 use Rattle.block_copies.specs.Copies.{Imports, ImportsPiece, StopsImport, TakesBlocks, piece_blocks, write_result}
 use Rattle.block_copies.specs.declared.fault.ImportFault.{ImportFault}
 use Rattle.block_copies.specs.declared.fault.ImportFault.TheVariants.{Disk, Input, Memory, PastEnd, Rest}

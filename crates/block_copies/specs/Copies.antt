@@ -2,8 +2,8 @@
 use Rattle.std.specs.Prelude.{◌≡◌, ℕ, ◌+◌, ◌*◌, ◌/◌, ◌<◌, ◌≤◌, max, List, [], ◌++◌, length, Result, Ok, Err}
 use Rattle.std.specs.Io.KnownBytes.{Appends, Consumes, IsAtEnd}
 use Rattle.std.specs.List.{AllByRecursion, concat}
+use Rattle.disk_files.specs.Input.{Known}
 use Rattle.disk_files.specs.Output.{AppendsFront}
-use Rattle.disk_runs.specs.Run.{Known}
 use Rattle.zone_translator.specs.Flat.{FlatCall, blocks_from, read, with_nothing, write}
 use Rattle.zone_translator.specs.View.{DiskCause, DiskView, disk_array, disk_size, flat_of}
 use Rattle.zone_translator.specs.declared.fault.DiskFault.{DiskFault}

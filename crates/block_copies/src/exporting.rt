@@ -1,9 +1,9 @@
 // Blocks of a disk as flat bytes.
 
 ghost use Rattle.std.specs.Prelude.{◌≡◌, ◌+◌, ◌≤◌, ◌<◌, ◌&&◌, nat_lt, max, length};
+ghost use Rattle.zone_translator.specs.Keeping.{KeepsServed};
 ghost use Rattle.zone_translator.specs.View.{disk_array, disk_size};
 ghost use Rattle.zone_translator.specs.declared.status.DiskStatus.TheVariants.{Serving};
-ghost use Rattle.disk_runs.specs.Trace.{KeepsServed};
 ghost use Rattle.block_copies.specs.Copies.{Exports};
 
 use crate::fault::ExportFault;

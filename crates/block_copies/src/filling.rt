@@ -2,7 +2,7 @@
 
 ghost use Rattle.std.specs.Prelude.{◌≡◌, ◌≤◌, ◌<◌, IfErr, IfOk, length, take};
 ghost use Rattle.std.specs.Io.KnownBytes.{Consumes, IsAtEnd};
-ghost use Rattle.nbd_session.specs.Streams.{DropsFewer};
+ghost use Rattle.disk_files.specs.Input.{DropsFewer};
 
 use crate::fault::ImportFault;
 use disk_files::read_again;

@@ -1,7 +1,7 @@
 // Flat bytes as blocks of a disk.
 
 ghost use Rattle.std.specs.Prelude.{◌≡◌, ◌*◌, ◌<◌, IfOk, length};
-ghost use Rattle.disk_runs.specs.Trace.{KeepsServed};
+ghost use Rattle.zone_translator.specs.Keeping.{KeepsServed};
 ghost use Rattle.block_copies.specs.Copies.{Imports, ImportsPiece, piece_blocks};
 
 use crate::fault::ImportFault;

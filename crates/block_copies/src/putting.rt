@@ -3,8 +3,8 @@
 ghost use Rattle.std.specs.Prelude.{◌≡◌, ◌+◌, ◌*◌, ◌^◌, ◌≤◌, ◌<◌, ℕ, IfErr, length, replicate, take, true};
 ghost use Rattle.zone_translator.specs.Answers.{AreBlocksOf, count_of_blocks, write_bytes};
 ghost use Rattle.zone_translator.specs.Flat.{FlatCall, with_nothing};
+ghost use Rattle.zone_translator.specs.Keeping.{KeepsServed};
 ghost use Rattle.zone_translator.specs.View.{DiskCause, disk_size, flat_of};
-ghost use Rattle.disk_runs.specs.Trace.{KeepsServed};
 
 use drive_port::Device;
 use zone_translator::{Disk, DiskFault};

@@ -9,7 +9,7 @@ use Rattle.clap.specs.Words.{Row, Text, first_of, one_of}
 use Rattle.zone_states.specs.declared.geometry.Geometry.{Geometry}
 use Rattle.zone_drive.specs.declared.habit.Habit.{Habit}
 use Rattle.zone_drive.specs.declared.habit.Habit.TheVariants as habits
-use Rattle.disk_jobs.specs.declared.job.Stop.{Stop}
+use Rattle.mounted_disks.specs.declared.stop.Stop.{Stop}
 use Rattle.command_line.specs.declared.place.Place.{Place}
 use Rattle.command_line.specs.declared.place.Place.TheVariants as places
 use Rattle.command_line.specs.declared.words.WordFault.{WordFault}

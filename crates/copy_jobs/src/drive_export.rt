@@ -6,8 +6,8 @@ ghost use Rattle.copy_jobs.specs.DriveCopies.{ExportsFile, blocks_asked};
 use crate::fault::CopyFault;
 use crate::job::ExportJob;
 use block_copies::export_blocks;
-use drive_store::restarted_drive;
-use nbd_jobs::mount_served;
+use kept_drives::{KeepFault, restarted_drive};
+use mounted_disks::mount_served;
 use std::alloc::Global;
 use std::io::{Read, Write};
 use zone_drive::Habit;
@@ -34,7 +34,7 @@ pub fn export_drive<I: Read, W: Write>(
 {
     let begun = match restarted_drive(alloc, bytes, Habit::Lazy) {
         Ok(begun) => begun,
-        Err(fault) => return Err(CopyFault::Image(fault)),
+        Err(fault) => return Err(CopyFault::File(KeepFault::Image(fault))),
     };
     let mut disk = match mount_served(alloc, begun.drive, None) {
         Ok(disk) => disk,

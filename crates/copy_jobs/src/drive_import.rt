@@ -1,38 +1,19 @@
 // The drive in a file, to which blocks are written.
 
 ghost use Rattle.std.specs.Prelude.{◌≡◌, IfNone, IfSome};
-ghost use Rattle.drive_store.specs.Kept.{HoldsFile};
-ghost use Rattle.copy_jobs.specs.DriveCopies.{ImportsDrive, ImportsFile, ImportsNothing, LeavesImported, import_end};
+ghost use Rattle.kept_drives.specs.Kept.{HoldsFile};
+ghost use Rattle.copy_jobs.specs.DriveCopies.{ImportsDrive, ImportsFile, ImportsNothing, import_end};
 
 use crate::fault::CopyFault;
 use crate::job::ImportJob;
 use block_copies::{ImportFault, import_blocks};
-use drive_journal::{Journaling, Store};
+use drive_journal::Store;
 use drive_port::Device;
-use drive_store::{DriveFile, keep, restarted_drive};
-use nbd_jobs::mount_served;
+use kept_drives::{DriveFile, KeepFault, Left, keep_restarted, leave};
+use mounted_disks::mount_served;
 use std::alloc::Global;
 use std::io::Read;
 use zone_drive::{Drive, Habit};
-
-/// What an import left.
-#[derive(Drop)]
-pub struct Left {
-    pub drive: Drive,
-    /// Whether the store failed. Then it has all changes before that one, and the drive that counts is the one that it
-    /// holds.
-    pub failed: bool,
-    /// Whether the file was the image of the drive at rest, before the import.
-    pub was_image: bool,
-}
-
-/// A drive whose changes go to a store.
-#[derive(Drop)]
-struct Stored<S: Store<Drive> + Drop> {
-    device: Journaling<Drive, S>,
-    /// Whether the file was the image of the drive at rest.
-    was_image: bool,
-}
 
 /// How an import ended, as it is told.
 fn import_end(taken: Result<u64, ImportFault>) -> Result<u64, CopyFault>
@@ -62,27 +43,6 @@ pub fn import_mounted<D: Device + Drop, R: Read>(
     (disk.into_device(), import_end(taken))
 }
 
-/// The same over a drive whose changes go to a store.
-fn import_kept<S: Store<Drive> + Drop, R: Read>(
-    alloc: Global,
-    job: &ImportJob,
-    stored: Stored<S>,
-    reader: &mut R,
-) -> (Left, S, Result<u64, CopyFault>)
-    ensures leaves { LeavesImported job.now (R.remaining reader.old) (R.remaining reader.new)
-        stored.device.drive result.2 result.0 (S.held result.1) (S.failed result.1) }
-    ensures was_image { result.0.was_image ≡ stored.was_image }
-{
-    let (device, taken) = import_mounted(alloc, job, stored.device, reader);
-    let (drive, store) = device.into_parts();
-    let left = Left {
-        drive,
-        failed: store.has_failed(),
-        was_image: stored.was_image,
-    };
-    (left, store, taken)
-}
-
 /// Reads blocks to their end, and writes them to the drive of a file. The changes of the drive go to the store. What is
 /// left of the drive is handed back, also after a fault, if the file holds one.
 pub fn import_drive<I: Read + Drop, S: Store<Drive> + Drop, R: Read>(
@@ -100,15 +60,13 @@ pub fn import_drive<I: Read + Drop, S: Store<Drive> + Drop, R: Read>(
         (R.remaining reader.old) (R.remaining reader.new) result.2) }
     ensures unused { IfNone result.0 (S.held result.1 ≡ S.held file.store) }
 {
-    let DriveFile { mut bytes, store } = file;
-    let begun = match restarted_drive(alloc, &mut bytes, Habit::Lazy) {
-        Ok(begun) => begun,
-        Err(fault) => return (None, store, Err(CopyFault::Image(fault))),
+    let stored = match keep_restarted(alloc, file, Habit::Lazy) {
+        Ok(stored) => stored,
+        Err((fault, store)) => {
+            return (None, store, Err(CopyFault::File(KeepFault::Image(fault))));
+        }
     };
-    let stored = Stored {
-        was_image: begun.is_image,
-        device: keep(alloc, begun, store),
-    };
-    let (left, store, taken) = import_kept(alloc, job, stored, reader);
+    let (device, taken) = import_mounted(alloc, job, stored.device, reader);
+    let (left, store) = leave(device, stored.was_image);
     (Some(left), store, taken)
 }

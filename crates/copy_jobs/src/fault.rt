@@ -1,28 +1,30 @@
 use block_copies::{ExportFault, ImportFault};
-use drive_journal::FileFault as ReadFault;
 use drive_store::FileFault;
-use nbd_jobs::NbdFault;
+use kept_drives::KeepFault;
+use mounted_disks::NoDiskFault;
 use thiserror::Error;
 
 /// Why a copy is not made, or only a part of it.
 #[derive(Clone, Copy, Debug, PartialEq, Eq, Error)]
 pub enum CopyFault {
-    /// The file holds no drive: its image or a change after it has a fault.
+    /// The file holds no drive, is not used, takes no more changes, or the drive is not saved in it; or an allocation
+    /// failed.
     #[error("{0}")]
-    Image(ReadFault),
+    File(KeepFault),
     /// The drive in the file is not mounted.
     #[error("{0}")]
-    Mount(NbdFault),
+    Mount(NoDiskFault),
     /// The blocks are not written out, or only the first ones.
     #[error("{0}")]
     Export(ExportFault),
     /// The import stopped.
     #[error("{0}")]
     Import(ImportFault),
-    /// The file is not used, takes no more changes, or the drive is not saved in it.
-    #[error("{0}")]
-    File(FileFault),
-    /// An allocation failed.
-    #[error("out of memory")]
-    Memory,
+}
+
+/// That memory ran out for a call of the system is told as such.
+impl From<FileFault> for CopyFault {
+    fn from(fault: FileFault) -> CopyFault {
+        CopyFault::File(KeepFault::from(fault))
+    }
 }

@@ -17,10 +17,10 @@
 //! * [`import_drive`] restarts the drive in the file, mounts it and imports blocks to its disk. Whatever ends that, the
 //!   store holds the drive that is left, which can be mounted again. Without a mounted drive nothing is read.
 //!
-//! What is saved after an import, and when its file failed, is decided in `saving.rt`, by contract. Nothing else is
+//! What is saved after an import, and what is told if its file failed, is decided by `kept_drives`. Nothing else is
 //! promised of [`do_export`] and [`do_import`], since no contract says what a file holds.
 //!
-//! Tests: none yet.
+//! Tests: the rows of `copy_rows`.
 #![tactic(auto)]
 
 mod drive_export;
@@ -29,10 +29,9 @@ mod explanation;
 mod fault;
 mod file;
 mod job;
-mod saving;
 
 pub use drive_export::{blocks_asked, export_drive};
-pub use drive_import::{Left, import_drive, import_mounted};
+pub use drive_import::{import_drive, import_mounted};
 pub use explanation::explain;
 pub use fault::CopyFault;
 pub use file::{Imported, do_export, do_import};

@@ -5,7 +5,7 @@ use copy_jobs::{CopyFault, CopyJob, ExportJob, ImportJob, explain, export_drive,
 use drive_images::write_image;
 use drive_journal::Held;
 use drive_port::Device;
-use drive_store::DriveFile;
+use kept_drives::DriveFile;
 use nvme_wire::Command;
 use std::alloc::{AllocError, Global};
 use std::rt::Runtime;

@@ -25,7 +25,6 @@ use Rattle.device_jobs.specs.declared.format_fault.Written.{Written}
 pub not-looked : (last : DriveState) (fault : ToolFault) → IsUnasked last fault → IsUnlooked last (unlooked fault)
 not-looked last tools.Memory so = tt
 not-looked last tools.Stopped so = so
-not-looked last (tools.Image cause) so = absurd so
 not-looked last (tools.Plan cause) so = absurd so
 not-looked last tools.Bytes so = absurd so
 not-looked last (tools.Entry cause) so = absurd so

@@ -3,7 +3,7 @@ use Rattle.std.specs.Prelude.{◌≡◌, None, Result, Ok, Err}
 use Rattle.drive_port.specs.Drive.{DriveState}
 use Rattle.zone_translator.specs.View.{DiskView, KeepsDisk, disk_array, disk_size}
 use Rattle.disk_runs.specs.Run.{Known}
-use Rattle.nbd_jobs.specs.Mounted.{IsNotServed, IsServed}
+use Rattle.mounted_disks.specs.Mounted.{IsNotServed, IsServed}
 use Rattle.block_copies.specs.Copies.{Exports}
 use Rattle.block_copies.specs.declared.fault.ExportFault.{ExportFault}
 use Rattle.copy_jobs.specs.DriveCopies.{blocks_asked}

@@ -6,7 +6,7 @@ ghost use Rattle.device_jobs.specs.Copies.{ExportsDevice};
 use block_copies::export_blocks;
 use copy_jobs::{CopyFault, ExportJob, blocks_asked};
 use drive_port::Device;
-use nbd_jobs::mount_served;
+use mounted_disks::mount_served;
 use std::alloc::Global;
 use std::io::Write;
 

@@ -2,7 +2,8 @@
 
 use crate::job::DeviceRun;
 use crate::raw::SendFault;
-use disk_jobs::{AskedLines, JobInput, Mounting, ProgramFault, Stop, explain_lines, place};
+use disk_jobs::{AskedLines, JobInput, Mounting, ProgramFault, explain_lines, place};
+use mounted_disks::Stop;
 use std::alloc::{AllocError, Global};
 use std::io::Read;
 

@@ -3,13 +3,14 @@
 ghost use Rattle.std.specs.Prelude.{◌≡◌, is_some};
 ghost use Rattle.drive_port.specs.Stop.{drive_of};
 ghost use Rattle.nbd_session.specs.Streams.{streams};
-ghost use Rattle.disk_jobs.specs.Saved.{stopping};
+ghost use Rattle.mounted_disks.specs.Stop.{stopping};
 ghost use Rattle.nbd_jobs.specs.Serving.{ServesStopping, TellsSession};
 ghost use Rattle.device_jobs.specs.Durable.{ServesAndFlushes};
 
 use crate::hardening::flush_if;
-use disk_jobs::DiskSize;
 use drive_port::{Device, PortFault};
+use kept_drives::KeepFault;
+use mounted_disks::DiskSize;
 use nbd_jobs::{BUFFER, Ended, Kept, NbdFault, NbdJob, are_sent, sent_end, serve_stopping};
 use nbd_session::{Client, Medium};
 use std::alloc::Global;
@@ -105,7 +106,7 @@ pub fn serve_client<D: Device + Drop, M: Medium + Drop, R: Read + Drop, W: Write
         BufWriter::with_capacity(alloc, BUFFER, output),
     ) else {
         return Served {
-            session: Err(NbdFault::Memory),
+            session: Err(NbdFault::File(KeepFault::Memory)),
             statistics: None,
             disk: None,
             flushed: Ok(()),

@@ -2,6 +2,7 @@ pub mod AheadLaws
 pub mod DataLaws
 pub mod DigitLaws
 pub mod GrammarLaws
+pub mod InputLaws
 pub mod OutputLaws
 pub mod PlaceLaws
 pub mod RawLaws

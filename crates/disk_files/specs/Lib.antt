@@ -1,4 +1,5 @@
 pub mod Ahead
+pub mod Input
 pub mod Line
 pub mod Output
 pub mod RawLine

@@ -9,12 +9,14 @@ use Rattle.zone_translator.specs.View.{DiskView, disk_size}
 use Rattle.disk_runs.specs.Run.{Known}
 use Rattle.disk_runs.specs.declared.fault.RunFault.{RunFault}
 use Rattle.disk_runs.specs.declared.fault.RunFault.TheVariants as runs
-use Rattle.disk_jobs.specs.Mounted.{IsMountFault, TellsJob, TellsMount, disk_on, size_of}
-use Rattle.disk_jobs.specs.Saved.{ThenShows, stopping}
+use Rattle.mounted_disks.specs.DiskSize.{size_of}
+use Rattle.mounted_disks.specs.Stop.{stopping}
+use Rattle.mounted_disks.specs.declared.disk_size.DiskSize.{DiskSize}
+use Rattle.mounted_disks.specs.declared.stop.Stop.{Stop}
+use Rattle.disk_jobs.specs.Mounted.{IsMountFault, TellsJob, TellsMount, disk_on}
+use Rattle.disk_jobs.specs.Saved.{ThenShows}
 use Rattle.disk_jobs.specs.declared.job.Job.{Job}
 use Rattle.disk_jobs.specs.declared.job.Job.TheVariants as jobs
-use Rattle.disk_jobs.specs.declared.job.Stop.{Stop}
-use Rattle.disk_jobs.specs.declared.mounting.DiskSize.{DiskSize}
 use Rattle.disk_jobs.specs.declared.mounting.Mounting.{Mounting}
 
 -- a disk that was mounted is the one that its drive holds

@@ -2,7 +2,7 @@
 use Rattle.std.specs.Prelude.{ℕ, ◌-◌, ◌^◌, ◌==◌, ◌&&◌, if◌then◌else◌, not, Bool, false, List, Option, Some, None, string_bytes}
 use Rattle.disk_jobs.specs.declared.job.Job.{Job}
 use Rattle.disk_jobs.specs.declared.job.Job.TheVariants as jobs
-use Rattle.disk_jobs.specs.declared.job.Stop.{Stop}
+use Rattle.mounted_disks.specs.declared.stop.Stop.{Stop}
 use Rattle.disk_jobs.specs.declared.saving.Access.{Access}
 use Rattle.disk_jobs.specs.declared.saving.Access.TheVariants as access
 use Rattle.drive_store.specs.declared.changes_output.SentAfter.{SentAfter}

@@ -2,17 +2,12 @@
 use Rattle.std.specs.Prelude.{◌≡◌, ℕ, length, None, Result, Err, IfSome, ⊤}
 use Rattle.drive_port.specs.Drive.{DriveState}
 use Rattle.drive_array.specs.ZoneLogs.{spelled}
-use Rattle.zone_translator.specs.View.{DiskView, disk_size}
+use Rattle.mounted_disks.specs.declared.disk_size.DiskSize.{DiskSize}
 use Rattle.disk_runs.specs.declared.fault.RunFault.{RunFault}
 use Rattle.disk_runs.specs.declared.fault.RunFault.TheVariants as runs
 use Rattle.disk_jobs.specs.declared.job.Job.{Job}
 use Rattle.disk_jobs.specs.declared.job.Job.TheVariants as jobs
-use Rattle.disk_jobs.specs.declared.mounting.DiskSize.{DiskSize}
 use Rattle.disk_jobs.specs.declared.mounting.Mounting.{Mounting}
-
--- the size of a disk, and the shape of its drive
-abbrev pub size_of : DiskView → DiskSize
-size_of disk = record { geometry = disk.drive.geometry; blocks = disk_size disk }
 
 -- the disk that a drive holds: it has the drive's shape, and that many blocks if no header says how many
 abbrev pub disk_on : ℕ → DriveState → DiskSize

@@ -1,5 +1,5 @@
 -- What a job does: the drive that it leaves to be saved, what it ends with, and what is written.
-use Rattle.std.specs.Prelude.{◌≡◌, ℕ, ◌+◌, ◌*◌, ◌||◌, Bool, true, false, if◌then◌else◌, not, List, Option, Some, None, Result, Ok, Err, IfSome, ⊤}
+use Rattle.std.specs.Prelude.{◌≡◌, ℕ, ◌+◌, ◌*◌, Bool, true, false, if◌then◌else◌, not, List, Option, Some, None, Result, Ok, Err, IfSome, ⊤}
 use Rattle.std.specs.Io.KnownBytes.{Appends}
 use Rattle.nvme_wire.specs.declared.command.ReportingOptions.TheVariants.{AnyState}
 use Rattle.zone_states.specs.Checks.{first_failing}
@@ -9,7 +9,6 @@ use Rattle.zone_report.specs.Report.{report}
 use Rattle.zone_report.specs.ReportText.{IsTextOf}
 use Rattle.drive_port.specs.Drive.{DriveState}
 use Rattle.drive_port.specs.Stop.{Stopping, drive_of}
-use Rattle.drive_port.specs.declared.progress.Progress.TheVariants.{Going}
 use Rattle.zone_drive.specs.Habits.{MemoryDrive}
 use Rattle.zone_drive.specs.Stored.{fresh}
 use Rattle.zone_drive.specs.declared.habit.Habit.{Habit}
@@ -30,14 +29,14 @@ use Rattle.disk_runs.specs.declared.taking.Taking.{Taking}
 use Rattle.disk_runs.specs.declared.taking.Taking.TheVariants.{All}
 use Rattle.disk_jobs.specs.declared.fault.ProgramFault.{ProgramFault}
 use Rattle.disk_jobs.specs.declared.fault.ProgramFault.TheVariants as program
-use Rattle.drive_store.specs.Kept.{IsReadIn, IsRestarted, stays}
-use Rattle.drive_store.specs.declared.file_end.FileEnd.{FileEnd}
-use Rattle.drive_store.specs.declared.file_fault.FileFault.{FileFault}
+use Rattle.kept_drives.specs.Kept.{IsReadIn, IsRestarted}
+use Rattle.kept_drives.specs.Left.{IsHandedBack}
+use Rattle.kept_drives.specs.declared.kept_drive.Begun.{Begun}
+use Rattle.kept_drives.specs.declared.left.Left.{Left}
+use Rattle.mounted_disks.specs.Stop.{stopping}
 use Rattle.disk_jobs.specs.declared.job.Job.{Job}
 use Rattle.disk_jobs.specs.declared.job.Job.TheVariants as jobs
-use Rattle.disk_jobs.specs.declared.job.Stop.{Stop}
-use Rattle.drive_store.specs.declared.kept_drive.Begun.{Begun}
-use Rattle.disk_jobs.specs.declared.lines.Left.{Left}
+use Rattle.disk_jobs.specs.declared.lines.Answered.{Answered}
 use Rattle.disk_jobs.specs.Mounted.{TellsJob}
 
 -- ---- the drive that a job begins with
@@ -115,10 +114,6 @@ HasDrive job file None old new = ShowsReport job file old new
 HasDrive job file (Some begun) old new = BeginsOn job file begun × SaysFirst job old new
 
 -- ---- what the lines make of it
-
--- the device over which the lines run: it stops after that many commands of this drive, and tears an Append after that many blocks
-abbrev pub stopping : Stop → DriveState → Stopping
-stopping stop drive = record { inner = drive; limit = stop.commands; tear = stop.tear; completed = 0; progress = Going }
 
 -- A trace is run over the device, mounted as that many blocks, and leaves the zones of this drive. It is said which lines are taken.
 pub record RunsTrace (takes : Taking) (blocks : ℕ) (device : Stopping) (bytes : Exchange) (ended : Result (Unit {0}) RunFault)
@@ -210,45 +205,37 @@ StoresDrive (jobs.Run path blocks zones statistics stop habit sync false progres
 StoresDrive (jobs.Nvme path explain habit sync) old new drive = IfSome new (λ bytes. IsStored bytes drive)
 StoresDrive job old new drive = new ≡ old
 
--- the drive that is handed back is this one; where the store failed, only the store has it
-abbrev pub IsHandedBack : Bool → DriveState → DriveState → Type 0
-IsHandedBack failed drive back = failed ≡ false → (back.geometry ≡ drive.geometry) × (back.zones ≡ drive.zones)
-
 -- ---- the job
 
 -- What the lines of a job leave of its drive, whatever ended them, and what its store holds then. Whether the store failed is told, and which disk
 -- was mounted.
-pub record LeavesDrive (job : Job) (bytes : Exchange) (old : DriveState) (ended : Result (Unit {0}) RunFault) (left : Left)
+pub record LeavesDrive (job : Job) (bytes : Exchange) (old : DriveState) (ended : Result (Unit {0}) RunFault) (answered : Answered)
     (before held : Known) (failed : Bool) : Type 0 where
   pub drive : DriveState
-  pub answers : AnswersLines job bytes old ended drive left.drive.state
-  pub failed_is : left.failed ≡ failed
-  pub back : IsHandedBack failed drive left.drive.state
+  pub answers : AnswersLines job bytes old ended drive answered.left.drive.state
+  pub failed_is : answered.left.failed ≡ failed
+  pub back : IsHandedBack failed drive answered.left.drive.state
   pub stored : StoresDrive job before held drive
-  pub mounting : TellsJob job old ended left.mounting
+  pub mounting : TellsJob job old ended answered.mounting
 
 -- What a job leaves of the drive that it began with. It is told whether the file was the image of that drive at rest.
-pub record LeftByLines (job : Job) (file : Known) (bytes : Exchange) (ended : Result (Unit {0}) RunFault) (left : Left)
+pub record LeftByLines (job : Job) (file : Known) (bytes : Exchange) (ended : Result (Unit {0}) RunFault) (answered : Answered)
     (before held : Known) (failed : Bool) : Type 0 where
   pub first : Begun
   pub begins : BeginsOn job file first
-  pub was_image : left.was_image ≡ first.is_image
+  pub was_image : answered.left.was_image ≡ first.is_image
   pub told : Known
   pub says : SaysFirst job bytes.written told
-  pub leaves : LeavesDrive job (record bytes { written = told }) first.drive.state ended left before held failed
+  pub leaves : LeavesDrive job (record bytes { written = told }) first.drive.state ended answered before held failed
 
 -- ---- the file
 
--- What is saved of a job, once what it wrote was sent: the drive that it left, also after a fault. A fresh drive is saved only if its `ok` was sent.
--- Nothing is saved where the file was only read, nor where a change could not be written: then the file has all changes before it.
--- Where no change was written, the file stays as it is only if it was the image of the drive at rest.
-abbrev pub drive_to_save : Job → Result (Unit {0}) ProgramFault → FileEnd → Option Left → Option MemoryDrive
-drive_to_save job sent end None = None
-drive_to_save (jobs.Format path geometry force) (Err fault) end (Some left) = None
-drive_to_save (jobs.Format path geometry force) (Ok sent) end (Some left) = Some left.drive
-drive_to_save job sent end (Some left) = if (reads_only job || left.failed || stays end left.was_image) then None else Some left.drive
+-- what may be saved of a job with a file, also after a fault: what its lines left of the drive; nothing where the file was only read
+abbrev pub left_to_save : Job → Option Answered → Option Left
+left_to_save job None = None
+left_to_save job (Some answered) = if reads_only job then None else Some answered.left
 
--- A job whose file failed during its lines is told by that fault: its lines met it as a drive that stopped, or as an output that failed.
-abbrev pub first_told : Result (Unit {0}) ProgramFault → Option FileFault → Result (Unit {0}) ProgramFault
-first_told ended (Some failed) = Err (program.File failed)
-first_told ended None = ended
+-- a fresh drive is saved only if its `ok` was sent
+abbrev pub fresh_to_save : Result (Unit {0}) ProgramFault → Option Answered → Option MemoryDrive
+fresh_to_save (Ok sent) (Some answered) = Some answered.left.drive
+fresh_to_save sent answered = None

@@ -1,18 +1,19 @@
 use crate::fault::ProgramFault;
 use crate::input::JobInput;
 use crate::job::Job;
-use crate::lines::Left;
+use crate::lines::Answered;
 use crate::mounting::Mounting;
 use crate::program::run_job;
-use crate::saving::{Access, drive_to_save, file_access, first_told, sent_after};
+use crate::saving::{Access, file_access, fresh_to_save, left_to_save, sent_after};
 use crate::sending::{Ran, run_sending, send};
 use disk_files::LineReader;
 use disk_runs::RunFault;
 use drive_journal::Unknown;
 use drive_store::{
-    ChangesFile, ChangesOutput, DriveFile, FileEnd, FileFault, ImageFile, Saved, Saving,
-    image_to_read, image_to_save, open_to_format, save,
+    ChangesFile, ChangesOutput, FileFault, ImageFile, Saved, Saving, image_to_read, image_to_save,
+    open_to_format, save,
 };
+use kept_drives::{DriveFile, Finished, finish, first_told};
 use std::alloc::Global;
 use std::fs::File;
 use std::io;
@@ -51,9 +52,9 @@ impl Done {
 }
 
 /// What is known of the mount of a job, if there was one.
-fn mounting(left: &Option<Left>) -> Mounting {
-    match left {
-        Some(left) => left.mounting,
+fn mounting(answered: &Option<Answered>) -> Mounting {
+    match answered {
+        Some(answered) => answered.mounting,
         None => Mounting::NONE,
     }
 }
@@ -90,8 +91,8 @@ fn run_without_file<R: Read + Drop, W: Write>(
         bytes: io::empty(),
         store: Unknown::new(io::sink()),
     };
-    let (left, _, ran) = run_job(alloc, job, file, input, output);
-    (left, ran.and(send(output)))
+    let (answered, _, ran) = run_job(alloc, job, file, input, output);
+    (answered, ran.and(send(output)))
 }
 
 /// Does a job over the bytes of a file for which its changes are gathered, and sends what it wrote. A reply is sent
@@ -124,14 +125,13 @@ fn run_with_changes<F: Files<File = File>, R: Read + Drop, W: Write>(
     output: &mut W,
 ) -> Done {
     let file = ChangesFile::with_gate(saving, image, input.gate);
-    let (left, ran) = run_over(saving, job, (&file, bytes), &mut input.lines, output);
-    let _ = file.write_out();
-    let sent = first_told(ran, file.fault());
-    let mounting = mounting(&left);
-    let drive = drive_to_save(job, sent, file.end(), left);
+    let (answered, ran) = run_over(saving, job, (&file, bytes), &mut input.lines, output);
+    let mounting = mounting(&answered);
+    let Finished { fault, saved } = finish(file, left_to_save(job, answered));
     Done {
-        job: sent,
-        saved: file.save(drive).map_err(told),
+        // What the lines met of a fault of the file is told as that fault.
+        job: first_told(ran, fault.map(ProgramFault::File)),
+        saved: saved.map_err(told),
         mounting,
     }
 }
@@ -158,8 +158,8 @@ fn format<F: Files<File = File>, R: Read + Drop, W: Write>(
     input: &mut JobInput<'_, R>,
     output: &mut W,
 ) -> Done {
-    let (left, sent) = run_without_file(saving.alloc, job, &mut input.lines, output);
-    let drive = drive_to_save(job, sent, FileEnd::UNCHANGED, left);
+    let (answered, sent) = run_without_file(saving.alloc, job, &mut input.lines, output);
+    let drive = fresh_to_save(sent, answered);
     let (Job::Format { image, force, .. }, Some(drive)) = (job, &drive) else {
         return Done::unsaved(sent);
     };
@@ -183,11 +183,11 @@ pub fn do_job<F: Files<File = File>, R: Read + Drop, W: Write>(
     output: &mut W,
 ) -> Done {
     let Some(path) = job.image() else {
-        let (left, sent) = run_without_file(alloc, job, &mut input.lines, output);
+        let (answered, sent) = run_without_file(alloc, job, &mut input.lines, output);
         return Done {
             job: sent,
             saved: Ok(Saved::IN_PLACE),
-            mounting: mounting(&left),
+            mounting: mounting(&answered),
         };
     };
     let saving = Saving { files, alloc };

@@ -2,26 +2,9 @@ ghost use Rattle.std.specs.Prelude.{◌≡◌, IfNone, IfSome, None, Some};
 ghost use Rattle.disk_jobs.specs.Asked.{blocks_asked, explains, image_asked, shows_progress, stop_asked, syncs};
 ghost use Rattle.disk_jobs.specs.Saved.{reads_only};
 
+use mounted_disks::Stop;
 use zone_drive::Habit;
 use zone_states::Geometry;
-
-/// When the drive stops: after that many commands, the mount's included, and that many blocks into the Append after
-/// them, if any.
-#[derive(Clone, Copy, Debug, PartialEq, Eq)]
-pub struct Stop {
-    /// How many commands are completed before the drive stops.
-    pub commands: u64,
-    /// How many blocks are written of the Append at which it stops.
-    pub tear: u32,
-}
-
-impl Stop {
-    /// After more commands than a run can send.
-    pub const NEVER: Stop = Stop {
-        commands: u64::MAX,
-        tear: 0,
-    };
-}
 
 /// What the words of a command line ask for. `image` is the path of a file.
 #[derive(Debug, PartialEq, Eq, Drop)]

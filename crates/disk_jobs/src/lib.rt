@@ -33,7 +33,8 @@
 //!   memory. Its store holds what it held, and its drive is not saved.
 //! * There is no drive only after a report, or if none was made or read. Then no line was read, and the fault says
 //!   why. Nothing is written before a fault of the file.
-//! * What is saved in a file is that drive, also after a fault; a fresh drive only if its `ok` was sent (`saving.rt`).
+//! * What is saved in a file is that drive, also after a fault, unless the job only reads; a fresh drive only if its `ok`
+//!   was sent (`saving.rt`, and `drive_to_save` of `kept_drives`).
 //! * [`write_program_fault`] writes the line of each fault, or a beginning of it (`specs/FaultLine.antt`).
 //!
 //! A run with `--statistics` is promised as one without; its replies are followed by some text. Of [`do_job`] nothing
@@ -63,18 +64,20 @@ mod statistics;
 mod status_words;
 mod watched;
 
-pub use drive_store::{DriveFile, FileFault, Gate, Saved, SystemError};
+pub use drive_store::{FileFault, Gate, Saved, SystemError};
 pub use explanation::{AskedLines, explain, explain_lines, place};
 pub use fault::{ProgramFault, write_program_fault};
 pub use file::{Done, do_job};
 pub use input::JobInput;
-pub use job::{Job, Stop};
+pub use job::Job;
+pub use kept_drives::DriveFile;
 pub use line_count::{CountedLines, LineCount};
-pub use lines::{Left, TraceRun, run_stopping, stopping};
-pub use mounting::{DiskSize, Mounting};
+pub use lines::{Answered, TraceRun, run_stopping};
+pub use mounted_disks::{DiskSize, Stop};
+pub use mounting::Mounting;
 pub use notes::{restored_note, size_notes};
 pub use program::{run_job, told as run_told};
-pub use statistics::{run_counted, statistics_of};
+pub use statistics::run_counted;
 pub use status_words::Explained;
 pub use watched::{Counted, Watched};
 pub use zone_drive::Habit;

@@ -1,20 +1,22 @@
 // The lines of a job, answered over its drive.
 
 ghost use Rattle.std.specs.Prelude.{◌≡◌, false, true};
+ghost use Rattle.mounted_disks.specs.Stop.{stopping};
 ghost use Rattle.disk_runs.specs.Run.{exchange};
 ghost use Rattle.disk_jobs.specs.Mounted.{TellsJob, TellsMount};
 ghost use Rattle.disk_jobs.specs.Saved.{LeavesDrive, RunsLines, RunsTrace, ThenShows};
-ghost use Rattle.disk_jobs.specs.Saved.{has_changes, shows_zones, stopping};
+ghost use Rattle.disk_jobs.specs.Saved.{has_changes, shows_zones};
 
 use crate::begun::show_zones;
-use crate::job::{Job, Stop};
+use crate::job::Job;
 use crate::mounting::Mounting;
 use crate::statistics::run_counted;
 use disk_files::LineReader;
 use disk_runs::{RunFault, Taking, answer_trace, run_raw};
-use drive_journal::{Journaling, Store};
-use drive_port::{Device, StopAfter};
-use drive_store::Begun;
+use drive_journal::Store;
+use drive_port::Device;
+use kept_drives::{Begun, Left, Stored, leave};
+use mounted_disks::{Stop, stopping};
 use std::alloc::Global;
 use std::io::{Read, Write};
 use zone_drive::Drive;
@@ -29,23 +31,10 @@ pub(crate) struct Start<S: Store<Drive> + Drop> {
 
 /// What the lines of a job left.
 #[derive(Drop)]
-pub struct Left {
-    pub drive: Drive,
-    /// Whether the store failed. Then it has all changes before that one, and the drive that counts is the one that it
-    /// holds.
-    pub failed: bool,
-    /// Whether the file was the image of the drive at rest, before the lines.
-    pub was_image: bool,
+pub struct Answered {
+    pub left: Left,
     /// What is known of the mount, if there was one.
     pub mounting: Mounting,
-}
-
-/// A drive whose changes go to a store.
-#[derive(Drop)]
-pub(crate) struct Stored<S: Store<Drive> + Drop> {
-    pub(crate) device: Journaling<Drive, S>,
-    /// Whether the file was the image of the drive at rest.
-    pub(crate) was_image: bool,
 }
 
 /// How a trace is run: the number of logical blocks that the mount is given, when the device stops, and which lines are
@@ -55,14 +44,6 @@ pub struct TraceRun {
     pub blocks: u64,
     pub stop: Stop,
     pub takes: Taking,
-}
-
-/// A device that stops after the commands of a stop, or inside the Append after them. Then the first blocks of the
-/// Append are written.
-pub fn stopping<D: Device + Drop>(device: D, stop: Stop) -> StopAfter<D>
-    ensures { result ≡ stopping stop (D.drive device) }
-{
-    StopAfter::tearing(device, stop.commands, stop.tear)
 }
 
 /// Answers a trace over a device that stops. It tells what is known of the mount.
@@ -168,11 +149,11 @@ pub(crate) fn answer_in_memory<S: Store<Drive> + Drop, R: Read + Drop, W: Write>
     start: Start<S>,
     input: &mut LineReader<R>,
     output: &mut W,
-) -> (Left, S, Result<(), RunFault>)
+) -> (Answered, S, Result<(), RunFault>)
     requires { has_changes job.now ≡ false }
     ensures leaves { LeavesDrive job.now (exchange input.old.left (W.contents output.old) (W.contents output.new))
         start.begun.drive.state result.2 result.0 (S.held start.store) (S.held result.1) (S.failed result.1) }
-    ensures was_image { result.0.was_image ≡ start.begun.is_image }
+    ensures was_image { result.0.left.was_image ≡ start.begun.is_image }
 {
     let Start { begun, store } = start;
     let was_image = begun.is_image;
@@ -182,9 +163,8 @@ pub(crate) fn answer_in_memory<S: Store<Drive> + Drop, R: Read + Drop, W: Write>
         drive,
         failed: store.has_failed(),
         was_image,
-        mounting,
     };
-    (left, store, shown)
+    (Answered { left, mounting }, store, shown)
 }
 
 /// Answers the lines of a job over a drive whose changes go to a store.
@@ -194,22 +174,15 @@ pub(crate) fn answer_kept<S: Store<Drive> + Drop, R: Read + Drop, W: Write>(
     stored: Stored<S>,
     input: &mut LineReader<R>,
     output: &mut W,
-) -> (Left, S, Result<(), RunFault>)
+) -> (Answered, S, Result<(), RunFault>)
     requires { has_changes job.now ≡ true }
     ensures leaves { LeavesDrive job.now (exchange input.old.left (W.contents output.old) (W.contents output.new))
         stored.device.drive result.2 result.0 stored.device.contents (S.held result.1) (S.failed result.1) }
-    ensures was_image { result.0.was_image ≡ stored.was_image }
+    ensures was_image { result.0.left.was_image ≡ stored.was_image }
 {
     let Stored { device, was_image } = stored;
     let (device, mounting, ran) = run_lines(alloc, job, device, input, output);
-    let (drive, store) = device.into_parts();
-    let failed = store.has_failed();
-    let shown = show_after(alloc, job, &drive, ran, output);
-    let left = Left {
-        drive,
-        failed,
-        was_image,
-        mounting,
-    };
-    (left, store, shown)
+    let (left, store) = leave(device, was_image);
+    let shown = show_after(alloc, job, &left.drive, ran, output);
+    (Answered { left, mounting }, store, shown)
 }

@@ -1,4 +1,4 @@
-use crate::mounting::DiskSize;
+use mounted_disks::DiskSize;
 use std::alloc::{AllocError, Global};
 use write_plan::size_advice;
 

@@ -1,7 +1,7 @@
 ghost use Rattle.std.specs.Prelude.{◌≡◌, Err, IfErr, IfNone, IfSome, OnOk, true};
 ghost use Rattle.drive_journal.specs.Cut.{front_of};
 ghost use Rattle.drive_journal.specs.File.{IsStoredWhole};
-ghost use Rattle.drive_store.specs.Kept.{HoldsFile};
+ghost use Rattle.kept_drives.specs.Kept.{HoldsFile};
 ghost use Rattle.disk_runs.specs.Run.{exchange};
 ghost use Rattle.disk_jobs.specs.Saved.{HasNoDrive, LeavesDrive, LeftByLines, ShowsReport, TellsRun};
 ghost use Rattle.disk_jobs.specs.Saved.{ended_by, has_changes};
@@ -9,12 +9,12 @@ ghost use Rattle.disk_jobs.specs.Saved.{ended_by, has_changes};
 use crate::begun::begin;
 use crate::fault::ProgramFault;
 use crate::job::Job;
-use crate::lines::{Left, Start, Stored, answer_in_memory, answer_kept};
+use crate::lines::{Answered, Start, answer_in_memory, answer_kept};
 use disk_files::LineReader;
 use disk_runs::RunFault;
 use drive_journal::Store;
 use drive_port::Device;
-use drive_store::{DriveFile, keep};
+use kept_drives::{DriveFile, Stored, keep};
 use std::alloc::Global;
 use std::io::{Read, Write};
 use zone_choice::most_blocks;
@@ -53,12 +53,12 @@ fn answer<S: Store<Drive> + Drop, R: Read + Drop, W: Write>(
     start: Start<S>,
     input: &mut LineReader<R>,
     output: &mut W,
-) -> (Left, S, Result<(), RunFault>)
+) -> (Answered, S, Result<(), RunFault>)
     requires { has_changes job.now ≡ true → IfSome (front_of start.begun.whole (S.held start.store))
         (λ bytes. IsStoredWhole bytes start.begun.drive.state start.begun.sum) }
     ensures leaves { LeavesDrive job.now (exchange input.old.left (W.contents output.old) (W.contents output.new))
         start.begun.drive.state result.2 result.0 (S.held start.store) (S.held result.1) (S.failed result.1) }
-    ensures was_image { result.0.was_image ≡ start.begun.is_image }
+    ensures was_image { result.0.left.was_image ≡ start.begun.is_image }
 {
     if !has_changes(job) {
         return answer_in_memory(alloc, job, start, input, output);
@@ -80,15 +80,15 @@ pub fn run_job<I: Read + Drop, S: Store<Drive> + Drop, R: Read + Drop, W: Write>
     file: DriveFile<I, S>,
     input: &mut LineReader<R>,
     output: &mut W,
-) -> (Option<Left>, S, Result<(), ProgramFault>)
+) -> (Option<Answered>, S, Result<(), ProgramFault>)
     requires { HoldsFile (S.held file.store) (I.remaining file.bytes) }
     // A drive that is handed back is the one that the lines left, whatever ended them, and the store has it too, unless
     // the job only reads; it is said to be that of the store alone only if the store failed. The fault comes from the
     // run of the lines.
-    ensures left { IfSome result.0 (λ left. LeftByLines job.now (I.remaining file.bytes)
+    ensures left { IfSome result.0 (λ answered. LeftByLines job.now (I.remaining file.bytes)
         (exchange input.old.left (W.contents output.old) (W.contents output.new))
-        (ended_by result.2) left (S.held file.store) (S.held result.1) (S.failed result.1)) }
-    ensures told { IfSome result.0 (λ left. IfErr result.2 (TellsRun left.drive.state.geometry)) }
+        (ended_by result.2) answered (S.held file.store) (S.held result.1) (S.failed result.1)) }
+    ensures told { IfSome result.0 (λ answered. IfErr result.2 (TellsRun answered.left.drive.state.geometry)) }
     // Without a drive no line was read and no change written, and of what the job writes at most a beginning is
     // written: the fault says why there is no drive, by the bytes of the file. Only a report is done without one.
     ensures unread { IfNone result.0 ((input.new ≡ input.old) × (S.held result.1 ≡ S.held file.store)) }
@@ -103,10 +103,10 @@ pub fn run_job<I: Read + Drop, S: Store<Drive> + Drop, R: Read + Drop, W: Write>
         Ok(None) => return (None, store, Ok(())),
         Err(fault) => return (None, store, Err(fault)),
     };
-    let (left, store, result) = answer(alloc, job, Start { begun, store }, input, output);
-    let geometry = left.drive.geometry();
+    let (answered, store, result) = answer(alloc, job, Start { begun, store }, input, output);
+    let geometry = answered.left.drive.geometry();
     match result {
-        Ok(()) => (Some(left), store, Ok(())),
-        Err(fault) => (Some(left), store, Err(told(fault, &geometry))),
+        Ok(()) => (Some(answered), store, Ok(())),
+        Err(fault) => (Some(answered), store, Err(told(fault, &geometry))),
     }
 }

@@ -1,11 +1,12 @@
 ghost use Rattle.std.specs.Prelude.{◌≡◌};
 ghost use Rattle.disk_jobs.specs.Asked.{file_access, sent_after};
-ghost use Rattle.disk_jobs.specs.Saved.{drive_to_save, first_told};
+ghost use Rattle.disk_jobs.specs.Saved.{fresh_to_save, left_to_save};
 
 use crate::fault::ProgramFault;
 use crate::job::Job;
-use crate::lines::Left;
-use drive_store::{FileEnd, FileFault, SentAfter, stays};
+use crate::lines::Answered;
+use drive_store::SentAfter;
+use kept_drives::Left;
 use zone_drive::Drive;
 
 /// How a file is opened whose drive is read.
@@ -39,37 +40,28 @@ pub(crate) fn sent_after(job: &Job) -> SentAfter
     }
 }
 
-/// What is saved of a job, by what its lines left and how it ended, once what it wrote was sent: the drive, also after
-/// a fault. A fresh drive is saved only if its `ok` was sent. Nothing is saved if the job only reads, nor if a change
-/// could not be written to the file. A file that no change was written to stays as it is only if it was the image of
-/// the drive at rest.
-pub(crate) fn drive_to_save(
-    job: &Job,
-    sent: Result<(), ProgramFault>,
-    end: FileEnd,
-    left: Option<Left>,
-) -> Option<Drive>
-    ensures { result ≡ drive_to_save job.now sent end left }
+/// What may be saved of a job with a file, also after a fault: what its lines left of the drive. Nothing is saved if the
+/// job only reads.
+pub(crate) fn left_to_save(job: &Job, answered: Option<Answered>) -> Option<Left>
+    ensures { result ≡ left_to_save job.now answered }
 {
-    let left = left?;
-    match job {
-        Job::Format { .. } if sent.is_err() => None,
-        Job::Format { .. } => Some(left.drive),
-        _ if job.reads_only() => None,
-        _ if left.failed || stays(end, left.was_image) => None,
-        _ => Some(left.drive),
+    let answered = answered?;
+    if job.reads_only() {
+        return None;
     }
+    Some(answered.left)
 }
 
-/// How a job ended: where its file failed during its lines, whatever the lines were told of that is told as that fault.
-pub(crate) fn first_told(
-    ended: Result<(), ProgramFault>,
-    failed: Option<FileFault>,
-) -> Result<(), ProgramFault>
-    ensures { result ≡ first_told ended failed }
+/// What is saved of a job that makes a fresh drive, once what it wrote was sent: the drive, if its `ok` was sent.
+pub(crate) fn fresh_to_save(
+    sent: Result<(), ProgramFault>,
+    answered: Option<Answered>,
+) -> Option<Drive>
+    ensures { result ≡ fresh_to_save sent answered }
 {
-    match failed {
-        Some(fault) => Err(ProgramFault::File(fault)),
-        None => ended,
+    if sent.is_err() {
+        return None;
     }
+    let answered = answered?;
+    Some(answered.left.drive)
 }

@@ -1,17 +1,18 @@
 // A job whose replies wait for what it asks for.
 
 ghost use Rattle.std.specs.Prelude.{◌≡◌};
-ghost use Rattle.drive_store.specs.Kept.{HoldsFile};
+ghost use Rattle.kept_drives.specs.Kept.{HoldsFile};
 ghost use Rattle.disk_jobs.specs.Asked.{sent_after};
 
 use crate::fault::ProgramFault;
 use crate::job::Job;
-use crate::lines::Left;
+use crate::lines::Answered;
 use crate::program::run_job;
 use disk_files::LineReader;
 use disk_runs::RunFault;
 use drive_journal::Store;
-use drive_store::{ChangesOutput, DriveFile};
+use drive_store::ChangesOutput;
+use kept_drives::DriveFile;
 use std::alloc::Global;
 use std::fs::File;
 use std::io::{BufWriter, Read, Write};
@@ -19,7 +20,7 @@ use std::rt::Files;
 use zone_drive::Drive;
 
 /// What the lines of a job left, and how they ended.
-pub(crate) type Ran = (Option<Left>, Result<(), ProgramFault>);
+pub(crate) type Ran = (Option<Answered>, Result<(), ProgramFault>);
 
 /// An output whose bytes wait for the changes before them.
 pub(crate) trait Waiting: Write {
@@ -51,6 +52,6 @@ pub(crate) fn run_sending<
     let Ok(mut output) = BufWriter::new(alloc, output) else {
         return (None, Err(ProgramFault::Run(RunFault::Memory)));
     };
-    let (left, _, ran) = run_job(alloc, job, file, input, &mut output);
-    (left, ran.and(send(&mut output)))
+    let (answered, _, ran) = run_job(alloc, job, file, input, &mut output);
+    (answered, ran.and(send(&mut output)))
 }

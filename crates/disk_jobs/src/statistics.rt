@@ -1,38 +1,19 @@
 ghost use Rattle.std.specs.Prelude.{◌≡◌, Ok};
 ghost use Rattle.disk_runs.specs.Run.{exchange};
 ghost use Rattle.disk_jobs.specs.Mounted.{TellsMount};
-ghost use Rattle.disk_jobs.specs.Saved.{RunsCounted, ThenTells, stopping};
+ghost use Rattle.disk_jobs.specs.Saved.{RunsCounted, ThenTells};
+ghost use Rattle.mounted_disks.specs.Stop.{stopping};
 
-use crate::lines::{TraceRun, stopping};
+use crate::lines::TraceRun;
 use crate::mounting::Mounting;
 use disk_files::{LineReader, write_out};
 use disk_runs::{RunFault, answer_trace};
-use drive_counter::{Counter, Spread, statistics_text};
+use drive_counter::Counter;
 use drive_port::Device;
-use std::alloc::{AllocError, Global};
+use mounted_disks::{statistics_of, stopping};
+use std::alloc::Global;
 use std::io::{Read, Write};
 use zone_translator::Disk;
-
-/// How many blocks are live in each zone.
-fn live_blocks<D: Device + Drop>(
-    alloc: Global,
-    disk: &Disk<Counter<D>>,
-) -> Result<Vec<u32>, AllocError> {
-    let mut live = Vec::new(alloc);
-    for zone in 0..disk.device().geometry().zones {
-        live.push(disk.live(zone))?;
-    }
-    Ok(live)
-}
-
-/// What was counted of a disk, and how many blocks are live in its zones, as text.
-pub fn statistics_of<D: Device + Drop>(
-    alloc: Global,
-    disk: &Disk<Counter<D>>,
-) -> Result<String, AllocError> {
-    let mut live = live_blocks(alloc, disk)?;
-    statistics_text(alloc, &disk.device().counts(), &Spread::of(&mut live))
-}
 
 /// Writes what was counted of a disk, without a command.
 fn write_statistics<W: Write, D: Device + Drop>(

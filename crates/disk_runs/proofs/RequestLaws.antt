@@ -6,9 +6,11 @@ use Rattle.disk_files.specs.declared.trace_line.TraceLine.TheVariants.{Read, Rem
 use Rattle.zone_choice.specs.Agreement.{MountedView}
 use Rattle.zone_cleaner.specs.Clean.{CleanView}
 use Rattle.zone_cleaner.specs.Start.{TurnLeaves, TurnsFewer}
+use Rattle.zone_translator.proofs.KeepingLaws.{keeps_call, keeps_same}
 use Rattle.zone_translator.specs.Answers.{Answers, CostsAtMost, KeepsClean, SaysSize, Stores, write_commands}
 use Rattle.zone_translator.specs.Calls.{IsTurn, is_known}
 use Rattle.zone_translator.specs.Changes.{batch_commands}
+use Rattle.zone_translator.specs.Keeping.{KeepsServed}
 use Rattle.zone_translator.specs.View.{CompletesAtMost, DiskView, KeepsDisk, disk_size, disk_turns, flat_of, mounted_of}
 use Rattle.zone_translator.specs.Flat.{Answer, Call, FlatCall, FlatDisk, answer_while, grow, idle, known_answer, may_refuse, with_nothing}
 use Rattle.zone_translator.specs.declared.fault.DiskFault.{DiskFault}
@@ -16,8 +18,7 @@ use Rattle.zone_translator.specs.declared.fault.DiskFault.TheVariants as faults
 use Rattle.zone_translator.specs.declared.status.DiskStatus.{DiskStatus}
 use Rattle.zone_translator.specs.declared.status.DiskStatus.TheVariants.{Serving, Stopped, Unmounted}
 use Rattle.disk_runs.specs.FlatLines.{FlatAnswer, IsUntold, RepliesTo, Request, Turns, TurnsDone, first_of, refusal_reply, reply_of}
-use Rattle.disk_runs.specs.KeepingLaws.{keeps_call, keeps_same}
-use Rattle.disk_runs.specs.Trace.{Does, GrowsOnce, KeepsServed, ReadsFew, StopsBy, TakesFewer, TakesOne, TakesTurns, TurnsBy, WritesOnce}
+use Rattle.disk_runs.specs.Trace.{Does, GrowsOnce, ReadsFew, StopsBy, TakesFewer, TakesOne, TakesTurns, TurnsBy, WritesOnce}
 use Rattle.disk_runs.specs.declared.fault.RunFault.{RunFault}
 use Rattle.disk_runs.specs.declared.fault.RunFault.TheVariants as runs
 use Rattle.disk_runs.specs.declared.fault.RunFault.TheVariants.{Disk, Memory}

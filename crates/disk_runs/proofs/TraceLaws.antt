@@ -10,6 +10,7 @@ use Rattle.drive_array.specs.Mountable.{IsMountable}
 use Rattle.remount.specs.Kept.{KeepsMountable}
 use Rattle.zone_translator.specs.Changes.{IsCause}
 use Rattle.zone_translator.specs.Flat.{FlatDisk}
+use Rattle.zone_translator.specs.Keeping.{KeepsServed}
 use Rattle.zone_translator.specs.Mount.{MountsDisk}
 use Rattle.zone_translator.specs.View.{DiskView, KeepsDisk, disk_size, flat_of, given_size, next_sequence}
 use Rattle.zone_translator.specs.declared.fault.DiskFault.{DiskFault}
@@ -21,7 +22,7 @@ use Rattle.disk_files.specs.declared.trace_line.TraceLine.TheVariants.{Read, Fil
 use Rattle.disk_runs.specs.FlatLines.{AnswersRequest}
 use Rattle.disk_runs.specs.Run.{AnswersAll, AtLine, Exchange, IsBeginning, IsLine, Known, Runs, StopsEarly, StopsAt}
 use Rattle.disk_runs.specs.Taken.{AnswersWith, FlatRefusesWith, FlushesDisk, RefusesWith, disk_lines, flat_lines, is_flushed}
-use Rattle.disk_runs.specs.Trace.{CallCause, Does, DoesSaid, EndCause, KeepsDrive, KeepsFault, KeepsServed, MountsAgain, RunGives, RunKeeps, RunLeaves, RunsFlat, disk_at_first, disk_on, said_by, wanted_of}
+use Rattle.disk_runs.specs.Trace.{CallCause, Does, DoesSaid, EndCause, KeepsDrive, KeepsFault, MountsAgain, RunGives, RunKeeps, RunLeaves, RunsFlat, disk_at_first, disk_on, said_by, wanted_of}
 use Rattle.disk_runs.specs.declared.fault.RunFault.{RunFault}
 use Rattle.disk_runs.specs.declared.fault.RunFault.TheVariants as runs
 use Rattle.disk_runs.specs.declared.fault.RunFault.TheVariants.{Line, Long, Disk, Mount, Input, Output, Memory}

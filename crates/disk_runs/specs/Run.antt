@@ -1,16 +1,13 @@
 -- Runs of lines: each line of a reader is answered, in order, and the replies are what a writer gets.
-use Rattle.std.specs.Prelude.{◌≡◌, ◌≢◌, ℕ, ◌+◌, ◌<◌, ◌≤◌, Bool, true, false, List, [], ◌∷◌, ◌++◌, length, take, Option, Some, None, Result, Ok, Err, ⊤}
+use Rattle.std.specs.Prelude.{◌≡◌, ◌≢◌, ℕ, ◌+◌, ◌<◌, ◌≤◌, Bool, true, false, List, [], ◌∷◌, ◌++◌, length, take, Some, None, Result, Ok, Err, ⊤}
 use Rattle.std.specs.Io.KnownBytes.{Appends}
+pub use Rattle.disk_files.specs.Input.{Known}
 use Rattle.disk_files.specs.Line.{after_line, first_line}
 use Rattle.disk_files.specs.declared.line_reader.TheConstants.{LONGEST_LINE}
 use Rattle.disk_files.specs.declared.line_reader.LineFault.{LineFault}
 use Rattle.disk_files.specs.declared.line_reader.LineFault.TheVariants as lines
 use Rattle.disk_runs.specs.declared.fault.RunFault.{RunFault}
 use Rattle.disk_runs.specs.declared.fault.RunFault.TheVariants.{Line, Long, Input, Output, Memory}
-
--- bytes that a reader has left, or a writer holds, where they are known
-abbrev pub Known : Type 0
-Known = Option (List ℕ)
 
 -- what a run goes by: the bytes that its reader had left, and those that its writer held before it and after it
 pub record Exchange : Type 0 where

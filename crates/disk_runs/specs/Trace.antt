@@ -17,8 +17,9 @@ use Rattle.zone_translator.specs.Answers.{CostsAtMost, KeepsClean, SaysSize, Sto
 use Rattle.zone_translator.specs.Calls.{IsTurn, is_known}
 use Rattle.zone_translator.specs.Changes.{IsCause, batch_commands}
 use Rattle.zone_translator.specs.Flat.{Call, FlatDisk, fill, grow, trim}
+use Rattle.zone_translator.specs.Keeping.{KeepsServed}
 use Rattle.zone_translator.specs.Mount.{GivesBack, MountsDisk}
-use Rattle.zone_translator.specs.View.{CompletesAtMost, DiskView, KeepsDisk, disk_size, disk_turns, flat_of, given_size, mounted_of, next_sequence}
+use Rattle.zone_translator.specs.View.{CompletesAtMost, DiskView, disk_size, disk_turns, flat_of, given_size, mounted_of, next_sequence}
 use Rattle.zone_translator.specs.declared.fault.DiskFault.{DiskFault}
 use Rattle.zone_translator.specs.declared.fault.DiskFault.TheVariants.{Unmounted}
 use Rattle.zone_translator.specs.declared.status.DiskStatus.{DiskStatus}
@@ -29,11 +30,6 @@ use Rattle.disk_runs.specs.declared.fault.RunFault.{RunFault}
 use Rattle.disk_runs.specs.declared.fault.RunFault.TheVariants.{Disk, Mount, Geometry, Memory}
 
 -- ---- lines
-
--- what the answer to a line keeps of a disk, unless it mounts the drive again
-pub record KeepsServed (old new : DiskView) : Type 0 where
-  pub geometry : new.drive.geometry ≡ old.drive.geometry
-  pub mounted : IsMountable old.drive (given_size old) → KeepsDisk old new
 
 -- the drive of a disk was mounted again, and no command was refused
 pub record MountsAgain (old new : DiskView) : Type 0 where

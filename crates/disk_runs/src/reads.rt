@@ -2,11 +2,12 @@ ghost use Rattle.std.specs.Prelude.{◌≡◌, ◌+◌, ◌^◌, ◌<◌, ◌≤
 ghost use Rattle.std.specs.Prelude.{Some, length, nat_lt, vec_capacity, vec_len};
 ghost use Rattle.disk_files.specs.Reply.{block_lines};
 ghost use Rattle.zone_translator.specs.Flat.{blocks_from, read};
+ghost use Rattle.zone_translator.specs.Keeping.{KeepsServed};
 ghost use Rattle.zone_translator.specs.View.{disk_array, disk_size, flat_of};
 ghost use Rattle.zone_translator.specs.declared.status.DiskStatus.TheVariants.{Serving};
 ghost use Rattle.disk_runs.specs.declared.fault.RunFault.TheVariants.{Memory};
 ghost use Rattle.disk_runs.specs.FlatLines.{IsFull, RepliesTo, RequestStops, single};
-ghost use Rattle.disk_runs.specs.Trace.{EndCause, HasCause, KeepsServed, ReadsFew};
+ghost use Rattle.disk_runs.specs.Trace.{EndCause, HasCause, ReadsFew};
 
 use crate::fault::RunFault;
 use crate::requests::SHORT_REPLY;

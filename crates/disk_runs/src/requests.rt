@@ -1,11 +1,12 @@
 ghost use Rattle.std.specs.Prelude.{◌≡◌, ◌≢◌, ◌<◌, ◌≤◌, [], IfErr, Ok, OnOk, Some, is_some, true};
 ghost use Rattle.std.specs.Prelude.{vec_capacity, vec_len};
+ghost use Rattle.zone_translator.specs.Keeping.{KeepsServed};
 ghost use Rattle.zone_translator.specs.View.{DiskCause, flat_of};
 ghost use Rattle.disk_runs.specs.FlatLines.{AnswersRequest, IsFull, IsUntold, RepliesTo, RequestStops};
 ghost use Rattle.disk_runs.specs.FlatLines.{Turns, asked, remount, reply_of};
 ghost use Rattle.disk_runs.specs.Taken.{FlushesIf};
 ghost use Rattle.disk_runs.specs.declared.fault.RunFault.TheVariants.{Memory};
-ghost use Rattle.disk_runs.specs.Trace.{Does, EndCause, HasCause, KeepsFault, KeepsServed};
+ghost use Rattle.disk_runs.specs.Trace.{Does, EndCause, HasCause, KeepsFault};
 ghost use Rattle.disk_runs.specs.Trace.{MountsAgain, StopsBy, TurnsBy};
 
 use crate::fault::RunFault;

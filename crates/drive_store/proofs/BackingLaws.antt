@@ -6,7 +6,8 @@ use Rattle.std.proofs.lemmas.List.{append-nil, length-take-le, take-append-le, t
 use Rattle.std.proofs.Math.Seq.{take-append-add}
 use Rattle.std.proofs.lemmas.Bool.{cases_lt}
 use Rattle.drive_journal.specs.Cut.{front_of}
-use Rattle.drive_store.specs.Backing.{FileState, Known}
+use Rattle.disk_files.specs.Input.{Known}
+use Rattle.drive_store.specs.Backing.{FileState}
 
 -- the first bytes stay, where more are appended
 pub appended-front : (whole : ℕ) (bytes : Known) (more : List ℕ) → IfSome bytes (λ b. whole ≤ length b) → front_of whole (append_known bytes more) ≡ front_of whole bytes

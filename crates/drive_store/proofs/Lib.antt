@@ -1,2 +1,1 @@
 mod BackingLaws
-pub mod KeptLaws

@@ -5,6 +5,7 @@ use Rattle.std.specs.Option.{option_or}
 use Rattle.zone_drive.specs.Habits.{MemoryDrive}
 use Rattle.std.specs.Io.{StartsWith}
 use Rattle.std.specs.Io.KnownBytes.{append_known}
+use Rattle.disk_files.specs.Input.{Known}
 use Rattle.drive_port.specs.Drive.{DriveState}
 use Rattle.drive_journal.specs.Change.{start}
 use Rattle.drive_journal.specs.Cut.{front_of}
@@ -14,10 +15,6 @@ use Rattle.drive_store.specs.declared.file_end.FileEnd.{FileEnd}
 use Rattle.drive_store.specs.declared.file_fault.FileFault.{FileFault}
 use Rattle.drive_store.specs.declared.file_fault.SystemError.{SystemError}
 use Rattle.drive_store.specs.declared.new_file.Saved.{Saved}
-
--- Bytes, where they are known.
-abbrev pub Known : Type 0
-Known = Option (List ℕ)
 
 -- A file: its bytes, those that it had at the last sync that was done, and whether its name is on the disk.
 pub record FileState : Type 0 where

@@ -1,3 +1,2 @@
-pub mod Kept
 pub mod Backing
 pub mod NewFile

@@ -1,26 +1,17 @@
-//! The file that keeps a drive: it is opened and locked, its drive is read and restarted, each change is appended to
-//! it, and the drive is saved in it.
+//! The file that keeps a drive: it is opened and locked, each change of the drive is appended to it, and the drive is
+//! saved in it.
 //!
 //! ```text
-//! let (image, mut bytes) = image_to_save(files, alloc, path)?; // locked: no other program reads or changes it
-//! let begun = restarted_drive(alloc, &mut bytes, Habit::Lazy)?; // the drive that the file holds
-//! let was_image = begun.is_image;
+//! let (image, bytes) = image_to_save(files, alloc, path)?; // locked: no other program reads or changes it
 //! let file = ChangesFile::new(&saving, image);
-//! let device = keep(alloc, begun, file.store()); // its changes are gathered
+//! let store = file.store(); // what a device writes its changes to; they are gathered
 //! let output = ChangesOutput::new(&file, SentAfter::Write, &mut output); // and written before replies are sent
 //! file.sync()?; // all changes are on the disk
-//! let (drive, _) = device.into_parts();
-//! let drive = if stays(file.end(), was_image) { None } else { Some(drive) };
 //! file.save(drive)?; // the image of the drive takes the place of the file
 //! ```
 //!
 //! # What is promised
 //!
-//! * [`restarted_drive`] gives the drive that the bytes of a file hold, restarted, and [`saved_drive`] gives it as it
-//!   was saved; or they tell the first fault in the bytes.
-//! * [`keep`] makes a device of that drive and a store: the device shows the drive, and the store holds it.
-//! * [`stays`] says when a file is not written anew at the end: only if it was the image of the drive at rest and took no
-//!   change, or if it takes no more changes.
 //! * Over every file that does what [`Backing`] says (`specs/Backing.antt`): its bytes and the changes that are gathered
 //!   for it hold all that was appended; after a fault, all before the change that was refused. Writing out puts all of
 //!   it in the file, and a sync on the disk, with the name of the file. What is cut off is cut off on the disk before
@@ -46,7 +37,6 @@ mod gathered_bytes;
 mod gathered_file;
 mod image_file;
 mod input_gate;
-mod kept_drive;
 mod locked_file;
 mod new_file;
 mod whole_file;
@@ -55,9 +45,8 @@ pub use backing::{Backing, Renewed};
 pub use changes_file::ChangesFile;
 pub use changes_output::{ChangesOutput, SentAfter};
 pub use changes_store::ChangesStore;
-pub use file_end::{FileEnd, stays};
+pub use file_end::FileEnd;
 pub use file_fault::{FileFault, SystemError};
 pub use image_file::{ImageFile, image_to_read, image_to_save, new_image, open_to_format};
 pub use input_gate::{Gate, GatedInput};
-pub use kept_drive::{Begun, DriveFile, keep, restarted_drive, saved_drive};
 pub use new_file::{Saved, Saving, save};

@@ -1,8 +1,8 @@
 /// How many bytes the second read of a run reads.
-const FIRST: usize = 1 << 14;
+const FIRST: usize = 1 << 16;
 
-/// How many bytes a read of a run reads at most.
-const WIDEST: usize = 1 << 20;
+/// How many bytes a read of a run reads at most. More would leave the caches of the processor before it is taken.
+const WIDEST: usize = 1 << 18;
 
 /// A read of more bytes than these does not read ahead.
 const SMALL: usize = 1 << 15;

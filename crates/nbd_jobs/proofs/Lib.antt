@@ -1,4 +1,2 @@
-mod HeaderLaws
-mod MountLaws
 mod SessionLaws
 pub mod LossLaws

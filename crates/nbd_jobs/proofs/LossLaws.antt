@@ -1,15 +1,15 @@
 -- What a loss of power leaves of a drive that was served and flushed.
-use Rattle.std.proofs.Common.{◌≡◌, ℕ, true, false, List, Option, Ok, inl, inr, sym}
+use Rattle.std.proofs.Common.{◌≡◌, ℕ, true, false, Option, inl, inr}
 use Rattle.std.specs.Prelude.{Bool}
 use Rattle.drive_port.specs.Drive.{DriveState}
+use Rattle.mounted_disks.specs.Mounted.{IsServed, given_of}
 use Rattle.zone_translator.specs.Laws.{CanMountAgain}
 use Rattle.zone_translator.specs.View.{DiskView}
 use Rattle.zone_translator.proofs.AgainLaws.{called-can, mounted-can}
 use Rattle.nbd_session.specs.Laws.{IsSafe}
 use Rattle.nbd_session.proofs.SafeLaws.{flush-safe, left-found, session-safe}
-use Rattle.nbd_jobs.specs.Laws.{IsFoundAfter, LossIsFound}
-use Rattle.nbd_jobs.specs.Mounted.{BeginsBy, IsBegun, IsServed, given_of}
-use Rattle.nbd_jobs.specs.Serving.{ServesSession}
+use Rattle.nbd_jobs.specs.Laws.{LossIsFound}
+use Rattle.nbd_jobs.specs.Begun.{IsBegun}
 
 -- a disk that is served can be mounted again
 served-can : (old : DriveState) (blocks : Option ℕ) (disk : DiskView) → IsServed old blocks disk → CanMountAgain disk

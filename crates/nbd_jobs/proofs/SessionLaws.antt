@@ -9,12 +9,13 @@ use Rattle.zone_translator.specs.Answers.{Answers}
 use Rattle.zone_translator.specs.Flat.{Begun, FlatDisk, flush, known_answer, with_nothing}
 use Rattle.zone_translator.specs.View.{DiskView, flat_of, given_size}
 use Rattle.zone_translator.specs.declared.fault.DiskFault.{DiskFault}
-use Rattle.disk_jobs.specs.Mounted.{size_of}
-use Rattle.disk_jobs.specs.declared.mounting.DiskSize.{DiskSize}
-use Rattle.nbd_jobs.specs.Mounted.{BeginsBy, IsBegun, IsNotBegun, IsNotServed, IsServed}
+use Rattle.mounted_disks.specs.DiskSize.{size_of}
+use Rattle.mounted_disks.specs.Mounted.{IsServed}
+use Rattle.mounted_disks.specs.declared.disk_size.DiskSize.{DiskSize}
+use Rattle.nbd_jobs.specs.Begun.{BeginsBy, IsBegun, IsNotBegun}
 use Rattle.nbd_jobs.specs.Serving.{IsUnserved, ReadsDrive, ReadsFile, ServesDrive, ServesNothing, ServesSession, SyncsDone, TellsSession, session_end}
 use Rattle.nbd_jobs.specs.declared.fault.NbdFault.{NbdFault}
-use Rattle.nbd_jobs.specs.declared.fault.NbdFault.TheVariants.{File, Image, Memory, Mount, NoSize, Reserve, Session, Unflushed, Unwritten}
+use Rattle.nbd_jobs.specs.declared.fault.NbdFault.TheVariants.{File, Mount, Session, Unflushed}
 use Rattle.nbd_jobs.specs.declared.job.NbdJob.{NbdJob}
 
 -- a session that was served is one of the drive, whatever ended it
@@ -26,28 +27,18 @@ session-served read_only job bytes syncs old (Err fault) new s = s
 -- where no session begins, no message is read
 pub none-served : (read_only : Bool) (job : NbdJob) (bytes : Streams) (syncs : SyncsDone) (old back : DriveState) (fault : NbdFault) → IsNotBegun syncs.flushes old job.blocks fault back → ServesNothing bytes syncs
     → ServesDrive read_only job bytes syncs old (Err fault) back
-none-served read_only job bytes syncs old back (Image fault) refused nothing = (refused, nothing)
 none-served read_only job bytes syncs old back (Mount fault) refused nothing = (refused, nothing)
-none-served read_only job bytes syncs old back (Reserve most) refused nothing = (refused, nothing)
-none-served read_only job bytes syncs old back (NoSize most) refused nothing = (refused, nothing)
-none-served read_only job bytes syncs old back (Unwritten most) refused nothing = (refused, nothing)
 none-served read_only job bytes syncs old back (Unflushed fault) refused nothing = (refused, nothing)
 none-served read_only job bytes syncs old back (Session fault) refused nothing = absurd refused
 none-served read_only job bytes syncs old back (File fault) refused nothing = (refused, nothing)
-none-served read_only job bytes syncs old back Memory refused nothing = (refused, nothing)
 
 -- a drive that was read in the file has no fault of its image
 pub file-read : (job : NbdJob) (file : Option (List ℕ)) (bytes : Streams) (ended : Result (Unit {0}) NbdFault) → ReadsDrive job file bytes ended → ReadsFile job file bytes ended
 file-read job file bytes (Ok done) r = r
-file-read job file bytes (Err (Image fault)) r = absurd r.serves.serves.0
 file-read job file bytes (Err (Mount fault)) r = r
-file-read job file bytes (Err (Reserve most)) r = r
-file-read job file bytes (Err (NoSize most)) r = r
-file-read job file bytes (Err (Unwritten most)) r = r
 file-read job file bytes (Err (Unflushed fault)) r = r
 file-read job file bytes (Err (Session fault)) r = r
-file-read job file bytes (Err (File fault)) r = r
-file-read job file bytes (Err Memory) r = r
+file-read job file bytes (Err (File fault)) r = absurd r.serves.serves.0
 
 -- ---- the disk with which a session begins
 
@@ -77,18 +68,6 @@ begins-flushed old blocks mounted first served a = record { mounted = mounted; s
 pub begins-plain : (old : DriveState) (blocks : Option ℕ) (mounted : DiskView) → IsServed old blocks mounted → IsBegun false old blocks mounted
 begins-plain old blocks mounted served = record { mounted = mounted; served = served; begins = refl }
 
--- a drive that is not served is none on which a session begins
-pub not-begun : (flushes : Bool) (old back : DriveState) (blocks : Option ℕ) (fault : NbdFault) → IsNotServed old blocks fault back → IsNotBegun flushes old blocks fault back
-not-begun flushes old back blocks (Image fault) refused = refused
-not-begun flushes old back blocks (Mount fault) refused = refused
-not-begun flushes old back blocks (Reserve most) refused = refused
-not-begun flushes old back blocks (NoSize most) refused = refused
-not-begun flushes old back blocks (Unwritten most) refused = refused
-not-begun flushes old back blocks (Unflushed fault) refused = absurd refused
-not-begun flushes old back blocks (Session fault) refused = refused
-not-begun flushes old back blocks (File fault) refused = refused
-not-begun flushes old back blocks Memory refused = refused
-
 -- ---- what is told besides
 
 -- a session that was served had a disk
@@ -105,15 +84,10 @@ session-told job old disk ended counted size flushes begun is unasked = record {
 
 -- a drive on which no session begins has none
 unserved : (flushes : Bool) (old back : DriveState) (blocks : Option ℕ) (fault : NbdFault) → IsNotBegun flushes old blocks fault back → IsUnserved (Err fault)
-unserved flushes old back blocks (Image fault) refused = tt
 unserved flushes old back blocks (Mount fault) refused = tt
-unserved flushes old back blocks (Reserve most) refused = tt
-unserved flushes old back blocks (NoSize most) refused = tt
-unserved flushes old back blocks (Unwritten most) refused = tt
 unserved flushes old back blocks (Unflushed fault) refused = tt
 unserved flushes old back blocks (Session fault) refused = absurd refused
 unserved flushes old back blocks (File fault) refused = tt
-unserved flushes old back blocks Memory refused = tt
 
 pub none-told : (flushes : Bool) (job : NbdJob) (old back : DriveState) (fault : NbdFault) → IsNotBegun flushes old job.blocks fault back → TellsSession job old (Err fault) false None
 none-told flushes job old back fault refused = record { size = tt; none = λ none. unserved flushes old back job.blocks fault refused; unasked = λ no. refl }

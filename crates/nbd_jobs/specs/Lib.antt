@@ -1,3 +1,3 @@
-pub mod Mounted
+pub mod Begun
 pub mod Serving
 pub mod Laws

@@ -1,19 +1,16 @@
 -- A drive in a file that is served: what its session does, and what it leaves in the file.
-use Rattle.std.specs.Prelude.{◌≡◌, ◌||◌, ◌&&◌, not, if◌then◌else◌, Bool, true, false, ℕ, List, Option, Some, None, is_some, Result, Ok, Err, IfSome, ⊤}
+use Rattle.std.specs.Prelude.{◌≡◌, ◌&&◌, not, Bool, true, false, ℕ, List, Option, None, Result, Ok, Err, IfSome, ⊤}
 use Rattle.std.specs.Io.KnownBytes.{Keeps}
 use Rattle.drive_port.specs.Drive.{DriveState}
 use Rattle.drive_port.specs.Stop.{Stopping, drive_of}
-use Rattle.drive_journal.specs.File.{IsStored}
-use Rattle.drive_journal.specs.FileFaults.{IsFileFault}
-use Rattle.drive_store.specs.Kept.{IsRestarted, stays}
-use Rattle.drive_store.specs.declared.file_end.FileEnd.{FileEnd}
-use Rattle.drive_store.specs.declared.file_fault.FileFault.{FileFault}
-use Rattle.drive_store.specs.declared.kept_drive.Begun.{Begun}
-use Rattle.zone_drive.specs.Habits.{MemoryDrive}
+use Rattle.kept_drives.specs.Kept.{IsRestarted}
+use Rattle.kept_drives.specs.Left.{IsUnread}
+use Rattle.kept_drives.specs.declared.kept_drive.Begun.{Begun}
 use Rattle.zone_translator.specs.View.{DiskView, KeepsDisk}
-use Rattle.disk_jobs.specs.Mounted.{size_of}
-use Rattle.disk_jobs.specs.Saved.{IsHandedBack, stopping}
-use Rattle.disk_jobs.specs.declared.mounting.DiskSize.{DiskSize}
+use Rattle.mounted_disks.specs.DiskSize.{size_of}
+use Rattle.mounted_disks.specs.Mounted.{IsServed}
+use Rattle.mounted_disks.specs.Stop.{stopping}
+use Rattle.mounted_disks.specs.declared.disk_size.DiskSize.{DiskSize}
 use Rattle.nbd_session.specs.Served.{since_of}
 use Rattle.nbd_session.specs.Session.{session}
 use Rattle.nbd_session.specs.Store.{StoreView}
@@ -23,10 +20,9 @@ use Rattle.nbd_session.specs.declared.fault.SessionFault.{SessionFault}
 use Rattle.nbd_session.specs.declared.fault.SessionFault.TheVariants.{Unsent}
 use Rattle.nbd_session.specs.declared.phase.Phase.TheVariants.{Greeting}
 use Rattle.nbd_jobs.specs.declared.fault.NbdFault.{NbdFault}
-use Rattle.nbd_jobs.specs.declared.fault.NbdFault.TheVariants.{File, Image, Session}
+use Rattle.nbd_jobs.specs.declared.fault.NbdFault.TheVariants.{File, Session}
 use Rattle.nbd_jobs.specs.declared.job.NbdJob.{NbdJob}
-use Rattle.nbd_jobs.specs.declared.left.Left.{Left}
-use Rattle.nbd_jobs.specs.Mounted.{IsBegun, IsNotBegun, IsServed}
+use Rattle.nbd_jobs.specs.Begun.{IsBegun, IsNotBegun}
 
 -- ---- the session
 
@@ -102,28 +98,15 @@ pub record TellsSession (job : NbdJob) (old : DriveState) (ended : Result (Unit 
   pub none : told ≡ None → IsUnserved ended
   pub unasked : job.statistics ≡ false → counted ≡ false
 
--- What a session leaves of its drive, whatever ended it: the store holds that drive, and so has every write that was answered. Whether the store
--- failed is told, and which disk was served.
-pub record LeavesStored (job : NbdJob) (bytes : Streams) (syncs : SyncsDone) (old : DriveState) (ended : Result (Unit {0}) NbdFault)
-    (left : Left) (held : Option (List ℕ)) (failed : Bool) : Type 0 where
-  pub drive : DriveState
-  pub serves : ServesStopping false job bytes syncs (stopping job.stop old) ended drive
-  pub failed_is : left.failed ≡ failed
-  pub back : IsHandedBack failed drive left.drive.state
-  pub stored : IfSome held (λ bytes. IsStored bytes drive)
-  pub tells : TellsSession job (drive_of (stopping job.stop old)) ended (is_some left.statistics) left.disk
-
--- The same of the drive that the bytes of a file hold, restarted. It is told whether the file was the image of that drive at rest.
-pub record LeavesFile (job : NbdJob) (file : Option (List ℕ)) (bytes : Streams) (syncs : SyncsDone) (ended : Result (Unit {0}) NbdFault)
-    (left : Left) (held : Option (List ℕ)) (failed : Bool) : Type 0 where
-  pub first : Begun
-  pub begins : IsRestarted file job.habit first
-  pub was_image : left.was_image ≡ first.is_image
-  pub leaves : LeavesStored job bytes syncs first.drive.state ended left held failed
+-- What is done to the drive in a file: a session is served over a device that stops, and it is told which disk was served, and what was counted.
+pub record ServesKept (job : NbdJob) (bytes : Streams) (syncs : SyncsDone) (ended : Result (Unit {0}) NbdFault) (counted : Bool) (told : Option DiskSize)
+    (old new : DriveState) : Type 0 where
+  pub serves : ServesStopping false job bytes syncs (stopping job.stop old) ended new
+  pub tells : TellsSession job (drive_of (stopping job.stop old)) ended counted told
 
 -- why there is no drive: the bytes of the file have this first fault. Nothing is served.
 abbrev pub HoldsNoDrive : Option (List ℕ) → Streams → SyncsDone → Result (Unit {0}) NbdFault → Type 0
-HoldsNoDrive file bytes syncs (Err (Image fault)) = IfSome file (λ held. IsFileFault held fault) × ServesNothing bytes syncs
+HoldsNoDrive file bytes syncs (Err (File fault)) = IsUnread file fault × ServesNothing bytes syncs
 HoldsNoDrive file bytes syncs ended = ⊥
 
 -- The drive that the bytes of a file hold is restarted, and served read only. What it is afterwards goes nowhere. As nothing is written, its medium
@@ -141,21 +124,10 @@ no_syncs = record { before = 0; after = 0; flushes = false }
 
 -- what is served read only of a file; a fault of its image comes before all else
 abbrev pub ReadsFile : NbdJob → Option (List ℕ) → Streams → Result (Unit {0}) NbdFault → Type 0
-ReadsFile job file bytes (Err (Image fault)) = HoldsNoDrive file bytes no_syncs (Err (Image fault))
+ReadsFile job file bytes (Err (File fault)) = HoldsNoDrive file bytes no_syncs (Err (File fault))
 ReadsFile job file bytes ended = ReadsDrive job file bytes ended
-
--- What is saved of a session: the drive that it left, also after a fault. Nothing is saved where the file stays as it is, nor where the store failed:
--- then the file has all changes before.
-abbrev pub served_drive_to_save : FileEnd → Option Left → Option MemoryDrive
-served_drive_to_save end None = None
-served_drive_to_save end (Some left) = if (left.failed || stays end left.was_image) then None else Some left.drive
 
 -- A session that was done, but whose last replies could not be sent, ended by that.
 abbrev pub sent_end : Result (Unit {0}) NbdFault → Bool → Result (Unit {0}) NbdFault
 sent_end (Ok done) false = Err (Session Unsent)
 sent_end ended sent = ended
-
--- a session whose file failed is told by that fault
-abbrev pub session_told : Result (Unit {0}) NbdFault → Option FileFault → Result (Unit {0}) NbdFault
-session_told ended (Some failed) = Err (File failed)
-session_told ended None = ended

@@ -1,8 +1,8 @@
 ghost use Rattle.std.specs.Prelude.{◌≡◌, Err, Ok, false};
 
 use crate::fault::NbdFault;
-use disk_jobs::DiskSize;
 use drive_store::Saved;
+use mounted_disks::DiskSize;
 
 /// How a session ended, and how its drive was saved. Both can fail.
 #[derive(Debug, PartialEq, Eq, Drop)]

@@ -3,12 +3,12 @@
 use crate::done::Done;
 use crate::fault::NbdFault;
 use crate::job::NbdJob;
-use crate::left::Left;
-use crate::saving::{sent_end, served_drive_to_save, session_told};
+use crate::saving::{sent_end, told_in_session};
 use crate::serving::{ServedFile, serve_drive, serve_read_only};
 use drive_store::{
-    ChangesFile, ChangesOutput, FileFault, Saving, SentAfter, image_to_read, image_to_save,
+    ChangesFile, ChangesOutput, Saved, Saving, SentAfter, image_to_read, image_to_save,
 };
+use kept_drives::{Finished, KeepFault, Left, finish, first_told};
 use nbd_session::{Medium, MediumFault, SyncCount};
 use std::alloc::Global;
 use std::fs::File;
@@ -44,14 +44,6 @@ impl<F: Files<File = File>> Medium for FileMedium<'_, '_, F> {
     }
 }
 
-/// What a fault of a file is to a session: that memory ran out is told as such.
-fn told(fault: FileFault) -> NbdFault {
-    if fault.is_memory() {
-        return NbdFault::Memory;
-    }
-    NbdFault::File(fault)
-}
-
 /// Whether the last replies were sent, as far as somebody waits for them: a client may end its session and go at once.
 pub fn are_sent(flushed: io::Result<()>) -> bool {
     match flushed {
@@ -64,14 +56,14 @@ pub fn are_sent(flushed: io::Result<()>) -> bool {
 }
 
 /// Serves the drive of an open file, whose bytes are read from `bytes`. Its changes are in the file before a reply is
-/// sent, and on the disk before a FLUSH is answered.
+/// sent, and on the disk before a FLUSH is answered. What is left of the drive is not saved yet.
 fn serve_file<F: Files<File = File>, R: Read + Drop, W: Write>(
     alloc: Global,
     job: &NbdJob,
     (file, bytes): (&ChangesFile<'_, F>, BufReader<File>),
     input: R,
     output: &mut W,
-) -> (Option<Left>, Result<(), NbdFault>) {
+) -> (Option<Left>, Done) {
     let served = ServedFile {
         bytes,
         store: file.store(),
@@ -85,11 +77,17 @@ fn serve_file<F: Files<File = File>, R: Read + Drop, W: Write>(
         BufReader::with_capacity(alloc, BUFFER, input),
         BufWriter::with_capacity(alloc, BUFFER, sent),
     ) else {
-        return (None, Err(NbdFault::Memory));
+        return (None, Done::unserved(NbdFault::File(KeepFault::Memory)));
     };
-    let ended = serve_drive(alloc, job, served, &mut reader, &mut writer);
+    let after = serve_drive(alloc, job, served, &mut reader, &mut writer);
     let sent = are_sent(writer.flush());
-    (ended.left, sent_end(ended.result, sent))
+    let done = Done {
+        session: sent_end(after.result, sent),
+        saved: Ok(Saved::IN_PLACE),
+        statistics: after.statistics,
+        disk: after.disk,
+    };
+    (after.left, done)
 }
 
 /// Serves the drive in a file, and saves it once the session has ended, also after a fault. No other program can read
@@ -104,23 +102,15 @@ fn serve_and_save<F: Files<File = File>, R: Read + Drop, W: Write>(
     let saving = Saving { files, alloc };
     let (image, bytes) = match image_to_save(files, alloc, &job.image) {
         Ok(opened) => opened,
-        Err(fault) => return Done::unserved(told(fault)),
+        Err(fault) => return Done::unserved(NbdFault::from(fault)),
     };
     let file = ChangesFile::new(&saving, image);
-    let (mut left, result) = serve_file(alloc, job, (&file, bytes), input, output);
-    // A fault is told by the file.
-    let _ = file.write_out();
-    let session = session_told(result, file.fault());
-    let (statistics, disk) = match &mut left {
-        Some(left) => (left.statistics.take(), left.disk),
-        None => (None, None),
-    };
-    let drive = served_drive_to_save(file.end(), left);
+    let (left, done) = serve_file(alloc, job, (&file, bytes), input, output);
+    let Finished { fault, saved } = finish(file, left);
     Done {
-        session,
-        saved: file.save(drive).map_err(told),
-        statistics,
-        disk,
+        session: first_told(done.session, fault.map(told_in_session)),
+        saved: saved.map_err(NbdFault::from),
+        ..done
     }
 }
 
@@ -135,13 +125,13 @@ fn serve_unchanged<F: Files<File = File>, R: Read + Drop, W: Write>(
 ) -> Done {
     let (_image, mut bytes) = match image_to_read(files, alloc, &job.image) {
         Ok(opened) => opened,
-        Err(fault) => return Done::unserved(told(fault)),
+        Err(fault) => return Done::unserved(NbdFault::from(fault)),
     };
     let (Ok(mut reader), Ok(mut writer)) = (
         BufReader::with_capacity(alloc, BUFFER, input),
         BufWriter::with_capacity(alloc, BUFFER, output),
     ) else {
-        return Done::unserved(NbdFault::Memory);
+        return Done::unserved(NbdFault::File(KeepFault::Memory));
     };
     let done = serve_read_only(alloc, job, &mut bytes, &mut reader, &mut writer);
     let sent = are_sent(writer.flush());

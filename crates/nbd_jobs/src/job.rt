@@ -1,4 +1,4 @@
-use disk_jobs::Stop;
+use mounted_disks::Stop;
 use zone_drive::Habit;
 
 /// A drive in a file that is served to one client by the Network Block Device protocol.

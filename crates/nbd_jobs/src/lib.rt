@@ -37,10 +37,8 @@ mod done;
 mod explanation;
 mod fault;
 mod file;
-mod headers;
 mod job;
 pub mod laws;
-mod left;
 mod mounted;
 mod saving;
 mod serving;
@@ -50,8 +48,6 @@ pub use explanation::explain;
 pub use fault::NbdFault;
 pub use file::{BUFFER, are_sent, do_nbd_job};
 pub use job::NbdJob;
-pub use left::Left;
-pub use mounted::mount_served;
 pub use saving::sent_end;
 pub use serving::{
     AfterSession, Ended, Kept, ServedFile, serve_drive, serve_read_only, serve_stopping,

@@ -1,24 +1,12 @@
 ghost use Rattle.std.specs.Prelude.{◌≡◌};
-ghost use Rattle.nbd_jobs.specs.Serving.{sent_end, served_drive_to_save, session_told};
+ghost use Rattle.kept_drives.specs.declared.keep_fault.KeepFault.TheVariants as keeps;
+ghost use Rattle.nbd_jobs.specs.declared.fault.NbdFault.TheVariants as nbd;
+ghost use Rattle.nbd_jobs.specs.Serving.{sent_end};
 
 use crate::fault::NbdFault;
-use crate::left::Left;
-use drive_store::{FileEnd, FileFault, stays};
+use drive_store::FileFault;
+use kept_drives::KeepFault;
 use nbd_session::SessionFault;
-use zone_drive::Drive;
-
-/// What is saved of a session: the drive that it left, also after a fault. Nothing is saved if the file stays as it is,
-/// since it was the image of the drive at rest and is unchanged, or takes no more changes; nor if a change could not be
-/// written to it.
-pub(crate) fn served_drive_to_save(end: FileEnd, left: Option<Left>) -> Option<Drive>
-    ensures { result ≡ served_drive_to_save end left }
-{
-    let left = left?;
-    if left.failed || stays(end, left.was_image) {
-        return None;
-    }
-    Some(left.drive)
-}
 
 /// How a session ended, once what was written for the client was sent, if it could be.
 pub fn sent_end(ended: Result<(), NbdFault>, sent: bool) -> Result<(), NbdFault>
@@ -30,15 +18,9 @@ pub fn sent_end(ended: Result<(), NbdFault>, sent: bool) -> Result<(), NbdFault>
     }
 }
 
-/// How a session ended: where a change could not be written to its file, or brought to the disk, that is told.
-pub(crate) fn session_told(
-    ended: Result<(), NbdFault>,
-    failed: Option<FileFault>,
-) -> Result<(), NbdFault>
-    ensures { result ≡ session_told ended failed }
+/// How a fault of the file during a session is told: a change could not be written to it, or brought to the disk.
+pub(crate) fn told_in_session(fault: FileFault) -> NbdFault
+    ensures { result ≡ nbd.File (keeps.File fault) }
 {
-    match failed {
-        Some(fault) => Err(NbdFault::File(fault)),
-        None => ended,
-    }
+    NbdFault::File(KeepFault::File(fault))
 }

@@ -3,21 +3,22 @@
 ghost use Rattle.std.specs.Prelude.{◌≡◌, ◌&&◌, IfNone, IfSome, Ok, false, is_some, not};
 ghost use Rattle.nbd_session.specs.Streams.{streams};
 ghost use Rattle.drive_port.specs.Stop.{drive_of};
-ghost use Rattle.drive_store.specs.Kept.{HoldsFile};
-ghost use Rattle.disk_jobs.specs.Saved.{stopping};
-ghost use Rattle.nbd_jobs.specs.Serving.{HoldsNoDrive, LeavesFile, LeavesStored, ReadsFile, ServesDrive};
-ghost use Rattle.nbd_jobs.specs.Serving.{ServesStopping, TellsSession, session_end};
+ghost use Rattle.kept_drives.specs.Kept.{HoldsFile};
+ghost use Rattle.kept_drives.specs.Left.{LeavesFile};
+ghost use Rattle.mounted_disks.specs.Stop.{stopping};
+ghost use Rattle.nbd_jobs.specs.Serving.{HoldsNoDrive, ReadsFile, ServesDrive, ServesKept, ServesStopping};
+ghost use Rattle.nbd_jobs.specs.Serving.{TellsSession, session_end};
 
 use crate::done::Done;
 use crate::fault::NbdFault;
 use crate::job::NbdJob;
-use crate::left::Left;
 use crate::mounted::mount_flushed;
-use disk_jobs::{DiskSize, statistics_of, stopping};
 use drive_counter::Counter;
-use drive_journal::{Journaling, Store};
+use drive_journal::Store;
 use drive_port::Device;
-use drive_store::{Saved, keep, restarted_drive};
+use drive_store::Saved;
+use kept_drives::{DriveFile, KeepFault, Left, keep_restarted, leave, restarted_drive};
+use mounted_disks::{DiskSize, statistics_of, stopping};
 use nbd_session::{Client, Medium, ServedDisk, SessionFault, WriteThrough, serve};
 use std::alloc::Global;
 use std::io::{Read, Write};
@@ -49,6 +50,10 @@ pub struct AfterSession<S: Store<Drive> + Drop, M: Medium + Drop> {
     pub left: Option<Left>,
     pub store: S,
     pub medium: M,
+    /// What was written and moved, as text, if it was asked for.
+    pub statistics: Option<String>,
+    /// The disk that was served, if it was mounted.
+    pub disk: Option<DiskSize>,
     /// How the session ended.
     pub result: Result<(), NbdFault>,
 }
@@ -186,45 +191,6 @@ pub fn serve_stopping<D: Device + Drop, M: Medium + Drop, R: Client, W: Write>(
     }
 }
 
-/// A drive whose changes go to a store.
-#[derive(Drop)]
-struct Stored<S: Store<Drive> + Drop, M: Medium + Drop> {
-    kept: Kept<Journaling<Drive, S>, M>,
-    /// Whether the file was the image of the drive at rest.
-    was_image: bool,
-}
-
-/// The same over a drive whose changes go to a store.
-fn serve_kept<S: Store<Drive> + Drop, M: Medium + Drop, R: Client, W: Write>(
-    alloc: Global,
-    job: &NbdJob,
-    stored: Stored<S, M>,
-    reader: &mut R,
-    writer: &mut W,
-) -> (Left, S, M, Result<(), NbdFault>)
-    requires { stored.kept.read_only ≡ false }
-    ensures leaves { LeavesStored job.now
-        (streams (R.remaining reader.old) (R.remaining reader.new) (W.contents writer.old) (W.contents writer.new))
-        (record {
-          before = M.syncs stored.kept.medium;
-          after = M.syncs result.2;
-          flushes = M.flushes stored.kept.medium;
-        })
-        stored.kept.device.drive result.3 result.0 (S.held result.1) (S.failed result.1) }
-    ensures was_image { result.0.was_image ≡ stored.was_image }
-{
-    let ended = serve_stopping(alloc, job, stored.kept, reader, writer);
-    let (drive, store) = ended.device.into_parts();
-    let left = Left {
-        drive,
-        failed: store.has_failed(),
-        was_image: stored.was_image,
-        statistics: ended.statistics,
-        disk: ended.disk,
-    };
-    (left, store, ended.medium, ended.result)
-}
-
 /// Serves the drive of a file to one client, which sends to `reader` and gets what `writer` takes. The changes of the
 /// drive go to the store, and each sync is one of the medium. What is left of the drive is handed back, also after a
 /// fault, if the file holds one. The disk is written whatever `job.read_only` says.
@@ -238,14 +204,16 @@ pub fn serve_drive<I: Read + Drop, S: Store<Drive> + Drop, M: Medium + Drop, R: 
     requires { HoldsFile (S.held file.store) (I.remaining file.bytes) }
     // What the client sent is answered by the disk of the drive in the file, and the store holds the drive that is
     // left. Each sync that the session completed is one of this medium.
-    ensures left { IfSome result.left (λ left. LeavesFile job.now (I.remaining file.bytes)
+    ensures left { IfSome result.left (λ left. LeavesFile
+        (ServesKept job.now
         (streams (R.remaining reader.old) (R.remaining reader.new) (W.contents writer.old) (W.contents writer.new))
         (record {
           before = M.syncs file.medium;
           after = M.syncs result.medium;
           flushes = M.flushes file.medium;
         })
-        result.result left (S.held result.store) (S.failed result.store)) }
+        result.result (is_some result.statistics) result.disk)
+        (I.remaining file.bytes) job.now.habit left (S.held result.store) (S.failed result.store)) }
     // Without a drive nothing is read of the client, and nothing is written.
     ensures none { IfNone result.left (HoldsNoDrive (I.remaining file.bytes)
         (streams (R.remaining reader.old) (R.remaining reader.new) (W.contents writer.old) (W.contents writer.new))
@@ -258,35 +226,37 @@ pub fn serve_drive<I: Read + Drop, S: Store<Drive> + Drop, M: Medium + Drop, R: 
     ensures unused { IfNone result.left (S.held result.store ≡ S.held file.store) }
 {
     let ServedFile {
-        mut bytes,
+        bytes,
         store,
         medium,
     } = file;
-    let begun = match restarted_drive(alloc, &mut bytes, job.habit) {
-        Ok(begun) => begun,
-        Err(fault) => {
+    let stored = match keep_restarted(alloc, DriveFile { bytes, store }, job.habit) {
+        Ok(stored) => stored,
+        Err((fault, store)) => {
             return AfterSession {
                 left: None,
                 store,
                 medium,
-                result: Err(NbdFault::Image(fault)),
+                statistics: None,
+                disk: None,
+                result: Err(NbdFault::File(KeepFault::Image(fault))),
             };
         }
     };
-    let stored = Stored {
-        was_image: begun.is_image,
-        kept: Kept {
-            device: keep(alloc, begun, store),
-            medium,
-            read_only: false,
-        },
+    let kept = Kept {
+        device: stored.device,
+        medium,
+        read_only: false,
     };
-    let (left, store, medium, result) = serve_kept(alloc, job, stored, reader, writer);
+    let ended = serve_stopping(alloc, job, kept, reader, writer);
+    let (left, store) = leave(ended.device, stored.was_image);
     AfterSession {
         left: Some(left),
         store,
-        medium,
-        result,
+        medium: ended.medium,
+        statistics: ended.statistics,
+        disk: ended.disk,
+        result: ended.result,
     }
 }
 
@@ -309,7 +279,7 @@ pub fn serve_read_only<I: Read, R: Client, W: Write>(
 {
     let begun = match restarted_drive(alloc, bytes, job.habit) {
         Ok(begun) => begun,
-        Err(fault) => return Done::unserved(NbdFault::Image(fault)),
+        Err(fault) => return Done::unserved(NbdFault::File(KeepFault::Image(fault))),
     };
     let kept = Kept {
         device: begun.drive,

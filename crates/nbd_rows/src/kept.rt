@@ -6,7 +6,7 @@ use crate::show::show_replies;
 use disk_jobs::{Habit, Stop};
 use drive_images::write_image;
 use drive_journal::Held;
-use nbd_jobs::{Left, NbdFault, NbdJob, ServedFile, serve_drive, serve_read_only};
+use nbd_jobs::{NbdFault, NbdJob, ServedFile, serve_drive, serve_read_only};
 use nbd_session::WriteThrough;
 use std::alloc::Global;
 use zone_drive::Drive;
@@ -38,10 +38,8 @@ pub fn job_of(alloc: Global, blocks: Option<u64>, statistics: bool) -> NbdJob {
 }
 
 /// Shows what was counted, if it was asked for.
-fn show_counts(left: &Option<Left>, out: &mut String) -> Result<(), RowsFault> {
-    if let Some(left) = left
-        && let Some(text) = &left.statistics
-    {
+fn show_counts(counts: &Option<String>, out: &mut String) -> Result<(), RowsFault> {
+    if let Some(text) = counts {
         out.push_str(text)?;
     }
     Ok(())
@@ -74,7 +72,7 @@ pub fn show_kept(
     let ended = serve_drive(alloc, job, served, &mut &*input, &mut sent);
     *file = Vec::from_slice(alloc, ended.store.bytes())?;
     show_replies(&sent, out)?;
-    show_counts(&ended.left, out)?;
+    show_counts(&ended.statistics, out)?;
     show_end(ended.result, out)
 }
 

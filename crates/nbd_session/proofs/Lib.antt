@@ -1,4 +1,3 @@
-pub mod KnownLaws
 pub mod TurnLaws
 pub mod RunLaws
 pub mod KeptLaws

@@ -7,7 +7,7 @@ use Rattle.drive_port.specs.Drive.{DriveState}
 use Rattle.drive_port.specs.Durable.{IsDurable, MayBeDurable}
 use Rattle.drive_port.specs.Run.{restarted_zone}
 use Rattle.drive_port.proofs.ClosingLaws.{contents-restarted}
-use Rattle.disk_runs.specs.KeepingLaws.{keeps_call, keeps_same}
+use Rattle.zone_translator.proofs.KeepingLaws.{keeps_call, keeps_same}
 use Rattle.zone_translator.specs.Answers.{Answers, AnswersRead, CostsAtMost, Stores, TakesTurn, write_commands}
 use Rattle.zone_translator.specs.Flat.{Answer, Begun, FlatDisk, IsFront, answer_while, flush, idle, known_answer, read, replaced, with_nothing, write}
 use Rattle.zone_translator.specs.View.{CompletesAtMost, DiskView, KeepsDisk, disk_array, disk_turns, flat_of, given_size}

@@ -1,11 +1,11 @@
 -- A session keeps the drive of its disk.
 use Rattle.std.proofs.Common.{◌≡◌, ℕ, List, Ok, Err, true, false, inl, inr}
 use Rattle.std.specs.Prelude.{Bool, ◌&&◌, not, Result}
-use Rattle.disk_runs.specs.KeepingLaws.{keeps_again, keeps_call, keeps_same}
-use Rattle.disk_runs.specs.Trace.{KeepsServed}
 use Rattle.nbd_wire.specs.declared.error_code.ErrorCode.{ErrorCode}
 use Rattle.nbd_wire.specs.declared.request.Request.{Request}
+use Rattle.zone_translator.proofs.KeepingLaws.{keeps_again, keeps_call, keeps_same}
 use Rattle.zone_translator.specs.Flat.{Answer, Call}
+use Rattle.zone_translator.specs.Keeping.{KeepsServed}
 use Rattle.zone_translator.specs.declared.fault.DiskFault.{DiskFault}
 use Rattle.nbd_session.specs.declared.asked.Asked.{Asked}
 use Rattle.nbd_session.specs.declared.asked.Asked.TheVariants.{Read, Write, Trim, WriteZeroes, Flush}

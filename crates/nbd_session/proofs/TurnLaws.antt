@@ -3,6 +3,7 @@ use Rattle.std.proofs.Common.{◌≡◌, ℕ, ◌<◌, List, ◌++◌, length, O
 use Rattle.std.specs.Prelude.{Bool, IfErr, IsErrAnd, OnOk, Result, ⊤}
 use Rattle.std.specs.Io.KnownBytes.{Appends, Consumes, Keeps}
 use Rattle.std.proofs.KnownBytes.{Appends-kept, Consumes-trans}
+use Rattle.disk_files.specs.Input.{Drops}
 use Rattle.disk_files.specs.Output.{AppendsFront}
 use Rattle.nbd_wire.specs.Handshake.{FitsHead, option_head_bytes, option_of}
 use Rattle.nbd_wire.specs.Transmission.{FitsRequest, request_bytes, simple_reply_bytes}
@@ -18,7 +19,7 @@ use Rattle.nbd_session.specs.declared.phase.Phase.TheVariants as phases
 use Rattle.nbd_session.specs.Requests.{AnswersAsked, asked_of_store, data_length, is_disconnect}
 use Rattle.nbd_session.specs.Session.{AnswersMessage, Follows, Session, answer_bytes, export_of, option_answer, phase_after, session}
 use Rattle.nbd_session.specs.Store.{StoreView}
-use Rattle.nbd_session.specs.Streams.{Drops, Streams, streams}
+use Rattle.nbd_session.specs.Streams.{Streams, streams}
 use Rattle.nbd_session.specs.Turns.{AnswersOne, IsCutMessage, Replies, RepliesInPart, ReplyStops, StopsSession, TurnGives}
 
 -- what is answered in one way is answered in another

@@ -3,6 +3,7 @@ use Rattle.std.specs.Prelude.{◌≡◌, ◌⊎◌, ℕ, ◌*◌, ◌/◌, ◌%�
 use Rattle.std.specs.Prelude.{List, ◌++◌, length, Option, Some, Result, Ok, Err}
 use Rattle.std.specs.List.{concat}
 use Rattle.std.specs.Io.KnownBytes.{Consumes}
+use Rattle.disk_files.specs.Input.{DropsFewer}
 use Rattle.nbd_wire.specs.Transmission.{command_of, simple_reply_bytes}
 use Rattle.nbd_wire.specs.declared.command.Command.{Command}
 use Rattle.nbd_wire.specs.declared.command.Command.TheVariants as commands
@@ -20,7 +21,6 @@ use Rattle.nbd_session.specs.declared.fault.SessionFault.TheVariants.{Input}
 use Rattle.nbd_session.specs.declared.fault.StoreFault.{StoreFault}
 use Rattle.nbd_session.specs.declared.fault.StoreFault.TheVariants.{Disk, Medium}
 use Rattle.nbd_session.specs.Store.{ReadsBlocks, StoreView, Syncs, Trims, WritesBytes, WritesZeros}
-use Rattle.nbd_session.specs.Streams.{DropsFewer}
 
 -- ---- what is asked
 

@@ -2,9 +2,9 @@
 use Rattle.std.specs.Prelude.{◌≡◌, ◌⊎◌, ℕ, ◌<◌, ◌≤◌, ◌&&◌, Bool, true, false, not, List, Contains, Some, None, Result, Ok, Err, IfErr}
 use Rattle.std.specs.List.{concat}
 use Rattle.drive_port.specs.Durable.{MayBeDurable}
-use Rattle.disk_runs.specs.Trace.{KeepsServed}
 use Rattle.zone_translator.specs.Answers.{CostsAtMost, Stores, TakesTurn, count_of_blocks, write_bytes, write_commands}
 use Rattle.zone_translator.specs.Flat.{Answer, Call, FlatCall, FlatDisk, IsFront, answer_while, flush, idle, read, trim, with_nothing, write}
+use Rattle.zone_translator.specs.Keeping.{KeepsServed}
 use Rattle.zone_translator.specs.View.{CompletesAtMost, DiskCause, DiskView, KeepsDisk, disk_array, disk_turns, flat_of}
 use Rattle.zone_translator.specs.declared.fault.DiskFault.{DiskFault}
 use Rattle.nbd_session.specs.declared.fault.StoreFault.{StoreFault}

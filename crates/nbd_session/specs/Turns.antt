@@ -1,6 +1,7 @@
 -- What comes of one message, and how a session ends.
 use Rattle.std.specs.Prelude.{◌≡◌, ◌≢◌, ◌⊎◌, ℕ, ◌-◌, ◌<◌, ◌^◌, Bool, true, false, List, ◌++◌, length, Option, Some, None, Result, Ok, Err}
 use Rattle.std.specs.Io.KnownBytes.{Appends, Consumes, IsAtEnd, Keeps}
+use Rattle.disk_files.specs.Input.{DropsFewer}
 use Rattle.disk_files.specs.Output.{AppendsFront}
 use Rattle.nbd_wire.specs.Handshake.{FitsHead, client_flags_bytes, option_head_bytes}
 use Rattle.nbd_wire.specs.Transmission.{FitsRequest, request_bytes}
@@ -14,7 +15,7 @@ use Rattle.nbd_session.specs.declared.phase.Phase.TheVariants as phases
 use Rattle.nbd_session.specs.Requests.{data_length}
 use Rattle.nbd_session.specs.Session.{AnswersMessage, Served, Session, session}
 use Rattle.nbd_session.specs.Store.{StoreView}
-use Rattle.nbd_session.specs.Streams.{DropsFewer, Streams, streams}
+use Rattle.nbd_session.specs.Streams.{Streams, streams}
 
 -- ---- one message
 

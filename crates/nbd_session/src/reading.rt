@@ -1,6 +1,7 @@
 ghost use Rattle.std.specs.Prelude.{◌≡◌, ◌≤◌, Ok, IfErr, OnOk, length, take, true, false};
 ghost use Rattle.std.specs.Io.KnownBytes.{Consumes};
-ghost use Rattle.nbd_session.specs.Streams.{Drops, DropsFewer, FillsBuffer};
+ghost use Rattle.disk_files.specs.Input.{Drops, DropsFewer};
+ghost use Rattle.nbd_session.specs.Streams.{FillsBuffer};
 
 use crate::fault::SessionFault;
 use disk_files::read_again;

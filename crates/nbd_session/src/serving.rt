@@ -1,4 +1,4 @@
-ghost use Rattle.disk_runs.specs.Trace.{KeepsServed};
+ghost use Rattle.zone_translator.specs.Keeping.{KeepsServed};
 ghost use Rattle.nbd_session.specs.Session.{session};
 ghost use Rattle.nbd_session.specs.Streams.{streams};
 ghost use Rattle.nbd_session.specs.Turns.{Serves, TurnGives};

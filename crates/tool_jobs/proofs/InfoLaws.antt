@@ -7,8 +7,8 @@ use Rattle.zone_drive.specs.declared.habit.Habit.{Habit}
 use Rattle.drive_array.specs.Reserve.{most_size}
 use Rattle.drive_info.specs.Info.{IsInspected}
 use Rattle.drive_info.specs.declared.info.InspectedDrive.{InspectedDrive}
-use Rattle.drive_store.specs.Kept.{IsRestarted}
-use Rattle.drive_store.specs.declared.kept_drive.Begun.{Begun}
+use Rattle.kept_drives.specs.Kept.{IsRestarted}
+use Rattle.kept_drives.specs.declared.kept_drive.Begun.{Begun}
 use Rattle.tool_jobs.specs.Telling.{Bytes}
 use Rattle.tool_jobs.specs.Infos.{FindsInfo}
 

@@ -11,11 +11,11 @@ use Rattle.drive_port.specs.Drive.{DriveState}
 use Rattle.drive_survey.specs.Reported.{KeepsZones}
 use Rattle.drive_survey.specs.Scan.{IsInterruption}
 use Rattle.drive_survey.specs.declared.fault.MountFault.{MountFault}
-use Rattle.drive_store.specs.Kept.{IsReadIn}
+use Rattle.kept_drives.specs.Kept.{IsReadIn}
 use Rattle.tool_jobs.specs.Checks.{IsInterrupted}
 use Rattle.tool_jobs.specs.Pictures.{CountsLive, CountsNone, DrawsNone, FindsLive, LooksNone, live_counts, written_counts}
 use Rattle.tool_jobs.specs.declared.fault.ToolFault.{ToolFault}
-use Rattle.tool_jobs.specs.declared.fault.ToolFault.TheVariants.{Image, Plan, Bytes, Entry, Stopped, Output, File, Memory}
+use Rattle.tool_jobs.specs.declared.fault.ToolFault.TheVariants.{Plan, Bytes, Entry, Stopped, Output, File, Memory}
 
 length-counts : (zones : List ZoneInfo) → length (written_counts zones) ≡ length zones
 length-counts [] = refl
@@ -60,7 +60,6 @@ not-looked last cause fault told (inr (inr none)) = absurd none
 pub not-drawn : (file : Option (List ℕ)) (saved last : DriveState) (fault : ToolFault) → IsReadIn file saved → KeepsZones saved last → LooksNone last fault → DrawsNone file fault
 not-drawn file saved last Stopped is_read keeps none = record { saved = saved; is_read = is_read; last = last; keeps = keeps; stopped = none }
 not-drawn file saved last Memory is_read keeps none = tt
-not-drawn file saved last (Image f) is_read keeps none = absurd none
 not-drawn file saved last (Plan f) is_read keeps none = absurd none
 not-drawn file saved last Bytes is_read keeps none = absurd none
 not-drawn file saved last (Entry f) is_read keeps none = absurd none

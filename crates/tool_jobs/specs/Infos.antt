@@ -6,7 +6,7 @@ use Rattle.drive_port.specs.Drive.{DriveState}
 use Rattle.drive_port.specs.Run.{restarted}
 use Rattle.drive_info.specs.Info.{IsInspected}
 use Rattle.drive_info.specs.declared.info.InspectedDrive.{InspectedDrive}
-use Rattle.drive_store.specs.Kept.{IsReadIn}
+use Rattle.kept_drives.specs.Kept.{IsReadIn}
 use Rattle.tool_jobs.specs.Telling.{Bytes}
 
 -- This is what the drive in the file holds once it is restarted, and what a mount of it takes. If it does not say how

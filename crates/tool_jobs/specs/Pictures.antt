@@ -11,7 +11,7 @@ use Rattle.drive_survey.specs.declared.fault.MountFault.{MountFault}
 use Rattle.remount.specs.Mount.{MountFails}
 use Rattle.drive_info.specs.declared.info.Info.{Info}
 use Rattle.drive_info.specs.declared.info.ZoneInfo.{ZoneInfo}
-use Rattle.drive_store.specs.Kept.{IsReadIn}
+use Rattle.kept_drives.specs.Kept.{IsReadIn}
 use Rattle.tool_jobs.specs.Telling.{Bytes, HoldsNone}
 use Rattle.tool_jobs.specs.declared.fault.ToolFault.{ToolFault}
 use Rattle.tool_jobs.specs.declared.fault.ToolFault.TheVariants.{Stopped, Memory}

@@ -1,10 +1,10 @@
 -- What a tool writes of what it found.
-use Rattle.std.specs.Prelude.{◌≡◌, ◌⊎◌, ℕ, List, Option, IfSome}
+use Rattle.std.specs.Prelude.{◌≡◌, ◌⊎◌, ℕ, List, Option}
 use Rattle.std.specs.Io.KnownBytes.{Appends}
-use Rattle.drive_journal.specs.FileFaults.{IsFileFault}
 use Rattle.disk_files.specs.Output.{AppendsFront}
+use Rattle.kept_drives.specs.Left.{IsUnread}
 use Rattle.tool_jobs.specs.declared.fault.ToolFault.{ToolFault}
-use Rattle.tool_jobs.specs.declared.fault.ToolFault.TheVariants.{Image, Memory, Output}
+use Rattle.tool_jobs.specs.declared.fault.ToolFault.TheVariants.{File, Memory, Output}
 
 -- the bytes of a file or of an output, where they are known
 abbrev pub Bytes : Type 0
@@ -38,5 +38,5 @@ TellsNothing HasNone Is Shows fault old new = (HasNone fault × (new ≡ old)) �
 
 -- the bytes of a file hold no drive, by their first fault
 abbrev pub HoldsNone : Bytes → ToolFault → Type 0
-HoldsNone file (Image fault) = IfSome file (λ bytes. IsFileFault bytes fault)
+HoldsNone file (File fault) = IsUnread file fault
 HoldsNone file fault = ⊥

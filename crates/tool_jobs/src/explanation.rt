@@ -6,8 +6,7 @@ use std::alloc::{AllocError, Global};
 pub fn explain(alloc: Global, job: &ToolJob, fault: ToolFault) -> Result<String, AllocError> {
     let path = job.image().unwrap_or("the file");
     match fault {
-        ToolFault::Image(fault) => format!(in alloc; "{path}: {fault}"),
-        ToolFault::File(fault) => format!(in alloc; "{path} {fault}"),
+        ToolFault::File(fault) => fault.explain(alloc, path),
         fault => format!(in alloc; "{fault}"),
     }
 }

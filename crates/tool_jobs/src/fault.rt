@@ -1,10 +1,11 @@
 ghost use Rattle.std.specs.Prelude.{◌≡◌};
+ghost use Rattle.kept_drives.specs.declared.keep_fault.KeepFault.TheVariants as keep;
 ghost use Rattle.tool_jobs.specs.declared.fault.ToolFault.TheVariants as tool;
 
 use disk_files::WriteFault;
 use drive_journal::FileFault as ReadFault;
-use drive_store::FileFault;
 use entry_forms::EntryFault;
+use kept_drives::KeepFault;
 use std::alloc::AllocError;
 use thiserror::Error;
 use write_plan::PlanFault;
@@ -12,9 +13,9 @@ use write_plan::PlanFault;
 /// Why a tool tells nothing, or only a beginning of what it has to tell.
 #[derive(Clone, Copy, Debug, PartialEq, Eq, Error)]
 pub enum ToolFault {
-    /// The file holds no drive: its image or a change after it has a fault.
+    /// The file holds no drive, or is not used.
     #[error("{0}")]
-    Image(ReadFault),
+    File(KeepFault),
     /// There is no such plan.
     #[error("{0}")]
     Plan(PlanFault),
@@ -30,9 +31,6 @@ pub enum ToolFault {
     /// The output failed.
     #[error("standard output failed")]
     Output,
-    /// The file is not used.
-    #[error("{0}")]
-    File(FileFault),
     /// An allocation failed.
     #[error("out of memory")]
     Memory,
@@ -55,10 +53,10 @@ impl From<WriteFault> for ToolFault {
 }
 
 impl From<ReadFault> for ToolFault {
-    ghost from_gives = { λ cause fault. fault ≡ tool.Image cause };
+    ghost from_gives = { λ cause fault. fault ≡ tool.File (keep.Image cause) };
 
     fn from(cause: ReadFault) -> ToolFault {
-        ToolFault::Image(cause)
+        ToolFault::File(KeepFault::Image(cause))
     }
 }
 

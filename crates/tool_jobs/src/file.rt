@@ -3,20 +3,13 @@
 use crate::answering::answer_tool;
 use crate::fault::ToolFault;
 use crate::job::ToolJob;
-use drive_store::{FileFault, image_to_read};
+use drive_store::image_to_read;
+use kept_drives::KeepFault;
 use std::alloc::Global;
 use std::fs::File;
 use std::io;
 use std::io::Write;
 use std::rt::Files;
-
-/// What a fault of a file is to a tool: that memory ran out is told as such.
-pub(crate) fn told(fault: FileFault) -> ToolFault {
-    if fault.is_memory() {
-        return ToolFault::Memory;
-    }
-    ToolFault::File(fault)
-}
 
 /// Does a job over the file of this path. Other programs can read it too, and none can change it until the job is done.
 fn answer_file<F: Files<File = File>, W: Write>(
@@ -28,7 +21,7 @@ fn answer_file<F: Files<File = File>, W: Write>(
 ) -> Result<bool, ToolFault> {
     let (_image, mut bytes) = match image_to_read(files, alloc, path) {
         Ok(opened) => opened,
-        Err(fault) => return Err(told(fault)),
+        Err(fault) => return Err(ToolFault::File(KeepFault::from(fault))),
     };
     answer_tool(alloc, job, &mut bytes, output)
 }

@@ -1,8 +1,8 @@
 // The drive of an image file, and a new image file of a drive.
 
 use crate::fault::ToolFault;
-use crate::file::told;
-use drive_store::{FileFault, Saving, image_to_read, new_image, save, saved_drive};
+use drive_store::{FileFault, Saving, image_to_read, new_image, save};
+use kept_drives::{KeepFault, saved_drive};
 use std::alloc::Global;
 use std::fs::File;
 use std::rt::Files;
@@ -16,7 +16,7 @@ pub fn drive_in_image<F: Files<File = File>>(
 ) -> Result<Drive, ToolFault> {
     let (_image, mut bytes) = match image_to_read(files, alloc, path) {
         Ok(opened) => opened,
-        Err(fault) => return Err(told(fault)),
+        Err(fault) => return Err(ToolFault::File(KeepFault::from(fault))),
     };
     Ok(saved_drive(alloc, &mut bytes)?)
 }
@@ -46,6 +46,6 @@ pub fn make_image<F: Files<File = File>>(
     let saving = Saving { files, alloc };
     match save_new(&saving, path, drive) {
         Ok(()) => Ok(()),
-        Err(fault) => Err(told(fault)),
+        Err(fault) => Err(ToolFault::File(KeepFault::from(fault))),
     }
 }

@@ -11,7 +11,7 @@ use crate::form::{Form, as_line};
 use crate::job::{PlanJob, PlannedDrive};
 use crate::telling::tell;
 use drive_port::Device;
-use drive_store::saved_drive;
+use kept_drives::saved_drive;
 use std::alloc::{AllocError, Global};
 use std::io::{Read, Write};
 use write_plan::{

@@ -8,7 +8,7 @@ use crate::fault::ToolFault;
 use crate::form::{Form, as_line};
 use crate::telling::tell;
 use drive_port::Device;
-use drive_store::saved_drive;
+use kept_drives::saved_drive;
 use nvme_wire::{ReportingOptions, ZoneState};
 use report_forms::{brief_text, zones_json, zones_svg};
 use std::alloc::{AllocError, Global};

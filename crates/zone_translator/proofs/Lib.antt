@@ -7,6 +7,7 @@ pub mod CutLaws
 pub mod ReadLaws
 pub mod ReportLaws
 pub mod DiskLaws
+pub mod KeepingLaws
 pub mod FlushLaws
 pub mod MountLaws
 pub mod WriteLaws

@@ -2,6 +2,7 @@ pub mod Flat
 pub mod Batches
 pub mod Changes
 pub mod View
+pub mod Keeping
 pub mod Calls
 pub mod Read
 pub mod Mount

@@ -5,7 +5,7 @@ ghost use Rattle.std.specs.Io.KnownBytes.{Appends};
 ghost use Rattle.std.specs.Process.{exit_status};
 ghost use Rattle.disk_files.specs.Output.{AppendsFront};
 
-use crate::files::{fail, tell_size};
+use crate::files::{counted, fail, tell_size};
 use block_copies::ExportFault;
 use copy_jobs::{CopyFault, CopyJob, ExportJob, ImportJob, import_mounted};
 use device_jobs::{
@@ -460,11 +460,6 @@ fn do_plan<R: Eprint, D: Devices, W: Write>(
     };
     let told = plan_device(alloc, geometry, aim, &form, output);
     end_tool(rt, path, told.map(|()| true), output)
-}
-
-/// What is counted of a copy, if it is shown how far it is.
-fn counted(progress: bool) -> Option<Counted> {
-    progress.then_some(Counted::Mebibytes)
 }
 
 /// Writes blocks of a drive to standard output.

@@ -115,6 +115,11 @@ pub(crate) fn do_nbd<R: Eprint + Files<File = fs::File> + Input, W: Write>(
     code
 }
 
+/// What is counted of a copy, if it is shown how far it is.
+pub(crate) fn counted(progress: bool) -> Option<Counted> {
+    progress.then_some(Counted::Mebibytes)
+}
+
 /// Copies blocks out of a drive to standard output, or from standard input into a drive. Why a copy is not whole goes
 /// to standard error.
 pub(crate) fn copy<R: Eprint + Files<File = fs::File> + Input + Print>(
@@ -123,9 +128,13 @@ pub(crate) fn copy<R: Eprint + Files<File = fs::File> + Input + Print>(
     job: &CopyJob,
 ) -> ExitCode {
     let ends = match job {
-        CopyJob::Export(job) => [do_export(rt, alloc, job, io::writer(rt)), Ok(())],
+        CopyJob::Export(job) => {
+            let output = Watched::new(io::writer(rt), rt, counted(job.progress));
+            [do_export(rt, alloc, job, output), Ok(())]
+        }
         CopyJob::Import(job) => {
-            let imported = do_import(rt, alloc, job, rt.reader());
+            let input = Watched::new(rt.reader(), rt, counted(job.progress));
+            let imported = do_import(rt, alloc, job, input);
             tell_saved(
                 rt,
                 alloc,

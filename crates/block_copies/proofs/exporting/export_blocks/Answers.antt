@@ -1,6 +1,6 @@
 use Rattle.std.proofs.Common.{refl, arith}
+use Rattle.zone_translator.proofs.KeepingLaws.{keeps_again}
 use Rattle.zone_translator.specs.View.{disk_size}
-use Rattle.disk_runs.specs.KeepingLaws.{keeps_again}
 use Rattle.block_copies.proofs.FlatReads.{exports-err, exports-fail, exports-more, within-size}
 use Rattle.block_copies.proofs.exporting.export_blocks.Goals as goal
 

@@ -1,5 +1,5 @@
 use Rattle.std.proofs.Common.{◌-◌, ◌≤◌, Ok}
-use Rattle.disk_runs.specs.Trace.{KeepsServed}
+use Rattle.zone_translator.specs.Keeping.{KeepsServed}
 use Rattle.block_copies.specs.Copies.{Exports}
 use Rattle.block_copies.proofs.exporting.export_blocks.Given as goal
 

@@ -1,6 +1,6 @@
 use Rattle.std.proofs.Common.{◌++◌, ap, arith, drop, length, refl}
 use Rattle.std.proofs.lemmas.List.{length-append, length-drop, length-take}
-use Rattle.disk_runs.specs.KeepingLaws.{keeps_again, keeps_same}
+use Rattle.zone_translator.proofs.KeepingLaws.{keeps_again, keeps_same}
 use Rattle.block_copies.proofs.Imports.{imported-end, imported-more, imported-none, imported-stop, imports-none}
 use Rattle.block_copies.proofs.importing.import_blocks.Goals as goal
 

@@ -1,5 +1,5 @@
 use Rattle.std.proofs.Common.{◌≡◌, ◌-◌, ◌*◌, length}
-use Rattle.disk_runs.specs.Trace.{KeepsServed}
+use Rattle.zone_translator.specs.Keeping.{KeepsServed}
 use Rattle.zone_translator.specs.View.{disk_size}
 use Rattle.block_copies.specs.Copies.{piece_blocks}
 use Rattle.block_copies.proofs.Imports.{Imported}

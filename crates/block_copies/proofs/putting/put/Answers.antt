@@ -2,7 +2,7 @@ use Rattle.std.proofs.Common.{◌≡◌, ◌+◌, ◌-◌, ◌/◌, ap, drop, �
 use Rattle.std.proofs.lemmas.List.{length-drop, length-take}
 use Rattle.std.proofs.Math.Nat.{add-mul}
 use Rattle.drive_port.specs.Calls.{block_count}
-use Rattle.disk_runs.specs.KeepingLaws.{keeps_again}
+use Rattle.zone_translator.proofs.KeepingLaws.{keeps_again}
 use Rattle.zone_states.specs.declared.geometry.Geometry.{Geometry}
 use Rattle.block_copies.proofs.Pieces.{some-blocks, times-less}
 use Rattle.block_copies.proofs.Runs.{IsRun, run-count, run-fits, run-more, run-refused, slice-whole}

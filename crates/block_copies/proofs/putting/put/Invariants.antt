@@ -1,7 +1,7 @@
 use Rattle.std.proofs.Common.{ℕ, ◌≡◌, ◌-◌, ◌*◌, ◌≤◌, Ok, length, take}
 use Rattle.drive_port.specs.Calls.{data_blocks}
-use Rattle.disk_runs.specs.Trace.{KeepsServed}
 use Rattle.zone_translator.specs.Flat.{FlatCall, with_nothing, write}
+use Rattle.zone_translator.specs.Keeping.{KeepsServed}
 use Rattle.zone_translator.specs.View.{flat_of}
 use Rattle.block_copies.proofs.putting.put.Given as goal
 

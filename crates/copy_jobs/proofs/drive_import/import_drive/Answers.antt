@@ -1,6 +1,10 @@
-use Rattle.drive_store.proofs.KeptLaws.{restarted-stored}
+use Rattle.drive_port.specs.Drive.{DriveState}
+use Rattle.kept_drives.proofs.KeptLaws.{left-file}
 use Rattle.zone_drive.specs.declared.habit.Habit.TheVariants.{Lazy}
+use Rattle.copy_jobs.specs.DriveCopies.{ImportsDrive}
 use Rattle.copy_jobs.proofs.drive_import.import_drive.Goals as goal
 
-pub keep-requires : goal.keep-requires
-keep-requires g c = restarted-stored (g.S.Store.held c.args.file.store) (g.I.Read.remaining c.args.file.bytes) Lazy c.in-Ok.begun c.requires c.in-Ok.ensures.ok
+pub returns-clause-left : goal.returns-clause-left
+returns-clause-left g c =
+    left-file (λ (old new : DriveState). ImportsDrive c.args.job.now (g.R.Read.remaining c.args.reader.now) (g.R.Read.remaining c.import_mounted-device.new.reader) old c.import_mounted-device.result.1 new)
+    (g.I.Read.remaining c.args.file.bytes) Lazy _ _ _ _ _ _ c.in-Ok.ensures.ok c.import_mounted-device.ensures c.leave-left.ensures.was_image c.leave-left.ensures.left

@@ -1,8 +1,8 @@
 use Rattle.disk_jobs.proofs.StoreLaws.{begins-stored}
 use Rattle.disk_jobs.proofs.program.run_job.Goals as goal
 
-pub answer-left-requires : goal.answer-left-requires
-answer-left-requires g c =
+pub answer-answered-requires : goal.answer-answered-requires
+answer-answered-requires g c =
     begins-stored c.args.job.now (g.S.Store.held c.args.file.store) (g.I.Read.remaining c.args.file.bytes) c.in-Ok-Some.begun c.requires (rw c.in-Ok-Some.field-0-is at c.in-Ok-Some.ensures.ok).0
 
 pub returns-in-Ok-clause-left : goal.returns-in-Ok-clause-left
@@ -11,6 +11,6 @@ returns-in-Ok-clause-left g c = record {
   begins = (rw c.in-Ok-Some.field-0-is at c.in-Ok-Some.ensures.ok).0;
   told = g.W.Write.contents c.begin.new.output;
   says = (rw c.in-Ok-Some.field-0-is at c.in-Ok-Some.ensures.ok).1;
-  was_image = c.answer-left.ensures.was_image;
-  leaves = rw c.in-Ok.is at c.answer-left.ensures.leaves;
+  was_image = c.answer-answered.ensures.was_image;
+  leaves = rw c.in-Ok.is at c.answer-answered.ensures.leaves;
 }

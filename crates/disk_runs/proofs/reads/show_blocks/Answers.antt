@@ -1,6 +1,6 @@
 use Rattle.std.proofs.Common.{◌+◌, ◌∙◌, sym, arith}
+use Rattle.zone_translator.proofs.KeepingLaws.{keeps_again, keeps_call}
 use Rattle.zone_translator.specs.View.{disk_array, disk_size, flat_of}
-use Rattle.disk_runs.specs.KeepingLaws.{keeps_again, keeps_call}
 use Rattle.disk_runs.proofs.CallLaws.{block_refused, block_shown, cause_of, line_more, reads_more, reads_within}
 use Rattle.disk_runs.proofs.reads.show_blocks.Goals as goal
 

@@ -1,9 +1,10 @@
 use Rattle.std.proofs.Common.{◌≡◌, ◌<◌, ◌++◌}
 use Rattle.disk_files.specs.Reply.{block_lines}
 use Rattle.zone_translator.specs.Flat.{blocks_from}
+use Rattle.zone_translator.specs.Keeping.{KeepsServed}
 use Rattle.zone_translator.specs.View.{disk_array, flat_of}
 use Rattle.zone_translator.specs.declared.status.DiskStatus.TheVariants.{Serving}
-use Rattle.disk_runs.specs.Trace.{KeepsServed, ReadsFew}
+use Rattle.disk_runs.specs.Trace.{ReadsFew}
 use Rattle.disk_runs.proofs.reads.show_blocks.Given as goal
 
 abbrev pub invariant-loop-i : goal.invariant-loop-i

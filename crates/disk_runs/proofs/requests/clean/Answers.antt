@@ -1,7 +1,7 @@
 use Rattle.std.proofs.Common.{◌≡◌, ℕ, suc, ◌+◌, ◌∙◌, sym, ap, subst, arith, rules}
+use Rattle.zone_translator.proofs.KeepingLaws.{keeps_again, keeps_call}
 use Rattle.zone_translator.specs.Flat.{FlatDisk}
 use Rattle.zone_translator.specs.View.{flat_of}
-use Rattle.disk_runs.specs.KeepingLaws.{keeps_again, keeps_call}
 use Rattle.disk_runs.specs.Trace.{TakesTurns}
 use Rattle.disk_runs.proofs.RequestLaws.{idle_unchanged, takes_more, takes_one, takes_rest, turns_done, turns_fewer, turns_stop}
 use Rattle.disk_runs.proofs.requests.clean.Goals as goal

@@ -1,7 +1,8 @@
 use Rattle.std.proofs.Common.{◌≡◌, ◌<◌}
+use Rattle.zone_translator.specs.Keeping.{KeepsServed}
 use Rattle.zone_translator.specs.View.{flat_of}
 use Rattle.zone_translator.specs.declared.status.DiskStatus.TheVariants.{Serving}
-use Rattle.disk_runs.specs.Trace.{KeepsServed, TakesTurns}
+use Rattle.disk_runs.specs.Trace.{TakesTurns}
 use Rattle.disk_runs.proofs.requests.clean.Given as goal
 
 abbrev pub invariant-loop-turn : goal.invariant-loop-turn

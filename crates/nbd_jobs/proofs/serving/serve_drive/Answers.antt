@@ -1,6 +1,11 @@
-use Rattle.drive_store.proofs.KeptLaws.{restarted-stored}
+use Rattle.kept_drives.proofs.KeptLaws.{left-file}
+use Rattle.nbd_session.specs.Streams.{streams}
+use Rattle.nbd_jobs.specs.Serving.{ServesKept}
 use Rattle.nbd_jobs.proofs.serving.serve_drive.Goals as goal
 
-pub keep-requires : goal.keep-requires
-keep-requires g c =
-    restarted-stored (g.S.Store.held c.args.file.store) (g.I.Read.remaining c.args.file.bytes) c.args.job.now.habit c.in-Ok.begun c.requires c.in-Ok.ensures.ok
+pub returns-clause-left : goal.returns-clause-left
+returns-clause-left g c =
+    let ended = c.serve_stopping-ended.result in
+    let bytes = streams (g.R.Read.remaining c.args.reader.now) (g.R.Read.remaining c.serve_stopping-ended.new.reader) (g.W.Write.contents c.args.writer.now) (g.W.Write.contents c.serve_stopping-ended.new.writer) in
+    left-file (ServesKept c.args.job.now bytes _ ended.result _ ended.disk) (g.I.Read.remaining c.args.file.bytes) c.args.job.now.habit _ _ _ _ _ _
+    c.in-Ok.ensures.ok (record { serves = c.serve_stopping-ended.ensures.serves; tells = c.serve_stopping-ended.ensures.tells }) c.leave-left.ensures.was_image c.leave-left.ensures.left

@@ -1,6 +1,6 @@
 use Rattle.std.proofs.Common.{take, rules, refl, arith}
 use Rattle.std.proofs.KnownBytes.{Consumes-trans}
-use Rattle.nbd_session.proofs.KnownLaws.{fewer-end, fewer-kept, filled}
+use Rattle.disk_files.proofs.InputLaws.{fewer-end, fewer-kept, filled}
 use Rattle.nbd_session.proofs.reading.fill.Goals as goal
 
 pub loop-at-preserved : goal.loop-at-preserved

@@ -1,6 +1,6 @@
 use Rattle.std.proofs.Common.{drop, arith}
 use Rattle.std.proofs.lemmas.List.{length-append, length-drop, length-take}
-use Rattle.nbd_session.proofs.KnownLaws.{drops-more, fewer-after, if-fault}
+use Rattle.disk_files.proofs.InputLaws.{drops-more, fewer-after, if-fault}
 use Rattle.nbd_session.proofs.reading.skip.Goals as goal
 
 pub returns-in_err-fill_all-clause-err : goal.returns-in_err-fill_all-clause-err

@@ -1,5 +1,5 @@
 use Rattle.std.proofs.Common.{◌≡◌, ◌-◌, ◌≤◌, length}
-use Rattle.nbd_session.specs.Streams.{Drops}
+use Rattle.disk_files.specs.Input.{Drops}
 use Rattle.nbd_session.proofs.reading.skip.Given as goal
 
 abbrev pub invariant-loop-left : goal.invariant-loop-left

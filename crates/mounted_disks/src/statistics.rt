@@ -1,0 +1,27 @@
+// What was counted of a disk, as text.
+
+use drive_counter::{Counter, Spread, statistics_text};
+use drive_port::Device;
+use std::alloc::{AllocError, Global};
+use zone_translator::Disk;
+
+/// How many blocks are live in each zone.
+fn live_blocks<D: Device + Drop>(
+    alloc: Global,
+    disk: &Disk<Counter<D>>,
+) -> Result<Vec<u32>, AllocError> {
+    let mut live = Vec::new(alloc);
+    for zone in 0..disk.device().geometry().zones {
+        live.push(disk.live(zone))?;
+    }
+    Ok(live)
+}
+
+/// What was counted of a disk, and how many blocks are live in its zones, as text.
+pub fn statistics_of<D: Device + Drop>(
+    alloc: Global,
+    disk: &Disk<Counter<D>>,
+) -> Result<String, AllocError> {
+    let mut live = live_blocks(alloc, disk)?;
+    statistics_text(alloc, &disk.device().counts(), &Spread::of(&mut live))
+}
