@@ -1,5 +1,5 @@
 /// How many bytes the second read of a run reads.
-const FIRST: usize = 1 << 16;
+const FIRST: usize = 1 << 14;
 
 /// How many bytes a read of a run reads at most. More would leave the caches of the processor before it is taken.
 const WIDEST: usize = 1 << 18;

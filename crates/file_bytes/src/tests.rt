@@ -115,10 +115,10 @@ fn calls_for_headers(alloc: Global) -> Option<u64> {
     Some(file.into_inner().reads)
 }
 
-// The first call reads one header, the next ones 8, 16 and then 32 of them. The last one reads the other 7.
+// The first call reads one header, the next ones 2, 4, 8, 16 and then 32 of them. The last one reads one more.
 #[test]
 fn headers_are_read_together(rt: HostRuntime) -> Result<(), Fail> {
-    assert_eq!(rt; calls_for_headers(rt.alloc()), Some(35));
+    assert_eq!(rt; calls_for_headers(rt.alloc()), Some(37));
     Ok(())
 }
 
