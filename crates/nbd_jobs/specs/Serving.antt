@@ -1,5 +1,5 @@
 -- A drive in a file that is served: what its session does, and what it leaves in the file.
-use Rattle.std.specs.Prelude.{◌≡◌, ◌&&◌, not, Bool, true, false, ℕ, List, Option, None, Result, Ok, Err, IfSome, ⊤}
+use Rattle.std.specs.Prelude.{◌≡◌, ◌&&◌, not, Bool, true, false, ℕ, List, [], Option, None, Result, Ok, Err, IfSome, ⊤}
 use Rattle.std.specs.Io.KnownBytes.{Keeps}
 use Rattle.drive_port.specs.Drive.{DriveState}
 use Rattle.drive_port.specs.Stop.{Stopping, drive_of}
@@ -33,26 +33,30 @@ pub record SyncsDone : Type 0 where
   pub after : ℕ
   pub flushes : Bool
 
--- A disk, perhaps read only. If it is not, and the job says so, it cleans. Its medium has completed that many syncs.
--- Where they are no Flushes the drive keeps each write at once.
+-- A disk that defers nothing, perhaps read only. If it is not, and the job says so, it cleans. Its medium has completed
+-- that many syncs. Where they are no Flushes the drive keeps each write at once.
 abbrev pub served_at : Bool → Bool → SyncsDone → DiskView → StoreView
 served_at read_only idle syncs disk = record {
   disk = disk;
+  pending = [];
   since = since_of syncs.flushes disk;
   syncs = syncs.before;
   read_only = read_only;
   cleans = idle && not read_only;
   flushes = syncs.flushes;
+  defers = false;
 }
 
 -- A session is served by the disk of a drive, or by that disk read only, and each sync is one of its medium. What it
--- leaves can be mounted again, with the array that was answered. A loss of power leaves one of the arrays of `since`.
+-- leaves can be mounted again, with the array that was answered, and nothing is pending. A loss of power leaves one
+-- of the arrays of `since`.
 pub record ServesSession (read_only : Bool) (job : NbdJob) (bytes : Streams) (syncs : SyncsDone) (old : DriveState)
     (ended : Result (Unit {0}) SessionFault) (new : DriveState) : Type 0 where
   pub first : DiskView
   pub disk : IsBegun syncs.flushes old job.blocks first
   pub last : StoreView
   pub serves : Serves bytes (session Greeting (served_at read_only job.idle syncs first)) ended last
+  pub pending : last.pending ≡ []
   pub synced : syncs.after ≡ last.syncs
   pub since : last.since ≡ since_of syncs.flushes last.disk
   pub keeps : KeepsDisk first last.disk

@@ -1,3 +1,5 @@
+pub mod PendingLaws
+pub mod SyncLaws
 pub mod TurnLaws
 pub mod RunLaws
 pub mod KeptLaws

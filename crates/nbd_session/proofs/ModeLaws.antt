@@ -1,5 +1,5 @@
--- A session forgets no sync, and its store stays read only, and cleans, as before.
-use Rattle.std.proofs.Common.{◌≡◌, ℕ, ◌≤◌, List, Ok, Err, true, false, refl, inl, inr, ◌∙◌, arith}
+-- A session forgets no sync, and its store stays read only, and cleans, as before. If it does not defer, nothing is pending.
+use Rattle.std.proofs.Common.{◌≡◌, ℕ, ◌≤◌, List, [], Ok, Err, true, false, refl, inl, inr, ◌∙◌, arith}
 use Rattle.std.specs.Prelude.{Bool, ◌&&◌, not, Result}
 use Rattle.nbd_wire.specs.declared.error_code.ErrorCode.{ErrorCode}
 use Rattle.nbd_wire.specs.declared.request.Request.{Request}
@@ -11,28 +11,38 @@ use Rattle.nbd_session.specs.declared.fault.StoreFault.{StoreFault}
 use Rattle.nbd_session.specs.declared.fault.StoreFault.TheVariants.{Disk, Medium}
 use Rattle.nbd_session.specs.Laws.{SessionKeepsMode}
 use Rattle.nbd_session.specs.Requests.{AnswersAsked, Does, Forces, asked_of_store}
-use Rattle.nbd_session.specs.Store.{Calls, KeepsMode, RestsBy, StoreView, Syncs}
+use Rattle.nbd_session.specs.Store.{Calls, KeepsBySync, KeepsMode, RestsBy, StoreView}
 use Rattle.nbd_session.proofs.KeptLaws.{IsKept, session_kept}
+use Rattle.nbd_session.proofs.PendingLaws.{none-more}
+use Rattle.nbd_session.proofs.SyncLaws.{SyncsSome, any_sync}
 
--- no sync is forgotten, and the mode is the same
+-- no sync is forgotten, the mode is the same, and nothing stays pending that is not deferred
 abbrev Grows : StoreView → StoreView → Type 0
-Grows old new = (old.syncs ≤ new.syncs) × KeepsMode old new
-
-grows_by : (old new : StoreView) → old.syncs ≤ new.syncs → KeepsMode old new → Grows old new
-grows_by old new fewer mode = (fewer, mode)
+Grows old new = (old.syncs ≤ new.syncs) × KeepsMode old new × (old.defers ≡ false → old.pending ≡ [] → new.pending ≡ [])
 
 self_grows : (store : StoreView) → Grows store store
-self_grows store = (omega arith, record { read_only = refl; cleans = refl; flushes = refl })
+self_grows store = (omega arith, record { read_only = refl; cleans = refl; flushes = refl; defers = refl }, λ prompt none. none)
 
 same_grows : (old new : StoreView) → new ≡ old → Grows old new
 same_grows old new same = rw same (self_grows old)
 
 grows_again : (a b c : StoreView) → Grows a b → Grows b c → Grows a c
-grows_again a b c x y =
-    (omega (arith, x.0, y.0), record { read_only = y.1.read_only ∙ x.1.read_only; cleans = y.1.cleans ∙ x.1.cleans; flushes = y.1.flushes ∙ x.1.flushes })
+grows_again a b c x y = (
+  omega (arith, x.0, y.0),
+  record {
+    read_only = y.1.read_only ∙ x.1.read_only;
+    cleans = y.1.cleans ∙ x.1.cleans;
+    flushes = y.1.flushes ∙ x.1.flushes;
+    defers = y.1.defers ∙ x.1.defers;
+  },
+  λ prompt none. y.2 (x.1.defers ∙ prompt) (x.2 prompt none),
+)
 
 call_grows : (old : StoreView) (call : Call) (answer : Answer) (new : StoreView) → Calls old call answer new → Grows old new
-call_grows old call answer new c = (omega (arith, c.syncs), c.mode)
+call_grows old call answer new c = (omega (arith, c.syncs), c.mode, λ prompt none. c.none prompt)
+
+keeps_grows : (old new : StoreView) → KeepsBySync old new → Grows old new
+keeps_grows old new k = (k.syncs, k.mode, λ prompt none. none-more old.pending new.pending none k.pending)
 
 does_grows : (old : StoreView) (wanted : Asked) (bytes : List ℕ) (answer : Answer) (new : StoreView) → Does old wanted bytes answer new → Grows old new
 does_grows old (Write first) bytes answer new (inl w) = call_grows old _ answer new w.calls
@@ -43,21 +53,21 @@ does_grows old (WriteZeroes first n true) bytes answer new w = call_grows old _ 
 does_grows old (WriteZeroes first n false) bytes answer new w = call_grows old _ answer new w.calls
 does_grows old Flush bytes answer new c = same_grows old new c.1
 
-sync_grows : (old : StoreView) (result : Result (Unit {0}) StoreFault) (new : StoreView) → Syncs old result new → Grows old new
-sync_grows old (Ok done) new s = (s.1.keeps.syncs, s.1.keeps.mode)
+sync_grows : (old : StoreView) (result : Result (Unit {0}) StoreFault) (new : StoreView) → SyncsSome old result new → Grows old new
+sync_grows old (Ok done) new s = keeps_grows old new s.1.keeps
 sync_grows old (Err (Disk fault)) new (inl s) = same_grows old new s.1
-sync_grows old (Err (Disk fault)) new (inr s) = (s.1.keeps.syncs, s.1.keeps.mode)
-sync_grows old (Err Medium) new s = (s.1.syncs, s.1.mode)
+sync_grows old (Err (Disk fault)) new (inr s) = keeps_grows old new s.1.keeps
+sync_grows old (Err Medium) new s = keeps_grows old new s.1
 
-force_grows : (forced : Bool) (old : StoreView) (first : Result (Unit {0}) DiskFault) (result : Result (Unit {0}) StoreFault) (new : StoreView) → Forces forced old first result new → Grows old new
-force_grows forced old (Err fault) result new f = same_grows old new f.1
-force_grows true old (Ok done) result new f = sync_grows old result new f
-force_grows false old (Ok done) result new f = same_grows old new f.1
+force_grows : (forced : Bool) (wanted : Asked) (count : ℕ) (old : StoreView) (first : Result (Unit {0}) DiskFault) (result : Result (Unit {0}) StoreFault) (new : StoreView) → Forces forced wanted count old first result new → Grows old new
+force_grows forced wanted count old (Err fault) result new f = same_grows old new f.1
+force_grows true wanted count old (Ok done) result new f = sync_grows old result new (any_sync wanted count old result new f)
+force_grows false wanted count old (Ok done) result new f = same_grows old new f.1
 
 asked_grows : (old : StoreView) (request : Request) (wanted : Result Asked ErrorCode) (bytes reply : List ℕ) (new : StoreView) → AnswersAsked old request wanted bytes reply new → Grows old new
 asked_grows old request (Err error) bytes reply new a = same_grows old new a.1
 asked_grows old request (Ok wanted) bytes reply new a =
-    grows_again old a.middle new (does_grows old wanted bytes a.answer a.middle a.does) (force_grows _ a.middle a.answer.result a.result new a.forces)
+    grows_again old a.middle new (does_grows old wanted bytes a.answer a.middle a.does) (force_grows _ wanted _ a.middle a.answer.result a.result new a.forces)
 
 rests_grows : (turn : Bool) (old new : StoreView) → RestsBy turn old new → Grows old new
 rests_grows true old new t = call_grows old _ _ new t.calls

@@ -5,7 +5,6 @@ use Rattle.nbd_wire.specs.declared.error_code.ErrorCode.{ErrorCode}
 use Rattle.nbd_wire.specs.declared.error_code.ErrorCode.TheVariants as errors
 use Rattle.nbd_wire.specs.declared.request.Request.{Request}
 use Rattle.zone_translator.specs.Flat.{Answer, known_answer, read}
-use Rattle.zone_translator.specs.View.{disk_array, flat_of}
 use Rattle.zone_translator.specs.declared.fault.DiskFault.{DiskFault}
 use Rattle.nbd_session.specs.declared.asked.Asked.{Asked}
 use Rattle.nbd_session.specs.declared.asked.Asked.TheVariants.{Read, Write, Trim, WriteZeroes, Flush}
@@ -13,13 +12,14 @@ use Rattle.nbd_session.specs.declared.fault.StoreFault.{StoreFault}
 use Rattle.nbd_session.specs.declared.fault.StoreFault.TheVariants.{Disk, Medium}
 use Rattle.nbd_session.specs.Laws.{ReadOnlyKeepsArray}
 use Rattle.nbd_session.specs.Requests.{AnswersAsked, Does, Forces, asked_of, changes_disk, permitted}
-use Rattle.nbd_session.specs.Store.{Rests, RestsBy, StoreView, Syncs}
+use Rattle.nbd_session.specs.Store.{Rests, RestsBy, StoreView, store_array, store_flat}
 use Rattle.nbd_session.proofs.KeptLaws.{IsKept, session_kept}
 use Rattle.nbd_session.proofs.ServedLaws.{read-kept}
+use Rattle.nbd_session.proofs.SyncLaws.{SyncsSome, any_sync}
 
 -- the array of a store that is read only stays, and it is read only still
 abbrev Stays : StoreView → StoreView → Type 0
-Stays old new = old.read_only ≡ true → (disk_array new.disk ≡ disk_array old.disk) × (new.read_only ≡ true)
+Stays old new = old.read_only ≡ true → (store_array new ≡ store_array old) × (new.read_only ≡ true)
 
 same_stays : (old new : StoreView) → new ≡ old → Stays old new
 same_stays old new same read_only = rw same (refl, read_only)
@@ -32,30 +32,30 @@ stays_again a b c first second read_only =
 
 does_stays : (old : StoreView) (wanted : Asked) (bytes : List ℕ) (answer : Answer) (new : StoreView) → changes_disk wanted ≡ false → Does old wanted bytes answer new → Stays old new
 does_stays old (Read first n) bytes answer new harmless c read_only =
-    (read-kept (known_answer (flat_of old.disk) (read first n)) (flat_of old.disk) first n answer answer.result answer.shown (flat_of new.disk) c.calls.flat, c.calls.mode.read_only ∙ read_only)
+    (read-kept (known_answer (store_flat old) (read first n)) (store_flat old) first n answer answer.result answer.shown (store_flat new) c.calls.flat, c.calls.mode.read_only ∙ read_only)
 does_stays old Flush bytes answer new harmless c read_only = same_stays old new c.1 read_only
 does_stays old (Write first) bytes answer new harmless c read_only = absurd (cc harmless)
 does_stays old (Trim first n) bytes answer new harmless c read_only = absurd (cc harmless)
 does_stays old (WriteZeroes first n true) bytes answer new harmless c read_only = absurd (cc harmless)
 does_stays old (WriteZeroes first n false) bytes answer new harmless c read_only = absurd (cc harmless)
 
-sync_stays : (old : StoreView) (result : Result (Unit {0}) StoreFault) (new : StoreView) → Syncs old result new → Stays old new
+sync_stays : (old : StoreView) (result : Result (Unit {0}) StoreFault) (new : StoreView) → SyncsSome old result new → Stays old new
 sync_stays old (Ok done) new s read_only = (s.1.keeps.array, s.1.keeps.mode.read_only ∙ read_only)
 sync_stays old (Err (Disk fault)) new (inl s) read_only = same_stays old new s.1 read_only
 sync_stays old (Err (Disk fault)) new (inr s) read_only = (s.1.keeps.array, s.1.keeps.mode.read_only ∙ read_only)
 sync_stays old (Err Medium) new s read_only = (s.1.array, s.1.mode.read_only ∙ read_only)
 
-force_stays : (forced : Bool) (old : StoreView) (first : Result (Unit {0}) DiskFault) (result : Result (Unit {0}) StoreFault) (new : StoreView) → Forces forced old first result new → Stays old new
-force_stays forced old (Err fault) result new f = same_stays old new f.1
-force_stays true old (Ok done) result new f = sync_stays old result new f
-force_stays false old (Ok done) result new f = same_stays old new f.1
+force_stays : (forced : Bool) (wanted : Asked) (count : ℕ) (old : StoreView) (first : Result (Unit {0}) DiskFault) (result : Result (Unit {0}) StoreFault) (new : StoreView) → Forces forced wanted count old first result new → Stays old new
+force_stays forced wanted count old (Err fault) result new f = same_stays old new f.1
+force_stays true wanted count old (Ok done) result new f = sync_stays old result new (any_sync wanted count old result new f)
+force_stays false wanted count old (Ok done) result new f = same_stays old new f.1
 
 -- what is asked of a store that is read only is refused, or does not change the disk
 chosen_stays : (old : StoreView) (request : Request) (wanted : Asked) (bytes reply : List ℕ) (new : StoreView) (changes : Bool) → changes_disk wanted ≡ changes
     → AnswersAsked old request (if changes then Err errors.NotPermitted else Ok wanted) bytes reply new → Stays old new
 chosen_stays old request wanted bytes reply new true e a = same_stays old new a.1
 chosen_stays old request wanted bytes reply new false e a =
-    stays_again old a.middle new (does_stays old wanted bytes a.answer a.middle e a.does) (force_stays _ a.middle a.answer.result a.result new a.forces)
+    stays_again old a.middle new (does_stays old wanted bytes a.answer a.middle e a.does) (force_stays _ wanted _ a.middle a.answer.result a.result new a.forces)
 
 asked_stays : (old : StoreView) (request : Request) (read_only : Bool) (wanted : Result Asked ErrorCode) (bytes reply : List ℕ) (new : StoreView) → old.read_only ≡ read_only
     → AnswersAsked old request (permitted read_only wanted) bytes reply new → Stays old new

@@ -21,9 +21,10 @@ use Rattle.nbd_session.specs.declared.fault.StoreFault.TheVariants.{Disk, Medium
 use Rattle.nbd_session.specs.Laws.{FlushIsSafe, IsSafe, LeftIsFound, SessionKeepsSafe}
 use Rattle.nbd_session.specs.Requests.{AnswersAsked, Does, Forces, asked_of_store}
 use Rattle.nbd_session.specs.Served.{array_with}
-use Rattle.nbd_session.specs.Store.{Calls, KeepsBySync, RestsBy, StoreView, Syncs}
+use Rattle.nbd_session.specs.Store.{Calls, KeepsBySync, RestsBy, StoreView}
 use Rattle.nbd_session.proofs.KeptLaws.{IsKept, session_kept}
 use Rattle.nbd_session.proofs.ServedLaws.{map_contains}
+use Rattle.nbd_session.proofs.SyncLaws.{SyncsSome, any_sync}
 
 -- ---- a disk
 
@@ -89,7 +90,7 @@ same-sound : (old new : StoreView) → new ≡ old → StaysSound old new
 same-sound old new same sound = rw same sound
 
 call-sound : (old : StoreView) (call : Call) (answer : Answer) (new : StoreView) → Calls old call answer new → StaysSound old new
-call-sound old call answer new c = same-safe old.disk new.disk c.kept c.durable
+call-sound old call answer new c = λ sound. same-safe old.disk new.disk (c.kept.mounted sound.0.mountable) c.durable sound
 
 does-sound : (old : StoreView) (wanted : Asked) (bytes : List ℕ) (answer : Answer) (new : StoreView) → Does old wanted bytes answer new → StaysSound old new
 does-sound old (Write first) bytes answer new (inl w) = call-sound old _ answer new w.calls
@@ -103,21 +104,21 @@ does-sound old Flush bytes answer new c = same-sound old new c.1
 keeps-sound : (old new : StoreView) → KeepsBySync old new → StaysSound old new
 keeps-sound old new k = λ sound. may-safe old.disk new.disk (k.kept.mounted sound.0.mountable) k.durable sound
 
-sync-sound : (old : StoreView) (result : Result (Unit {0}) StoreFault) (new : StoreView) → Syncs old result new → StaysSound old new
+sync-sound : (old : StoreView) (result : Result (Unit {0}) StoreFault) (new : StoreView) → SyncsSome old result new → StaysSound old new
 sync-sound old (Ok done) new s = keeps-sound old new s.1.keeps
 sync-sound old (Err (Disk fault)) new (inl s) = same-sound old new s.1
 sync-sound old (Err (Disk fault)) new (inr s) = keeps-sound old new s.1.keeps
 sync-sound old (Err Medium) new s = keeps-sound old new s.1
 
-force-sound : (forced : Bool) (old : StoreView) (first : Result (Unit {0}) DiskFault) (result : Result (Unit {0}) StoreFault) (new : StoreView) → Forces forced old first result new → StaysSound old new
-force-sound forced old (Err fault) result new f = same-sound old new f.1
-force-sound true old (Ok done) result new f = sync-sound old result new f
-force-sound false old (Ok done) result new f = same-sound old new f.1
+force-sound : (forced : Bool) (wanted : Asked) (count : ℕ) (old : StoreView) (first : Result (Unit {0}) DiskFault) (result : Result (Unit {0}) StoreFault) (new : StoreView) → Forces forced wanted count old first result new → StaysSound old new
+force-sound forced wanted count old (Err fault) result new f = same-sound old new f.1
+force-sound true wanted count old (Ok done) result new f = sync-sound old result new (any_sync wanted count old result new f)
+force-sound false wanted count old (Ok done) result new f = same-sound old new f.1
 
 asked-sound : (old : StoreView) (request : Request) (wanted : Result Asked ErrorCode) (bytes reply : List ℕ) (new : StoreView) → AnswersAsked old request wanted bytes reply new → StaysSound old new
 asked-sound old request (Err error) bytes reply new a = same-sound old new a.1
 asked-sound old request (Ok wanted) bytes reply new a =
-    λ sound. force-sound _ a.middle a.answer.result a.result new a.forces (does-sound old wanted bytes a.answer a.middle a.does sound)
+    λ sound. force-sound _ wanted _ a.middle a.answer.result a.result new a.forces (does-sound old wanted bytes a.answer a.middle a.does sound)
 
 rests-sound : (turn : Bool) (old new : StoreView) → RestsBy turn old new → StaysSound old new
 rests-sound true old new t = call-sound old _ _ new t.calls

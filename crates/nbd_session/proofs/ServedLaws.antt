@@ -1,19 +1,27 @@
 -- What a disk that is served gives, as a store: its calls, its turns and its syncs.
 use Rattle.std.proofs.Common.{◌≡◌, ℕ, zero, suc, ◌<◌, ◌≤◌, List, [], ◌∷◌, length, map, None, Some, Ok, Err, true, false, refl, sym, ap, ◌∙◌, inl, inr, arith}
 use Rattle.std.specs.Prelude.{◌⊎◌, Bool, Contains, MatchOption, Option, Result}
+use Rattle.std.specs.Int.{div_ceil}
+use Rattle.std.proofs.Math.Nat.{div-zero, mod-le}
 use Rattle.std.proofs.lemmas.List.{take_all}
+use Rattle.std.proofs.lemmas.Nat.{mul-le}
 use Rattle.zone_states.specs.Zone.{Zone}
 use Rattle.drive_port.specs.Drive.{DriveState}
 use Rattle.drive_port.specs.Durable.{IsDurable, MayBeDurable}
 use Rattle.drive_port.specs.Run.{restarted_zone}
 use Rattle.drive_port.proofs.ClosingLaws.{contents-restarted}
+use Rattle.drive_array.specs.Reserve.{batch_most}
+use Rattle.drive_array.proofs.ReserveLaws.{div_ceil-le}
 use Rattle.zone_translator.proofs.KeepingLaws.{keeps_call, keeps_same}
 use Rattle.zone_translator.specs.Answers.{Answers, AnswersRead, CostsAtMost, Stores, TakesTurn, write_commands}
-use Rattle.zone_translator.specs.Flat.{Answer, Begun, FlatDisk, IsFront, answer_while, flush, idle, known_answer, read, replaced, with_nothing, write}
+use Rattle.zone_translator.specs.Changes.{batch_commands}
+use Rattle.zone_translator.specs.Flat.{Answer, Begun, Call, FlatDisk, IsFront, answer_while, flush, grow, idle, known_answer, may_refuse, read, replaced, report, status_after, with_nothing, write}
 use Rattle.zone_translator.specs.View.{CompletesAtMost, DiskView, KeepsDisk, disk_array, disk_turns, flat_of, given_size}
 use Rattle.zone_translator.specs.declared.fault.DiskFault.{DiskFault}
 use Rattle.nbd_session.specs.Served.{array_with, since_of}
-use Rattle.nbd_session.specs.Store.{FailsFlush, Hardens, KeepsBySync, Rests, Shows, StoreView, Writes}
+use Rattle.nbd_session.specs.Pending.{Pending}
+use Rattle.nbd_session.specs.Store.{CallsDisk, ComesFrom, FailsSync, Hardens, IsMoment, IsPart, IsTorn, KeepsBySync, Rests, Shows, StoreView, Writes}
+use Rattle.nbd_session.proofs.PendingLaws.{front-torn, in-none, same-torn}
 
 -- the only element of a list
 only : {X : Type 0} (a x : X) → Contains (a ∷ []) x → a ≡ x
@@ -62,6 +70,34 @@ since-call true old new Moment kept durable now array found = inl (rw (since-sam
 since-call false old new Moment kept durable (inl same) array found = inl (contains-only (disk_array old) array (sym same ∙ only (disk_array new) array found))
 since-call false old new Moment kept durable (inr moment) array found = inr (rw (only (disk_array new) array found) at moment)
 
+-- a part of a call may be nothing
+part-none : (call : Call) (array : List (List ℕ)) → IsPart call array array
+part-none (read first n) array = refl
+part-none (write first blocks) array = same-torn array first blocks array refl
+part-none (grow size) array = refl
+part-none flush array = refl
+part-none idle array = refl
+part-none report array = refl
+
+-- the same of every store: what was left before, with a part of the call
+since-part : (flushes : Bool) (old new : DiskView) (call : Call) → KeepsDisk old new → new.drive.durable ≡ old.drive.durable → IsPart call (disk_array old) (disk_array new)
+    → (array : List (List ℕ)) → Contains (since_of flushes new) array → ComesFrom (since_of flushes old) call array
+since-part true old new call kept durable part array found = record {
+  before = array;
+  was = rw (since-same old new kept.geometry kept.given durable) at found;
+  part = part-none call array;
+}
+since-part false old new call kept durable part array found = record {
+  before = disk_array old;
+  was = contains-only (disk_array old) (disk_array old) refl;
+  part = rw (only (disk_array new) array found) at part;
+}
+
+-- a write that was done in part
+moment-part : (first : ℕ) (blocks old new : List (List ℕ)) → (new ≡ old) ⊎ IsFront old first blocks new → IsTorn old first blocks new
+moment-part first blocks old new (inl same) = same-torn old first blocks new same
+moment-part first blocks old new (inr front) = front-torn old first blocks new front
+
 -- the zones as they are hold the array of the disk
 array-now : (disk : DiskView) (zones : List Zone) → zones ≡ map restarted_zone disk.drive.zones → array_with disk zones ≡ disk_array disk
 array-now disk zones is = rw (is, contents-restarted disk.drive.zones) refl
@@ -71,25 +107,48 @@ array-now disk zones is = rw (is, contents-restarted disk.drive.zones) refl
 -- a store that serves this disk
 abbrev pub served : DiskView → ℕ → Bool → Bool → Bool → StoreView
 served disk syncs read_only cleans flushes =
-    record { disk = disk; since = since_of flushes disk; syncs = syncs; read_only = read_only; cleans = cleans; flushes = flushes }
+    record { disk = disk; pending = []; since = since_of flushes disk; syncs = syncs; read_only = read_only; cleans = cleans; flushes = flushes; defers = false }
+
+-- a call of the disk goes through
+through-disk : (old new : DiskView) (syncs : ℕ) (read_only cleans flushes : Bool) (call : Call) → KeepsDisk old new
+    → ((array : List (List ℕ)) → Contains (since_of flushes new) array → Contains (since_of flushes old) array ⊎ IsMoment (flat_of old) call array)
+    → CallsDisk (served old syncs read_only cleans flushes) call (served new syncs read_only cleans flushes)
+through-disk old new syncs read_only cleans flushes call kept since = record { kept = kept; since = since }
+
+-- at most as many batches are written as blocks
+few-batches : (n most : ℕ) → div_ceil n most ≤ n
+few-batches n zero = omega (arith, div-zero n, mod-le n zero)
+few-batches n (suc k) = div_ceil-le n (suc k) n (omega arith) (omega (arith, mul-le n 1 n (suc k) (omega arith) (omega arith)))
+
+few-commands : (is_trim : Bool) (disk : DiskView) (n : ℕ) → write_commands is_trim disk n ≤ write_commands false disk n
+few-commands false disk n = omega arith
+few-commands true disk n =
+    let each = batch_commands disk.drive.geometry in
+    mul-le (div_ceil n (batch_most disk.drive.geometry)) each n each (few-batches n (batch_most disk.drive.geometry)) (omega arith)
 
 -- a write of the disk is a write of the store
 pub write_called : (is_trim : Bool) (old new : DiskView) (syncs : ℕ) (read_only cleans flushes : Bool) (first : ℕ) (blocks : List (List ℕ)) (n : ℕ) (result : Result (Unit {0}) DiskFault) → Answers old (write first blocks) result new
     → Stores is_trim old first n result new → CostsAtMost old (write_commands is_trim old n) result new
     → Writes is_trim (served old syncs read_only cleans flushes) (write first blocks) first n (with_nothing result) (served new syncs read_only cleans flushes)
-write_called is_trim old new syncs read_only cleans flushes first blocks n result a stores costs = record {
-  calls = record {
-    flat = a.flat;
-    kept = a.kept;
-    durable = a.durable;
-    cause = a.cause;
-    since = since-call flushes old new (IsFront (disk_array old) first blocks) a.kept a.durable (moment-by (known_answer (flat_of old) (write first blocks)) (flat_of old) first blocks result (flat_of new) a.flat);
-    syncs = refl;
-    mode = record { read_only = refl; cleans = refl; flushes = refl };
-  };
-  stores = stores;
-  costs = costs;
-}
+write_called is_trim old new syncs read_only cleans flushes first blocks n result a stores costs =
+    let moment = moment-by (known_answer (flat_of old) (write first blocks)) (flat_of old) first blocks result (flat_of new) a.flat in
+    record {
+      calls = record {
+        flat = a.flat;
+        kept = keeps_call old new a.kept;
+        durable = a.durable;
+        cause = a.cause;
+        since = since-part flushes old new (write first blocks) a.kept a.durable (moment-part first blocks (disk_array old) (disk_array new) moment);
+        pending = λ w found. absurd (in-none w found);
+        none = λ prompt. refl;
+        syncs = refl;
+        mode = record { read_only = refl; cleans = refl; flushes = refl; defers = refl };
+        through = λ none. through-disk old new syncs read_only cleans flushes (write first blocks) a.kept (since-call flushes old new (IsFront (disk_array old) first blocks) a.kept a.durable moment);
+      };
+      turns = costs.turns;
+      due = omega (arith, costs.completed, few-commands is_trim old n);
+      through = λ none. record { stores = stores; costs = costs };
+    }
 
 -- the array after a turn of cleaning is the old one
 turn-kept : (known : Option (Result (Unit {0}) DiskFault)) (old : FlatDisk) (result : Result (Unit {0}) DiskFault) (new : FlatDisk)
@@ -101,20 +160,26 @@ turn-kept None old (Err fault) new c = c.2
 -- a turn of the disk is a turn of the store
 pub turn_taken : (old new : DiskView) (syncs : ℕ) (flushes : Bool) (result : Result (Unit {0}) DiskFault) → Answers old idle result new → TakesTurn old result new → CompletesAtMost old 2 new
     → Rests (served old syncs false true flushes) (served new syncs false true flushes)
-turn_taken old new syncs flushes result a turn completed = record {
-  result = result;
-  calls = record {
-    flat = a.flat;
-    kept = a.kept;
-    durable = a.durable;
-    cause = a.cause;
-    since = since-call flushes old new (λ array. array ≡ disk_array old) a.kept a.durable (inr (turn-kept (known_answer (flat_of old) idle) (flat_of old) result (flat_of new) a.flat));
-    syncs = refl;
-    mode = record { read_only = refl; cleans = refl; flushes = refl };
-  };
-  turn = turn;
-  completed = completed;
-}
+turn_taken old new syncs flushes result a turn completed =
+    let same = turn-kept (known_answer (flat_of old) idle) (flat_of old) result (flat_of new) a.flat in
+    record {
+      result = result;
+      calls = record {
+        flat = a.flat;
+        kept = keeps_call old new a.kept;
+        durable = a.durable;
+        cause = a.cause;
+        since = since-part flushes old new idle a.kept a.durable same;
+        pending = λ w found. absurd (in-none w found);
+        none = λ prompt. refl;
+        syncs = refl;
+        mode = record { read_only = refl; cleans = refl; flushes = refl; defers = refl };
+        through = λ none. through-disk old new syncs false true flushes idle a.kept (since-call flushes old new (λ array. array ≡ disk_array old) a.kept a.durable (inr same));
+      };
+      turn = turn;
+      completed = completed;
+      pending = refl;
+    }
 
 -- a read leaves the array, done or refused
 pub read-kept : (known : Option (Result (Unit {0}) DiskFault)) (old : FlatDisk) (first n : ℕ) (answer : Answer) (result : Result (Unit {0}) DiskFault) (shown : List (List ℕ)) (new : FlatDisk)
@@ -126,24 +191,29 @@ read-kept None old first n answer (Err fault) shown new c = c.2
 -- a read of the disk is a read of the store
 pub read_called : (old new : DiskView) (syncs : ℕ) (read_only cleans flushes : Bool) (first n : ℕ) (result : Result (Unit {0}) DiskFault) (bytes : List ℕ) → AnswersRead old first n result bytes new
     → disk_turns new ≡ disk_turns old → CompletesAtMost old n new → Shows (served old syncs read_only cleans flushes) first n result bytes (served new syncs read_only cleans flushes)
-read_called old new syncs read_only cleans flushes first n result bytes a turns completed = record {
-  shown = a.flat.shown;
-  reads = record {
-    calls = record {
-      flat = a.flat.flat;
-      kept = a.kept;
-      durable = a.durable;
-      cause = a.cause;
-      since = since-call flushes old new (λ array. array ≡ disk_array old) a.kept a.durable
-          (inr (read-kept (known_answer (flat_of old) (read first n)) (flat_of old) first n _ result a.flat.shown (flat_of new) a.flat.flat));
-      syncs = refl;
-      mode = record { read_only = refl; cleans = refl; flushes = refl };
-    };
-    turns = turns;
-    completed = completed;
-  };
-  bytes_are = a.flat.bytes_are;
-}
+read_called old new syncs read_only cleans flushes first n result bytes a turns completed =
+    let same = read-kept (known_answer (flat_of old) (read first n)) (flat_of old) first n _ result a.flat.shown (flat_of new) a.flat.flat in
+    record {
+      shown = a.flat.shown;
+      reads = record {
+        calls = record {
+          flat = a.flat.flat;
+          kept = keeps_call old new a.kept;
+          durable = a.durable;
+          cause = a.cause;
+          since = since-part flushes old new (read first n) a.kept a.durable same;
+          pending = λ w found. absurd (in-none w found);
+          none = λ prompt. refl;
+          syncs = refl;
+          mode = record { read_only = refl; cleans = refl; flushes = refl; defers = refl };
+          through = λ none. through-disk old new syncs read_only cleans flushes (read first n) a.kept (since-call flushes old new (λ array. array ≡ disk_array old) a.kept a.durable (inr same));
+        };
+        turns = turns;
+        completed = completed;
+        pending = refl;
+      };
+      bytes_are = a.flat.bytes_are;
+    }
 
 -- ---- syncs of a disk that is not flushed
 
@@ -154,20 +224,23 @@ silent_keeps disk syncs more read_only cleans grows = record {
   array = refl;
   kept = keeps_same disk;
   durable = λ zones left. inl left;
-  turns = refl;
+  turns = λ none. refl;
   completed = omega arith;
+  pending = λ w found. found;
   since = λ array found. inl found;
   syncs = grows;
-  mode = record { read_only = refl; cleans = refl; flushes = refl };
-  silent = λ off. record { disk = refl; since = λ array found. found };
+  mode = record { read_only = refl; cleans = refl; flushes = refl; defers = refl };
+  silent = λ off none. record { disk = refl; since = λ array found. found };
 }
 
 pub silent_hardens : (disk : DiskView) (syncs more : ℕ) (read_only cleans : Bool) → syncs < more
-    → Hardens (served disk syncs read_only cleans false) (served disk more read_only cleans false)
+    → Hardens (λ (pending : List Pending). pending ≡ []) (served disk syncs read_only cleans false) (served disk more read_only cleans false)
 silent_hardens disk syncs more read_only cleans grows = record {
   keeps = silent_keeps disk syncs more read_only cleans (omega (arith, grows));
   flat = refl;
+  turns = omega arith;
   more = grows;
+  done = refl;
   since = λ array found. sym (only (disk_array disk) array found);
 }
 
@@ -179,13 +252,13 @@ flat-done (Some r) old new none c = absurd (cc none)
 flat-done None old new none c = c.1
 
 -- a loss of power leaves what it could before, or the array
-since-flushed : (old new : DiskView) → KeepsDisk old new → disk_array new ≡ disk_array old → MayBeDurable old.drive new.drive
-    → (array : List (List ℕ)) → Contains (since_of true new) array → Contains (since_of true old) array ⊎ (array ≡ disk_array old)
-since-flushed old new kept same may array found =
+since-flushed : (old new : DiskView) → KeepsDisk old new → MayBeDurable old.drive new.drive
+    → (array : List (List ℕ)) → Contains (since_of true new) array → Contains (since_of true old) array ⊎ (array ≡ disk_array new)
+since-flushed old new kept may array found =
     let from = contains-mapped (array_with new) new.drive.durable array found in
     elim (may from.0 from.1) [
       | inl before ↦ inl (contains-map old new kept from.0 array before from.2)
-      | inr now ↦ inr (sym from.2 ∙ array-now new from.0 now ∙ same)
+      | inr now ↦ inr (sym from.2 ∙ array-now new from.0 now)
     ]
   where
     contains-map : (old new : DiskView) → KeepsDisk old new → (zones : List Zone) (array : List (List ℕ)) → Contains old.drive.durable zones → array_with new zones ≡ array → Contains (since_of true old) array
@@ -201,12 +274,13 @@ flush_keeps old new syncs more read_only cleans array kept durable turns complet
   array = array;
   kept = keeps_call old new kept;
   durable = durable;
-  turns = turns;
-  completed = completed;
-  since = since-flushed old new kept array durable;
+  turns = λ none. turns;
+  completed = omega (arith, completed);
+  pending = λ w found. found;
+  since = since-flushed old new kept durable;
   syncs = grows;
-  mode = record { read_only = refl; cleans = refl; flushes = refl };
-  silent = λ off. absurd (cc off);
+  mode = record { read_only = refl; cleans = refl; flushes = refl; defers = refl };
+  silent = λ off none. absurd (cc off);
 }
 
 -- what is durable after a flush is the zones as they are
@@ -221,30 +295,36 @@ flush_done old new syncs more read_only cleans serves a turns completed grows =
     (flush_keeps old new syncs more read_only cleans (ap (λ (d : FlatDisk). d.array) flat) a.kept (may-be old.drive new.drive a.durable) turns completed grows, flat)
 
 pub flush_hardens : (old new : DiskView) (syncs more : ℕ) (read_only cleans : Bool) → answer_while old.status ≡ None → Answers old flush (Ok tt) new → disk_turns new ≡ disk_turns old → CompletesAtMost old 1 new → syncs < more
-    → Hardens (served old syncs read_only cleans true) (served new more read_only cleans true)
+    → Hardens (λ (pending : List Pending). pending ≡ []) (served old syncs read_only cleans true) (served new more read_only cleans true)
 flush_hardens old new syncs more read_only cleans serves a turns completed grows =
     let done = flush_done old new syncs more read_only cleans serves a turns completed (omega (arith, grows)) in
     record {
       keeps = done.0;
       flat = done.1;
+      turns = omega (arith, turns);
       more = grows;
+      done = refl;
       since = λ array found.
           (let from = contains-mapped (array_with new) new.drive.durable array found in
-          sym from.2 ∙ array-now new from.0 (a.durable from.0 from.1) ∙ done.0.array);
+          sym from.2 ∙ array-now new from.0 (a.durable from.0 from.1));
     }
 
--- the array after a flush that was not done
-flush-kept : (known : Option (Result (Unit {0}) DiskFault)) (old : FlatDisk) (fault : DiskFault) (new : FlatDisk)
-    → MatchOption known (Begun old flush (Err fault) [] new) (λ r. (with_nothing (Err fault) ≡ with_nothing r) × (new ≡ old)) → new.array ≡ old.array
-flush-kept (Some r) old fault new c = ap (λ (d : FlatDisk). d.array) c.1
-flush-kept None old fault new c = c.2
+-- the disk after a flush that was not done
+flat-fails : (known : Option (Result (Unit {0}) DiskFault)) (old : FlatDisk) (fault : DiskFault) (new : FlatDisk) → known ≡ None
+    → MatchOption known (Begun old flush (Err fault) [] new) (λ r. (with_nothing (Err fault) ≡ with_nothing r) × (new ≡ old))
+    → (may_refuse flush fault ≡ true) × (new ≡ record old { status = status_after (Err fault) })
+flat-fails (Some r) old fault new none c = absurd (cc none)
+flat-fails None old fault new none c = (c.0, c.3 ∙ ap (λ (a : List (List ℕ)). record old { array = a; status = status_after (Err fault) }) c.2)
 
 -- a flush that was not done
-pub flush_fails : (old new : DiskView) (syncs : ℕ) (read_only cleans : Bool) (fault : DiskFault) → Answers old flush (Err fault) new → disk_turns new ≡ disk_turns old → CompletesAtMost old 1 new
-    → FailsFlush (served old syncs read_only cleans true) fault (served new syncs read_only cleans true)
-flush_fails old new syncs read_only cleans fault a turns completed = record {
-  keeps = flush_keeps old new syncs syncs read_only cleans (flush-kept (known_answer (flat_of old) flush) (flat_of old) fault (flat_of new) a.flat) a.kept a.durable turns completed (omega arith);
-  flushes = refl;
-  flat = a.flat;
-  cause = a.cause;
-}
+pub flush_fails : (old new : DiskView) (syncs : ℕ) (read_only cleans : Bool) (fault : DiskFault) → answer_while old.status ≡ None → Answers old flush (Err fault) new → disk_turns new ≡ disk_turns old → CompletesAtMost old 1 new
+    → FailsSync (served old syncs read_only cleans true) fault (served new syncs read_only cleans true)
+flush_fails old new syncs read_only cleans fault serves a turns completed =
+    let fails = flat-fails (known_answer (flat_of old) flush) (flat_of old) fault (flat_of new) serves a.flat in
+    record {
+      keeps = flush_keeps old new syncs syncs read_only cleans (ap (λ (d : FlatDisk). d.array) fails.1) a.kept a.durable turns completed (omega arith);
+      flushes = λ none. refl;
+      may = fails.0;
+      flat = fails.1;
+      cause = a.cause;
+    }

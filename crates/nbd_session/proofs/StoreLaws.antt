@@ -3,7 +3,7 @@ use Rattle.std.proofs.Common.{◌≡◌, ℕ, List, Ok, Err, true, false, inl, i
 use Rattle.std.specs.Prelude.{Bool, ◌&&◌, not, Result}
 use Rattle.nbd_wire.specs.declared.error_code.ErrorCode.{ErrorCode}
 use Rattle.nbd_wire.specs.declared.request.Request.{Request}
-use Rattle.zone_translator.proofs.KeepingLaws.{keeps_again, keeps_call, keeps_same}
+use Rattle.zone_translator.proofs.KeepingLaws.{keeps_again, keeps_same}
 use Rattle.zone_translator.specs.Flat.{Answer, Call}
 use Rattle.zone_translator.specs.Keeping.{KeepsServed}
 use Rattle.zone_translator.specs.declared.fault.DiskFault.{DiskFault}
@@ -14,10 +14,11 @@ use Rattle.nbd_session.specs.declared.fault.StoreFault.{StoreFault}
 use Rattle.nbd_session.specs.declared.fault.StoreFault.TheVariants.{Disk, Medium}
 use Rattle.nbd_session.specs.Requests.{AnswersAsked, Does, Forces, asked_of_store}
 use Rattle.nbd_session.specs.Session.{Session}
-use Rattle.nbd_session.specs.Store.{Calls, RestsBy, StoreView, Syncs, Writes}
+use Rattle.nbd_session.specs.Store.{Calls, RestsBy, StoreView, Writes}
 use Rattle.nbd_session.specs.Streams.{Streams}
 use Rattle.nbd_session.specs.Turns.{Serves}
 use Rattle.nbd_session.proofs.KeptLaws.{IsKept, session_kept}
+use Rattle.nbd_session.proofs.SyncLaws.{SyncsSome, any_sync}
 
 abbrev KeepsStore : StoreView → StoreView → Type 0
 KeepsStore old new = KeepsServed old.disk new.disk
@@ -26,7 +27,7 @@ same_keeps : (old new : StoreView) → new ≡ old → KeepsStore old new
 same_keeps old new same = rw same (keeps_same old.disk)
 
 call_keeps : (old : StoreView) (call : Call) (answer : Answer) (new : StoreView) → Calls old call answer new → KeepsStore old new
-call_keeps old call answer new c = keeps_call old.disk new.disk c.kept
+call_keeps old call answer new c = c.kept
 
 write_keeps : (is_trim : Bool) (old : StoreView) (call : Call) (first n : ℕ) (answer : Answer) (new : StoreView) → Writes is_trim old call first n answer new → KeepsStore old new
 write_keeps is_trim old call first n answer new w = call_keeps old call answer new w.calls
@@ -41,21 +42,21 @@ does_keeps old (WriteZeroes first n true) bytes answer new w = write_keeps true 
 does_keeps old (WriteZeroes first n false) bytes answer new w = write_keeps false old _ first n answer new w
 does_keeps old Flush bytes answer new c = same_keeps old new c.1
 
-sync_keeps : (old : StoreView) (result : Result (Unit {0}) StoreFault) (new : StoreView) → Syncs old result new → KeepsStore old new
+sync_keeps : (old : StoreView) (result : Result (Unit {0}) StoreFault) (new : StoreView) → SyncsSome old result new → KeepsStore old new
 sync_keeps old (Ok done) new s = s.1.keeps.kept
 sync_keeps old (Err (Disk fault)) new (inl s) = same_keeps old new s.1
 sync_keeps old (Err (Disk fault)) new (inr s) = s.1.keeps.kept
 sync_keeps old (Err Medium) new s = s.1.kept
 
-force_keeps : (forced : Bool) (old : StoreView) (first : Result (Unit {0}) DiskFault) (result : Result (Unit {0}) StoreFault) (new : StoreView) → Forces forced old first result new → KeepsStore old new
-force_keeps forced old (Err fault) result new f = same_keeps old new f.1
-force_keeps true old (Ok done) result new f = sync_keeps old result new f
-force_keeps false old (Ok done) result new f = same_keeps old new f.1
+force_keeps : (forced : Bool) (wanted : Asked) (count : ℕ) (old : StoreView) (first : Result (Unit {0}) DiskFault) (result : Result (Unit {0}) StoreFault) (new : StoreView) → Forces forced wanted count old first result new → KeepsStore old new
+force_keeps forced wanted count old (Err fault) result new f = same_keeps old new f.1
+force_keeps true wanted count old (Ok done) result new f = sync_keeps old result new (any_sync wanted count old result new f)
+force_keeps false wanted count old (Ok done) result new f = same_keeps old new f.1
 
 asked_keeps : (old : StoreView) (request : Request) (wanted : Result Asked ErrorCode) (bytes reply : List ℕ) (new : StoreView) → AnswersAsked old request wanted bytes reply new → KeepsStore old new
 asked_keeps old request (Err error) bytes reply new a = same_keeps old new a.1
 asked_keeps old request (Ok wanted) bytes reply new a =
-    keeps_again old.disk a.middle.disk new.disk (does_keeps old wanted bytes a.answer a.middle a.does) (force_keeps _ a.middle a.answer.result a.result new a.forces)
+    keeps_again old.disk a.middle.disk new.disk (does_keeps old wanted bytes a.answer a.middle a.does) (force_keeps _ wanted _ a.middle a.answer.result a.result new a.forces)
 
 rests_keeps : (turn : Bool) (old new : StoreView) → RestsBy turn old new → KeepsStore old new
 rests_keeps true old new t = call_keeps old _ _ new t.calls

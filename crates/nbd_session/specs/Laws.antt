@@ -1,5 +1,5 @@
 -- What a client may rely on.
-use Rattle.std.specs.Prelude.{◌≡◌, ℕ, ◌<◌, ◌≤◌, true, List, ◌++◌, Contains, Ok, Result}
+use Rattle.std.specs.Prelude.{◌≡◌, ℕ, ◌+◌, ◌/◌, ◌<◌, ◌≤◌, true, false, List, [], ◌++◌, slice_index_or, Contains, Ok, Result}
 use Rattle.nbd_wire.specs.Transmission.{simple_reply_bytes}
 use Rattle.nbd_wire.specs.declared.error_code.ErrorCode.TheVariants.{Success}
 use Rattle.nbd_wire.specs.declared.request.Request.{Request}
@@ -12,33 +12,54 @@ use Rattle.zone_translator.specs.Laws.{CanMountAgain}
 use Rattle.zone_translator.specs.Mount.{MountsDisk}
 use Rattle.zone_translator.specs.View.{DiskView, disk_array, given_size}
 use Rattle.nbd_session.specs.declared.asked.Asked.{Asked}
+use Rattle.nbd_session.specs.declared.asked.Asked.TheVariants.{Read, Write, Trim, WriteZeroes, Flush}
 use Rattle.nbd_session.specs.declared.fault.SessionFault.{SessionFault}
-use Rattle.nbd_session.specs.Requests.{DoesAndReplies, is_forced}
+use Rattle.nbd_session.specs.Requests.{DoesAndReplies, data_length, is_forced}
 use Rattle.nbd_session.specs.Served.{since_of}
 use Rattle.nbd_session.specs.Session.{Session}
-use Rattle.nbd_session.specs.Store.{KeepsMode, StoreView}
+use Rattle.nbd_session.specs.Store.{KeepsMode, StoreView, store_array}
 use Rattle.nbd_session.specs.Streams.{Streams}
 use Rattle.nbd_session.specs.Turns.{Serves}
 
+-- n blocks from a given one on are in one array as in another
+abbrev pub AgreeOn : ℕ → ℕ → List (List ℕ) → List (List ℕ) → Type 0
+AgreeOn first n left array = (place : ℕ) → first ≤ place → place < first + n → slice_index_or left place [] ≡ slice_index_or array place []
+
+-- An array has what was asked to be durable of a store: after a FLUSH the whole array, and after another request the
+-- blocks that it named. That many bytes of data came with it.
+abbrev pub HasAsked : Asked → ℕ → StoreView → List (List ℕ) → Type 0
+HasAsked Flush count store left = left ≡ store_array store
+HasAsked (Write first) count store left = AgreeOn first (count / store.disk.drive.geometry.block) left (store_array store)
+HasAsked (Read first n) count store left = AgreeOn first n left (store_array store)
+HasAsked (Trim first n) count store left = AgreeOn first n left (store_array store)
+HasAsked (WriteZeroes first n hole) count store left = AgreeOn first n left (store_array store)
+
+-- What a loss of power leaves then: what was asked to be durable and, if nothing is pending, the whole array. Above a
+-- served disk nothing is.
+pub record IsLeft (wanted : Asked) (count : ℕ) (store : StoreView) (left : List (List ℕ)) : Type 0 where
+  pub asked : HasAsked wanted count store left
+  pub whole : store.pending ≡ [] → left ≡ store_array store
+
 -- A FLUSH, or a write with FUA, has a reply that says success. Then a sync was completed after what was asked was done,
--- and a loss of power leaves the array as it is.
+-- and a loss of power leaves what was asked as it is.
 abbrev pub ForcedIsDurable : Type 0
 ForcedIsDurable =
     (old new : StoreView) (request : Request) (wanted : Asked) (bytes reply shown : List ℕ) → (answered : DoesAndReplies old request wanted bytes reply new)
     → is_forced wanted request ≡ true → reply ≡ simple_reply_bytes Success request.cookie ++ shown
-    → (answered.middle.syncs < new.syncs) × ((array : List (List ℕ)) → Contains new.since array → array ≡ disk_array new.disk)
+    → (answered.middle.syncs < new.syncs) × ((left : List (List ℕ)) → Contains new.since left → IsLeft wanted (data_length request) new left)
 
 -- Whatever a client sends to a store that is read only, and whatever ends the session: the array is as it was, and the store still read only.
 abbrev pub ReadOnlyKeepsArray : Type 0
 ReadOnlyKeepsArray =
     (bytes : Streams) (old : Session) (ended : Result (Unit {0}) SessionFault) (new : StoreView) → Serves bytes old ended new
-    → old.store.read_only ≡ true → (disk_array new.disk ≡ disk_array old.store.disk) × (new.read_only ≡ true)
+    → old.store.read_only ≡ true → (store_array new ≡ store_array old.store) × (new.read_only ≡ true)
 
--- Whatever a client sends, and whatever ends the session: no sync is forgotten, and the store is read only, and cleans, as before.
+-- Whatever a client sends, and whatever ends the session: no sync is forgotten, and the store is read only, and
+-- cleans, as before. Nothing is pending above a store that does not defer.
 abbrev pub SessionKeepsMode : Type 0
 SessionKeepsMode =
     (bytes : Streams) (old : Session) (ended : Result (Unit {0}) SessionFault) (new : StoreView) → Serves bytes old ended new
-    → (old.store.syncs ≤ new.syncs) × KeepsMode old.store new
+    → (old.store.syncs ≤ new.syncs) × KeepsMode old.store new × (old.store.defers ≡ false → old.store.pending ≡ [] → new.pending ≡ [])
 
 -- ---- a loss of power
 

@@ -1,3 +1,4 @@
+pub mod Pending
 pub mod Store
 pub mod Streams
 pub mod Requests

@@ -20,7 +20,7 @@ use Rattle.nbd_session.specs.declared.fault.SessionFault.{SessionFault}
 use Rattle.nbd_session.specs.declared.fault.SessionFault.TheVariants.{Input}
 use Rattle.nbd_session.specs.declared.fault.StoreFault.{StoreFault}
 use Rattle.nbd_session.specs.declared.fault.StoreFault.TheVariants.{Disk, Medium}
-use Rattle.nbd_session.specs.Store.{ReadsBlocks, StoreView, Syncs, Trims, WritesBytes, WritesZeros}
+use Rattle.nbd_session.specs.Store.{ForcesBlocks, ReadsBlocks, StoreView, Syncs, Trims, WritesBytes, WritesZeros}
 
 -- ---- what is asked
 
@@ -88,7 +88,7 @@ Carries block wanted count = count ≡ 0
 
 -- ---- what is done
 
--- whether the array has to be durable before the reply
+-- whether what was asked has to be durable before the reply
 abbrev pub is_forced : Asked → Request → Bool
 is_forced (Read first n) r = false
 is_forced (Write first) r = r.flags % 2 == 1
@@ -108,11 +108,20 @@ Does old (WriteZeroes first n true) bytes answer new = Trims old first n answer 
 Does old (WriteZeroes first n false) bytes answer new = WritesZeros old first n answer new
 Does old Flush bytes answer new = (answer ≡ with_nothing (Ok tt)) × (new ≡ old)
 
+-- What is to be durable is synced: after a FLUSH the whole array, and after another request the blocks that it named.
+-- That many bytes of data came with it.
+abbrev pub Secures : Asked → ℕ → StoreView → Result (Unit {0}) StoreFault → StoreView → Type 0
+Secures Flush count old result new = Syncs old result new
+Secures (Write first) count old result new = ForcesBlocks first (count / old.disk.drive.geometry.block) old result new
+Secures (Read first n) count old result new = ForcesBlocks first n old result new
+Secures (Trim first n) count old result new = ForcesBlocks first n old result new
+Secures (WriteZeroes first n hole) count old result new = ForcesBlocks first n old result new
+
 -- what was done is synced where it has to be durable, unless it was refused
-abbrev pub Forces : Bool → StoreView → Result (Unit {0}) DiskFault → Result (Unit {0}) StoreFault → StoreView → Type 0
-Forces forced old (Err fault) result new = (result ≡ Err (Disk fault)) × (new ≡ old)
-Forces true old (Ok done) result new = Syncs old result new
-Forces false old (Ok done) result new = (result ≡ Ok tt) × (new ≡ old)
+abbrev pub Forces : Bool → Asked → ℕ → StoreView → Result (Unit {0}) DiskFault → Result (Unit {0}) StoreFault → StoreView → Type 0
+Forces forced wanted count old (Err fault) result new = (result ≡ Err (Disk fault)) × (new ≡ old)
+Forces true wanted count old (Ok done) result new = Secures wanted count old result new
+Forces false wanted count old (Ok done) result new = (result ≡ Ok tt) × (new ≡ old)
 
 -- what is asked is done with the data that came with it, and these bytes are shown
 pub record DoesWith (left left' : Option (List ℕ)) (old : StoreView) (wanted : Asked) (count : ℕ) (shown : List ℕ)
@@ -160,7 +169,7 @@ pub record DoesAndReplies (old : StoreView) (request : Request) (wanted : Asked)
   pub middle : StoreView
   pub does : Does old wanted bytes answer middle
   pub result : Result (Unit {0}) StoreFault
-  pub forces : Forces (is_forced wanted request) middle answer.result result new
+  pub forces : Forces (is_forced wanted request) wanted (data_length request) middle answer.result result new
   pub reply_is : reply ≡ simple_reply_bytes (code_of wanted result) request.cookie ++ concat answer.shown
 
 -- a request is answered

@@ -21,13 +21,15 @@ abbrev pub since_of : Bool → DiskView → List (List (List ℕ))
 since_of true disk = map (array_with disk) disk.drive.durable
 since_of false disk = disk_array disk ∷ []
 
--- the store that a served disk is: the syncs are those of its medium
+-- The store that a served disk is. It defers nothing, and the syncs are those of its medium.
 abbrev pub store_of : {M : Type 0} → (M → ℕ) → (M → Bool) → Served M → StoreView
 store_of syncs flushes s = record {
   disk = s.disk;
+  pending = [];
   since = since_of (flushes s.medium) s.disk;
   syncs = syncs s.medium;
   read_only = s.read_only;
   cleans = s.cleans;
   flushes = flushes s.medium;
+  defers = false;
 }

@@ -1,57 +1,121 @@
 -- A disk that is served, what of it a loss of power leaves, and how often it was synced.
-use Rattle.std.specs.Prelude.{◌≡◌, ◌⊎◌, ℕ, ◌<◌, ◌≤◌, ◌&&◌, Bool, true, false, not, List, Contains, Some, None, Result, Ok, Err, IfErr}
+use Rattle.std.specs.Prelude.{◌≡◌, ◌⊎◌, ℕ, ◌+◌, ◌<◌, ◌≤◌, ◌&&◌, Bool, true, false, not, List, [], ◌∷◌, length, slice_index_or, Contains, Some, None, Result, Ok, Err, IfErr, OnOk}
 use Rattle.std.specs.List.{concat}
 use Rattle.drive_port.specs.Durable.{MayBeDurable}
 use Rattle.zone_translator.specs.Answers.{CostsAtMost, Stores, TakesTurn, count_of_blocks, write_bytes, write_commands}
-use Rattle.zone_translator.specs.Flat.{Answer, Call, FlatCall, FlatDisk, IsFront, answer_while, flush, idle, read, trim, with_nothing, write}
+use Rattle.zone_translator.specs.Flat.{Answer, Call, FlatCall, FlatDisk, IsFront, answer_while, flush, idle, may_refuse, read, replaced, status_after, trim, with_nothing, write}
 use Rattle.zone_translator.specs.Keeping.{KeepsServed}
 use Rattle.zone_translator.specs.View.{CompletesAtMost, DiskCause, DiskView, KeepsDisk, disk_array, disk_turns, flat_of}
 use Rattle.zone_translator.specs.declared.fault.DiskFault.{DiskFault}
+use Rattle.nbd_session.specs.Pending.{AreApart, HoldsSome, Pending, overlay, pieces}
 use Rattle.nbd_session.specs.declared.fault.StoreFault.{StoreFault}
 use Rattle.nbd_session.specs.declared.fault.StoreFault.TheVariants.{Disk, Medium}
 
--- A disk, and the arrays that it had since it was last synced. A loss of power leaves one of these. `syncs` is how many
--- syncs were completed. If the store is read only, what would change the disk is refused. If it cleans, a turn of
--- cleaning is taken after each request. If it flushes, a sync is a Flush of the drive; if not, nothing is sent to it.
+-- A disk, and the blocks that are written above it and are not yet on it, oldest first. A loss of power leaves one of
+-- the arrays of `since`. `syncs` is how many syncs were completed. If the store is read only, what would change the
+-- disk is refused. If it cleans, a turn of cleaning is taken after each request. If it flushes, a sync is a Flush of
+-- the drive; if not, only pending blocks are sent to it. If it defers, blocks may be pending after a call; if not,
+-- none is.
 pub record StoreView : Type 0 where
   pub disk : DiskView
+  pub pending : List Pending
   pub since : List (List (List ℕ))
   pub syncs : ℕ
   pub read_only : Bool
   pub cleans : Bool
   pub flushes : Bool
+  pub defers : Bool
 
--- whether a store is read only, cleans and flushes does not change
+-- the array that a store serves: that of the disk, with the pending blocks
+abbrev pub store_array : StoreView → List (List ℕ)
+store_array store = overlay store.pending (disk_array store.disk)
+
+-- the flat disk that a store serves
+abbrev pub store_flat : StoreView → FlatDisk
+store_flat store = record (flat_of store.disk) { array = store_array store }
+
+-- Nothing is pending before a call and after it: it goes through to the disk. So does each call of a store that does
+-- not defer.
+abbrev pub GoesThrough : StoreView → StoreView → Type 0
+GoesThrough old new = (old.pending ≡ []) × (new.pending ≡ [])
+
+-- whether a store is read only, cleans, flushes and defers does not change
 pub record KeepsMode (old new : StoreView) : Type 0 where
   pub read_only : new.read_only ≡ old.read_only
   pub cleans : new.cleans ≡ old.cleans
   pub flushes : new.flushes ≡ old.flushes
+  pub defers : new.defers ≡ old.defers
 
--- ---- calls
+-- ---- what a call makes of the arrays that a loss of power leaves
 
 -- the array at a moment of a call: after some first blocks of a write, none or all of them; of any other call as it was
 abbrev pub IsMoment : FlatDisk → Call → List (List ℕ) → Type 0
 IsMoment disk (write first blocks) array = IsFront disk.array first blocks array
 IsMoment disk call array = array ≡ disk.array
 
--- What a call of the disk gives. The disk answers as a flat array, keeps a drive that can be mounted again, and refuses
--- nothing without a cause. A loss of power leaves an array that it could have left before, or one of the call's moments.
--- Nothing is synced, and what is durable of the drive is the same.
-pub record Calls (old : StoreView) (call : Call) (answer : Answer) (new : StoreView) : Type 0 where
-  pub flat : FlatCall (flat_of old.disk) call answer (flat_of new.disk)
+-- some blocks of a write are written: each block is as before it, or as after all of it
+pub record IsTorn (old : List (List ℕ)) (first : ℕ) (blocks new : List (List ℕ)) : Type 0 where
+  pub length_is : length new ≡ length old
+  pub either : (place : ℕ) → (slice_index_or new place [] ≡ slice_index_or old place [])
+      ⊎ (slice_index_or new place [] ≡ slice_index_or (replaced old first blocks) place [])
+
+-- a part of a call is done: some blocks of a write; any other call changes nothing
+abbrev pub IsPart : Call → List (List ℕ) → List (List ℕ) → Type 0
+IsPart (write first blocks) old new = IsTorn old first blocks new
+IsPart call old new = new ≡ old
+
+-- a block that a call writes
+abbrev pub IsOfCall : Call → Pending → Type 0
+IsOfCall (write first blocks) w = Contains (pieces first blocks) w
+IsOfCall call w = ⊥
+
+-- one of these arrays, with a part of a call
+pub record ComesFrom (since : List (List (List ℕ))) (call : Call) (array : List (List ℕ)) : Type 0 where
+  pub before : List (List ℕ)
+  pub was : Contains since before
+  pub part : IsPart call before array
+
+-- ---- calls
+
+-- What a call gives besides that goes through to the disk. The drive can be mounted again. A loss of power leaves an
+-- array that it could have left before, or one of the call's moments.
+pub record CallsDisk (old : StoreView) (call : Call) (new : StoreView) : Type 0 where
   pub kept : KeepsDisk old.disk new.disk
+  pub since : (array : List (List ℕ)) → Contains new.since array → Contains old.since array ⊎ IsMoment (flat_of old.disk) call array
+
+-- What a call gives. The store answers as a flat array, and refuses nothing without a cause. If its drive could be
+-- mounted, it can be mounted again. A loss of power leaves an array that it could have left before, with a part of the
+-- call: so older writes may be lost, and the call not. What is pending was so before, or is of the call. Nothing is, if
+-- the store does not defer. Nothing is synced, and what is durable of the drive is the same.
+pub record Calls (old : StoreView) (call : Call) (answer : Answer) (new : StoreView) : Type 0 where
+  pub flat : FlatCall (store_flat old) call answer (store_flat new)
+  pub kept : KeepsServed old.disk new.disk
   pub durable : new.disk.drive.durable ≡ old.disk.drive.durable
   pub cause : IfErr answer.result (DiskCause new.disk)
-  pub since : (array : List (List ℕ)) → Contains new.since array → Contains old.since array ⊎ IsMoment (flat_of old.disk) call array
+  pub since : (array : List (List ℕ)) → Contains new.since array → ComesFrom old.since call array
+  pub pending : (w : Pending) → Contains new.pending w → Contains old.pending w ⊎ IsOfCall call w
+  pub none : old.defers ≡ false → new.pending ≡ []
   pub syncs : new.syncs ≡ old.syncs
   pub mode : KeepsMode old new
+  pub through : GoesThrough old new → CallsDisk old call new
 
--- A call that writes n blocks from a given one on. Done, their newest records have data or, of a trim, have none. It
--- completes at most so many commands.
+-- the commands that the drive has completed, and those that the pending blocks may take, each by itself
+abbrev pub commands_due : StoreView → ℕ
+commands_due store = store.disk.drive.completed + write_commands false store.disk (length store.pending)
+
+-- What a write gives besides that goes through to the disk. Done, the newest records of its n blocks have data or, of a
+-- trim, have none. It completes at most so many commands.
+pub record WritesDisk (is_trim : Bool) (old : DiskView) (first n : ℕ) (result : Result (Unit {0}) DiskFault) (new : DiskView) : Type 0 where
+  pub stores : Stores is_trim old first n result new
+  pub costs : CostsAtMost old (write_commands is_trim old n) result new
+
+-- A call that writes n blocks from a given one on. Done, it adds no turns of a clean. Each of its blocks, and each that
+-- is pending no more, pays for the commands of one write.
 pub record Writes (is_trim : Bool) (old : StoreView) (call : Call) (first n : ℕ) (answer : Answer) (new : StoreView) : Type 0 where
   pub calls : Calls old call answer new
-  pub stores : Stores is_trim old.disk first n answer.result new.disk
-  pub costs : CostsAtMost old.disk (write_commands is_trim old.disk n) answer.result new.disk
+  pub turns : OnOk answer.result (disk_turns new.disk ≤ disk_turns old.disk)
+  pub due : commands_due new ≤ commands_due old + write_commands false old.disk n
+  pub through : GoesThrough old new → WritesDisk is_trim old.disk first n answer.result new.disk
 
 -- these bytes are written
 abbrev pub WritesBytes : StoreView → ℕ → List ℕ → Answer → StoreView → Type 0
@@ -65,11 +129,13 @@ WritesZeros old first n answer new = Writes false old (trim old.disk.drive.geome
 abbrev pub Trims : StoreView → ℕ → ℕ → Answer → StoreView → Type 0
 Trims old first n answer new = Writes true old (trim old.disk.drive.geometry.block first n) first n answer new
 
--- a read of n blocks: it completes one command a block at most, and as many turns of a clean are left as before
+-- A read of n blocks: it completes one command a block at most. As many turns of a clean are left as before, and the
+-- same blocks are pending.
 pub record ReadsBlocks (old : StoreView) (first n : ℕ) (answer : Answer) (new : StoreView) : Type 0 where
   pub calls : Calls old (read first n) answer new
   pub turns : disk_turns new.disk ≡ disk_turns old.disk
   pub completed : CompletesAtMost old.disk n new.disk
+  pub pending : new.pending ≡ old.pending
 
 -- the same, and its bytes are shown
 pub record Shows (old : StoreView) (first n : ℕ) (result : Result (Unit {0}) DiskFault) (bytes : List ℕ)
@@ -85,40 +151,60 @@ pub record SendsNothing (old new : StoreView) : Type 0 where
   pub disk : new.disk ≡ old.disk
   pub since : (array : List (List ℕ)) → Contains new.since array → Contains old.since array
 
--- What a sync keeps of a disk that serves, done or not: its array, and the turns of a clean that are left. A loss of
--- power leaves what it could have left before, or the array as it is. At most one command is completed.
+-- What a sync keeps of a disk that serves, done or not: the array that is served and, if nothing was pending, the
+-- turns of a clean that are left. What is pending was so before. A loss of power leaves what it could have left
+-- before, or the array of the disk with some of what is pending. At most one command is completed besides those that
+-- were due.
 pub record KeepsBySync (old new : StoreView) : Type 0 where
-  pub array : disk_array new.disk ≡ disk_array old.disk
+  pub array : store_array new ≡ store_array old
   pub kept : KeepsServed old.disk new.disk
   pub durable : MayBeDurable old.disk.drive new.disk.drive
-  pub turns : disk_turns new.disk ≡ disk_turns old.disk
-  pub completed : CompletesAtMost old.disk 1 new.disk
-  pub since : (array : List (List ℕ)) → Contains new.since array → Contains old.since array ⊎ (array ≡ disk_array old.disk)
+  pub turns : old.pending ≡ [] → disk_turns new.disk ≡ disk_turns old.disk
+  pub completed : CompletesAtMost old.disk (write_commands false old.disk (length old.pending) + 1) new.disk
+  pub pending : (w : Pending) → Contains new.pending w → Contains old.pending w
+  pub since : (array : List (List ℕ)) → Contains new.since array → Contains old.since array ⊎ HoldsSome new.pending (disk_array new.disk) array
   pub syncs : old.syncs ≤ new.syncs
   pub mode : KeepsMode old new
-  pub silent : old.flushes ≡ false → SendsNothing old new
+  pub silent : old.flushes ≡ false → old.pending ≡ [] → SendsNothing old new
 
--- Done, one sync more is completed, the disk serves as before, and a loss of power leaves the array as it is.
-pub record Hardens (old new : StoreView) : Type 0 where
+-- Done, one sync more is completed, the store serves as before, and no turns of a clean are added. Nothing is pending
+-- that was to be durable. A loss of power leaves the array of the disk, with some of what is pending.
+pub record Hardens (IsDone : List Pending → Type 0) (old new : StoreView) : Type 0 where
   pub keeps : KeepsBySync old new
-  pub flat : flat_of new.disk ≡ flat_of old.disk
+  pub flat : store_flat new ≡ store_flat old
+  pub turns : disk_turns new.disk ≤ disk_turns old.disk
   pub more : old.syncs < new.syncs
-  pub since : (array : List (List ℕ)) → Contains new.since array → array ≡ disk_array old.disk
+  pub done : IsDone new.pending
+  pub since : (array : List (List ℕ)) → Contains new.since array → HoldsSome new.pending (disk_array new.disk) array
 
--- The Flush of the drive was not done.
-pub record FailsFlush (old : StoreView) (fault : DiskFault) (new : StoreView) : Type 0 where
+-- whether a sync may fail by this fault: as a Flush of the drive or, of a pending block, as a write
+abbrev pub may_fail : List Pending → DiskFault → Bool
+may_fail [] fault = may_refuse flush fault
+may_fail (w ∷ ws) fault = may_refuse (write w.place (w.block ∷ [])) fault
+
+-- The Flush of the drive was not done, or a write of a pending block. Only a stop changes what the store is.
+pub record FailsSync (old : StoreView) (fault : DiskFault) (new : StoreView) : Type 0 where
   pub keeps : KeepsBySync old new
-  pub flushes : old.flushes ≡ true
-  pub flat : FlatCall (flat_of old.disk) flush (with_nothing (Err fault)) (flat_of new.disk)
+  pub flushes : old.pending ≡ [] → old.flushes ≡ true
+  pub may : may_fail old.pending fault ≡ true
+  pub flat : store_flat new ≡ record (store_flat old) { status = status_after (Err fault) }
   pub cause : DiskCause new.disk fault
 
--- What a sync gives. A disk that does not serve refuses it, as every other call.
-abbrev pub Syncs : StoreView → Result (Unit {0}) StoreFault → StoreView → Type 0
-Syncs old (Ok done) new = (answer_while old.disk.status ≡ None) × Hardens old new
-Syncs old (Err (Disk fault)) new =
+-- What a sync gives, after which what is pending is such. A disk that does not serve refuses it, as every other call.
+abbrev pub SyncsBy : (List Pending → Type 0) → StoreView → Result (Unit {0}) StoreFault → StoreView → Type 0
+SyncsBy IsDone old (Ok done) new = (answer_while old.disk.status ≡ None) × Hardens IsDone old new
+SyncsBy IsDone old (Err (Disk fault)) new =
     ((answer_while old.disk.status ≡ Some (Err fault)) × (new ≡ old))
-    ⊎ ((answer_while old.disk.status ≡ None) × FailsFlush old fault new)
-Syncs old (Err Medium) new = (answer_while old.disk.status ≡ None) × KeepsBySync old new × (flat_of new.disk ≡ flat_of old.disk)
+    ⊎ ((answer_while old.disk.status ≡ None) × FailsSync old fault new)
+SyncsBy IsDone old (Err Medium) new = (answer_while old.disk.status ≡ None) × KeepsBySync old new × (store_flat new ≡ store_flat old)
+
+-- the whole array is made durable
+abbrev pub Syncs : StoreView → Result (Unit {0}) StoreFault → StoreView → Type 0
+Syncs old result new = SyncsBy (λ (pending : List Pending). pending ≡ []) old result new
+
+-- n blocks from a given one on are made durable, and others may be pending still
+abbrev pub ForcesBlocks : ℕ → ℕ → StoreView → Result (Unit {0}) StoreFault → StoreView → Type 0
+ForcesBlocks first n old result new = SyncsBy (AreApart first n) old result new
 
 -- ---- between requests
 
@@ -128,6 +214,7 @@ pub record TakesOneTurn (old new : StoreView) : Type 0 where
   pub calls : Calls old idle (with_nothing result) new
   pub turn : TakesTurn old.disk result new.disk
   pub completed : CompletesAtMost old.disk 2 new.disk
+  pub pending : new.pending ≡ old.pending
 
 -- a turn is taken or, if not, nothing is done
 abbrev pub RestsBy : Bool → StoreView → StoreView → Type 0

@@ -3,8 +3,8 @@
 ghost use Rattle.nbd_session.specs.Laws.{FlushIsSafe, ForcedIsDurable, LeftIsFound, ReadOnlyKeepsArray};
 ghost use Rattle.nbd_session.specs.Laws.{SessionKeepsMode, SessionKeepsSafe};
 
-/// What a FLUSH or a write with FUA that is answered by success leaves was synced, and is found again after a loss of
-/// power.
+/// After a FLUSH that is answered by success the array was synced, and is found again after a loss of power. After a
+/// write with FUA that is so of the blocks that it named and, if nothing is pending, of the whole array.
 pub fn forced_is_durable()
     ensures { ForcedIsDurable }
 {}
@@ -14,7 +14,8 @@ pub fn read_only_keeps_array()
     ensures { ReadOnlyKeepsArray }
 {}
 
-/// A session forgets no sync, and its store stays read only, cleans and flushes as it did before.
+/// A session forgets no sync, and its store stays read only, cleans, flushes and defers as it did before. One that
+/// does not defer has nothing pending afterwards.
 pub fn session_keeps_mode()
     ensures { SessionKeepsMode }
 {}

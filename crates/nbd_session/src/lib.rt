@@ -17,10 +17,13 @@
 //!   is refused has its error, also one that is not aligned or past the end.
 //! - A TRIM leaves records without data, and so does a WRITE_ZEROES that may leave a hole. One that may not, and a
 //!   WRITE, leave records with data. Each takes so many commands at most.
-//! - A FLUSH, and a write with FUA, is answered by success only after a sync, which a store counts. Then a loss of
-//!   power leaves the array as it is (`laws::forced_is_durable`). Until the next sync it leaves an array that the disk
-//!   had since. With the medium [`DriveFlush`] a sync is a Flush of the drive, and that loss leaves the array of the
-//!   last one: a mount of the drive finds it (`laws::loss_is_found`). Any other medium's word stands for it.
+//! - A FLUSH, and a write with FUA, is answered by success only after a sync, which a store counts. After a FLUSH a
+//!   loss of power leaves the array as it is. After such a write it leaves the blocks that were named, and of a
+//!   [`ServedDisk`] the whole array (`laws::forced_is_durable`).
+//! - Until the next sync a loss of power leaves what it could have left before, with parts of the later writes. Of a
+//!   `ServedDisk` it leaves an array that the disk had since.
+//! - With the medium [`DriveFlush`] a sync is a Flush of the drive, and a loss of power leaves the array of the last
+//!   one: a mount of the drive finds it (`laws::loss_is_found`). Any other medium's word stands for it.
 //! - After each request a store that cleans ([`ServedDisk::cleaning`]) takes one turn of cleaning. That changes no
 //!   block. Any other store does nothing then.
 //! - The client is told whether a store is read only ([`ServedDisk::reading`]). If so, a WRITE, a TRIM and a

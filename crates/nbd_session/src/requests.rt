@@ -1,7 +1,8 @@
 ghost use Rattle.std.specs.Prelude.{◌≡◌, [], IfErr, IfOk, OnOk, Ok, ⊤};
 ghost use Rattle.std.specs.Io.KnownBytes.{Keeps};
 ghost use Rattle.nbd_wire.specs.Transmission.{simple_reply_bytes};
-ghost use Rattle.nbd_session.specs.Requests.{AnswersAsked, Carries, DoesOrNot, Forces, asked_of_store, data_length};
+ghost use Rattle.nbd_session.specs.Requests.{AnswersAsked, Carries, DoesOrNot, Forces, Secures, asked_of_store};
+ghost use Rattle.nbd_session.specs.Requests.{data_length};
 ghost use Rattle.nbd_session.specs.Session.{session};
 ghost use Rattle.nbd_session.specs.Store.{Rests};
 ghost use Rattle.nbd_session.specs.Streams.{streams};
@@ -36,17 +37,35 @@ impl Buffers {
     }
 }
 
+/// Syncs the blocks that a request named, or after a FLUSH the whole array. So many bytes of data came with a WRITE.
+fn secure<S: Store>(store: &mut S, wanted: Asked, count: u32) -> Result<(), StoreFault>
+    ensures { Secures wanted count (S.view store.old) result (S.view store.new) }
+{
+    match wanted {
+        Asked::Flush => store.sync(),
+        Asked::Write { first } => {
+            let blocks = count / store.block_bytes();
+            store.force(first, u64::from(blocks))
+        }
+        Asked::Read { first, blocks } => store.force(first, blocks),
+        Asked::Trim { first, blocks } => store.force(first, blocks),
+        Asked::WriteZeroes { first, blocks, .. } => store.force(first, blocks),
+    }
+}
+
 /// Syncs what was done, where it has to be durable before the reply.
 fn force<S: Store>(
     store: &mut S,
     forced: bool,
+    wanted: Asked,
+    count: u32,
     done: Result<(), DiskFault>,
 ) -> Result<(), StoreFault>
-    ensures { Forces forced (S.view store.old) done result (S.view store.new) }
+    ensures { Forces forced wanted count (S.view store.old) done result (S.view store.new) }
 {
     match done {
         Err(fault) => Err(StoreFault::Disk(fault)),
-        Ok(()) if forced => store.sync(),
+        Ok(()) if forced => secure(store, wanted, count),
         Ok(()) => Ok(()),
     }
 }
@@ -122,8 +141,9 @@ fn answer_asked<R: Read, W: Write, S: Store>(
         (λ bytes reply. AnswersAsked (S.view store.old) request.now (Ok wanted) bytes reply (S.view store.new))
         (S.view store.new ≡ S.view store.old)) }
 {
-    let done = obey(reader, store, buffers, wanted, data_length(request))?;
-    let done = force(store, wanted.is_forced(request), done);
+    let count = data_length(request);
+    let done = obey(reader, store, buffers, wanted, count)?;
+    let done = force(store, wanted.is_forced(request), wanted, count, done);
     send_both(
         writer,
         &simple_reply(wanted.code(done), request.cookie),

@@ -120,7 +120,7 @@ impl<D: Device + Drop, M: Medium + Drop> ServedDisk<D, M> {
 }
 
 impl<D: Device + Drop, M: Medium + Drop> Store for ServedDisk<D, M> {
-    // The syncs are those of its medium.
+    // Nothing is pending, and the syncs are those of its medium.
     ghost view = { λ s. store_of M.syncs M.flushes s };
 
     fn block_bytes(&self) -> u32 {
@@ -133,6 +133,10 @@ impl<D: Device + Drop, M: Medium + Drop> Store for ServedDisk<D, M> {
         // A block has less than 2^32 bytes.
         let _block = self.block_bytes();
         self.disk.blocks()
+    }
+
+    fn status(&self) -> DiskStatus {
+        self.disk.status()
     }
 
     fn is_read_only(&self) -> bool {
@@ -166,6 +170,11 @@ impl<D: Device + Drop, M: Medium + Drop> Store for ServedDisk<D, M> {
         } else {
             self.sync_medium()
         }
+    }
+
+    /// Nothing is pending above the disk, so that all that it holds is synced.
+    fn force(&mut self, _first: u64, _blocks: u64) -> Result<(), StoreFault> {
+        self.sync()
     }
 
     fn rest(&mut self) {

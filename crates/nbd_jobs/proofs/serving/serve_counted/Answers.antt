@@ -1,4 +1,4 @@
-use Rattle.std.proofs.Common.{rules, ap, ◌∙◌}
+use Rattle.std.proofs.Common.{[], false, rules, refl, ap, ◌∙◌}
 use Rattle.std.specs.Prelude.{Bool}
 use Rattle.nbd_session.specs.Served.{since_of}
 use Rattle.nbd_session.proofs.ModeLaws.{session-grows}
@@ -22,13 +22,16 @@ returns-clause-serves g c =
       disk = rw (c.new.ensures, c.flushes-flushes.ensures) at c.in-Ok.ensures.disk;
       last = record {
         disk = store.disk;
+        pending = [];
         since = since_of (g.M.Medium.flushes store.medium) store.disk;
         syncs = g.M.Medium.syncs store.medium;
         read_only = store.read_only;
         cleans = store.cleans;
         flushes = g.M.Medium.flushes store.medium;
+        defers = false;
       };
       serves = served;
+      pending = refl;
       since = ap (λ (flushes : Bool). since_of flushes store.disk) mode.flushes;
       synced = ap (λ (m : _). g.M.Medium.syncs m) c.into_parts-disk.ensures.medium;
       keeps = (rw c.served-store.ensures.disk at c.serve-result.ensures.keeps).mounted (begun-mountable syncs.flushes old _ c.in-Ok.disk (rw (c.new.ensures, c.flushes-flushes.ensures) at c.in-Ok.ensures.disk));

@@ -6,7 +6,7 @@ pub returns-in-Err : goal.returns-in-Err
 returns-in-Err g c =
     let flushes = rw (← c.self.view_is) at c.requires.flushes in
     let serves = rw (← c.self.view_is) at c.requires.serves in
-    rw (← c.self.view_is, flushes) (inr (serves, flush_fails c.self.inside.disk c.flush.new.self _ c.self.inside.read_only c.self.inside.cleans c.in-Err.fault c.in-Err.ensures.answers c.flush.ensures.turns c.flush.ensures.completed))
+    rw (← c.self.view_is, flushes) (inr (serves, flush_fails c.self.inside.disk c.flush.new.self _ c.self.inside.read_only c.self.inside.cleans c.in-Err.fault serves c.in-Err.ensures.answers c.flush.ensures.turns c.flush.ensures.completed))
 
 pub returns-in-Err-sync : goal.returns-in-Err-sync
 returns-in-Err-sync g c =
