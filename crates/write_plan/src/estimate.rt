@@ -1,4 +1,13 @@
 //! The write amplification of random writes, by bisection.
+//!
+//! Each zone takes `capacity` blocks. Of these some are moved into it first, and some are data of
+//! the host. So the write amplification is 1 / `host`. It is known once `moved` is: in the long
+//! run as much is moved into a zone as is live in the victim, and `live_share` says how much that
+//! is.
+//!
+//! Left out are three things. Batches are cut at the end of a zone. A zone with one free block is
+//! finished. And of zones with few batches some have fewer live records by chance, which helps the
+//! cleaner. So the estimate fits large zones.
 
 ghost use Rattle.std.specs.Prelude.{◌≤◌};
 ghost use Rattle.drive_array.specs.Reserve.{FitsReserve};
@@ -32,7 +41,8 @@ struct Filling {
 /// How often the interval is halved: its length is below 2^-60 then.
 const HALVINGS: u32 = 60;
 
-/// Of the blocks that the host's batches take, the share that is data.
+/// Of the blocks that the host's batches take, the share that is data. Each batch has at most
+/// `batch_most` data blocks and a header.
 fn data_share(batch_most: u32, write: u32) -> f64
     requires { 1 ≤ batch_most }
 {
@@ -41,7 +51,8 @@ fn data_share(batch_most: u32, write: u32) -> f64
     data / (data + headers)
 }
 
-/// What a zone holds, if that share of its blocks is moved into it first.
+/// What a zone holds, if that share of its blocks is moved into it first. The Moves also have
+/// headers, and the host fills the rest.
 fn zone_with(moved: f64, batch_most: u32, data_share: f64) -> Filling {
     let headers = moved / f64::from(batch_most);
     Filling {
@@ -51,11 +62,19 @@ fn zone_with(moved: f64, batch_most: u32, data_share: f64) -> Filling {
 }
 
 /// The share of a zone's blocks that are live when it is cleaned.
+///
+/// A full zone shows what was moved into it, and what the host wrote. Zones are cleaned nearly in
+/// the order in which they were filled, since under random writes the oldest has the fewest live
+/// records. Until its turn comes the other zones take `host / rho` writes for each logical block:
+/// `rho` is the number of logical blocks for each block of all zones but the spare one. Writes
+/// fall on all blocks alike. So the share e^(-host / rho) of the data is not written again.
 fn live_share(filling: Filling, rho: f64) -> f64 {
     (filling.moved + filling.host) * (-filling.host / rho).exp()
 }
 
-/// What the zones of a drive hold in the long run: as much is moved into each as is live when it is cleaned.
+/// What the zones of a drive hold in the long run: as much is moved into each as is live when it
+/// is cleaned. At 0 too little is moved, and near `most / (most + 1)` too much, since the reserve
+/// keeps `rho` below that.
 fn settled(batch_most: u32, data_share: f64, rho: f64) -> Filling {
     let most = f64::from(batch_most);
     let mut low = 0.0;
