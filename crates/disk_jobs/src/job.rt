@@ -15,12 +15,14 @@ pub enum Job {
         geometry: Geometry,
         force: bool,
     },
-    /// Reads a drive from the file, restarts it, mounts it as `blocks` logical blocks, answers the lines of a trace,
-    /// and saves it. With `statistics` it is shown after the replies what was written and moved, and with `zones` the
-    /// zones of the drive. The drive has this habit, here and below, until it is saved. With `sync`, here and below,
-    /// each change is on the disk before the replies that depend on it are sent. With `read_only` the mount repairs the
-    /// drive in memory alone, only lines that read are answered, and nothing is saved. With `progress` people are told
-    /// how many lines were read.
+    /// Reads a drive from the file, restarts it, mounts it as `blocks` logical blocks, answers the
+    /// lines of a trace, and saves it.
+    ///
+    /// After the replies, `statistics` shows what was written and moved, and `zones` the zones of
+    /// the drive. `habit` says which zones the drive closes by itself. With `sync` a reply is sent
+    /// only once the changes before it are on the disk. With `read_only` the mount repairs the
+    /// drive only in memory, only lines that read are answered, and nothing is saved. `progress`
+    /// shows on standard error how many lines were read. `habit` and `sync` mean the same below.
     Run {
         image: String,
         blocks: u64,
@@ -36,16 +38,16 @@ pub enum Job {
     Report {
         image: String,
     },
-    /// Reads a drive from the file, restarts it, submits the entry of each raw line to it, and saves it. With `explain`
-    /// people are told the status of each completion.
+    /// Reads a drive from the file, restarts it, submits the entry of each raw line to it, and
+    /// saves it. With `explain` standard error says the status of each completion.
     Nvme {
         image: String,
         explain: bool,
         habit: Habit,
         sync: bool,
     },
-    /// Makes a fresh drive in memory, mounts it as `blocks` logical blocks, and answers the lines of a
-    /// trace. With `statistics` it is shown after the replies what was written and moved, and with `report`
+    /// Makes a fresh drive in memory, mounts it as `blocks` logical blocks, and answers the lines
+    /// of a trace. After the replies, `statistics` shows what was written and moved, and `report`
     /// the zones of the drive.
     Fresh {
         geometry: Geometry,
@@ -73,7 +75,8 @@ impl Job {
         }
     }
 
-    /// Whether what the job sends waits until its changes are on the disk. One that only reads makes none.
+    /// Whether replies wait until the changes before them are on the disk. A job that only reads
+    /// makes no changes.
     pub fn sync(&self) -> bool
         ensures { result ≡ syncs self.now }
     {
@@ -88,7 +91,7 @@ impl Job {
         }
     }
 
-    /// Whether people are told how many lines were read.
+    /// Whether standard error shows how many lines were read.
     pub fn shows_progress(&self) -> bool
         ensures { result ≡ shows_progress self.now }
     {
@@ -98,7 +101,7 @@ impl Job {
         }
     }
 
-    /// Whether people are told the status of each completion.
+    /// Whether standard error says the status of each completion.
     pub fn explains(&self) -> bool
         ensures { result ≡ explains self.now }
     {

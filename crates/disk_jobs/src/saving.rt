@@ -9,12 +9,12 @@ use drive_store::SentAfter;
 use kept_drives::Left;
 use zone_drive::Drive;
 
-/// How a file is opened whose drive is read.
+/// How the file of a drive is opened.
 #[derive(Clone, Copy, Debug, PartialEq, Eq)]
 pub(crate) enum Access {
-    /// To read it, as others may do at the same time.
+    /// To read the drive. Other programs may read it at the same time.
     ToRead,
-    /// To save a drive in it. No other program reads or changes it.
+    /// To save a drive there. Until then no other program reads or changes the file.
     ToSave,
 }
 
@@ -29,7 +29,7 @@ pub(crate) fn file_access(job: &Job) -> Access
     }
 }
 
-/// What the replies of a job wait for.
+/// What has to be done with the changes of a job before a reply is sent.
 pub(crate) fn sent_after(job: &Job) -> SentAfter
     ensures { result ≡ sent_after job.now }
 {
@@ -40,8 +40,8 @@ pub(crate) fn sent_after(job: &Job) -> SentAfter
     }
 }
 
-/// What may be saved of a job with a file, also after a fault: what its lines left of the drive. Nothing is saved if the
-/// job only reads.
+/// What a job hands over to be saved in its file, also after a fault: the drive as its lines left
+/// it. A job that only reads hands over nothing.
 pub(crate) fn left_to_save(job: &Job, answered: Option<Answered>) -> Option<Left>
     ensures { result ≡ left_to_save job.now answered }
 {
@@ -52,7 +52,8 @@ pub(crate) fn left_to_save(job: &Job, answered: Option<Answered>) -> Option<Left
     Some(answered.left)
 }
 
-/// What is saved of a job that makes a fresh drive, once what it wrote was sent: the drive, if its `ok` was sent.
+/// The fresh drive that a job hands over to be saved. If its reply `ok` could not be sent, there
+/// is none.
 pub(crate) fn fresh_to_save(
     sent: Result<(), ProgramFault>,
     answered: Option<Answered>,

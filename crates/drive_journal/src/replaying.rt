@@ -18,7 +18,7 @@ use std::io::Read;
 use zone_drive::apply_to_each;
 use zone_states::{Geometry, Zone};
 
-/// Writes bytes after those of the zone with a number, if any.
+/// Writes bytes after those of the zone with this number, if there is such a zone.
 fn write_in(
     geometry: &Geometry,
     zones: &mut [Zone],
@@ -34,7 +34,7 @@ fn write_in(
     zones[index].extend(geometry, bytes)
 }
 
-/// Does an action on the zone with a number, if any.
+/// Does an action on the zone with this number, if there is such a zone.
 fn send_in(zones: &mut [Zone], index: u64, action: Action)
     ensures { zones.new ≡ sent_in zones.old index action }
 {
@@ -91,8 +91,8 @@ pub(crate) fn close_zones(block: u32, zones: &mut [Zone])
     apply_to_each(zones, Action::Close);
 }
 
-/// The fault of bytes that do not begin as a change does, after an image that ends at `from`: directly after it
-/// `there`.
+/// The fault of bytes at `at` that do not begin as a change does. Directly after the image, which
+/// ends at `from`, it is `there`. Further on it is damage.
 fn other_fault(from: u64, at: u64, there: FileFault) -> FileFault
     ensures { result ≡ (if at == from then there else FileFault.Damaged at) }
 {
@@ -110,11 +110,12 @@ fn ends(whole: u64, sum: Sum, is_all: bool) -> Replayed
     Replayed { whole, sum, is_all }
 }
 
-/// Does the changes that a reader has left again on these zones, and says where in the file the last whole one ends.
-/// `from` says where the first one begins.
+/// Reads changes to the end of the reader, and does each of them again on these zones. Answers
+/// where in the file the last whole change ends. `from` says where the first one begins.
 ///
-/// A change that was cut off is dropped, and all others are done. Of a change nothing is checked but its sums, since
-/// its command succeeded once: whether a drive can have the zones, `Drive::from_zones` says.
+/// If the last change was cut off, it is dropped. Of a change only the sums are checked, since its
+/// command succeeded once. Whether a drive can have the zones that come of it, `Drive::from_zones`
+/// says afterwards.
 pub fn replay<R: Read>(
     alloc: Global,
     reader: &mut R,

@@ -1,4 +1,5 @@
-// The file of a drive, shared by what appends changes to it and what waits until it has them.
+// The file of a drive. Two parts of a program share it: the device appends changes, and the output
+// waits until the file has them.
 
 ghost use Rattle.std.specs.Prelude.{◌≡◌, IfOk};
 
@@ -18,18 +19,24 @@ use std::io::ErrorKind;
 use std::rt::Files;
 use zone_drive::Drive;
 
-/// The file of a drive, open and locked, to which changes are appended. Until the first one it is unchanged.
+/// The file of a drive, open and locked, to which changes are appended. Before the first change it
+/// stays as it is.
 ///
-/// Changes are gathered, and written together: by [`write_out`](ChangesFile::write_out) at the latest, and before more
-/// than 64 KiB of them are held. After a fault the file takes no more of them. It has the first ones, in order, with
-/// all that were written out; and what needs others is refused by that fault.
+/// Changes are gathered, and written together. That is done when
+/// [`write_out`](ChangesFile::write_out) or [`sync`](ChangesFile::sync) is called, and before more
+/// than 64 KiB are gathered.
 ///
-/// The file is written anew as the image of the drive when it is more than 1 MiB longer than twice that image. That is
-/// looked at only now and then. So the file stays below twice the longest image that the drive had, and 2 MiB and one
-/// change more, unless it cannot be written anew.
+/// After a fault the file takes no more changes. It keeps the first ones in their order, among
+/// them all that were written out before. A call that needs a later one answers the same fault.
+///
+/// When the file is more than 1 MiB longer than twice the image of the drive, it is written anew
+/// as that image. Its length is compared only now and then. So the file stays below twice the
+/// longest image that the drive had, and 2 MiB and one change more, unless it cannot be written
+/// anew.
 #[derive(Drop)]
 pub struct ChangesFile<'a, F: Files<File = File>> {
-    /// How it is written anew. The file within has it too; here it says how long both may be used.
+    /// How the file is written anew. `file` has this too. It is repeated here to say how long both
+    /// may be used.
     saving: &'a Saving<'a, F>,
     file: RefCell<GatheredFile<'a, LockedFile<'a, F>>>,
 }
@@ -43,7 +50,7 @@ fn gathered<'a, F: Files<File = File>>(
     GatheredFile::new(saving.alloc, LockedFile::new(saving, image), read_only)
 }
 
-/// The fault of a file that is used within a use of it. That never is.
+/// The fault of a file that is in use already. That never happens.
 fn busy() -> FileFault {
     FileFault::Change(SystemError::from(io::Error::from(ErrorKind::ResourceBusy)))
 }
@@ -57,8 +64,8 @@ impl<'a, F: Files<File = File>> ChangesFile<'a, F> {
         }
     }
 
-    /// The same, and a gate is shut at the first fault of the file, so that the input that goes through it is read no
-    /// further.
+    /// The same. At the first fault of the file this gate is shut: then no more is read of the
+    /// input behind it.
     pub fn with_gate(saving: &'a Saving<'a, F>, image: ImageFile, gate: &'a Gate) -> Self {
         let mut file = gathered(saving, image);
         file.set_gate(gate);
@@ -79,14 +86,14 @@ impl<'a, F: Files<File = File>> ChangesFile<'a, F> {
         Ok(())
     }
 
-    /// Writes all changes that were appended to the file, and brings them to the disk, with all that it held before. If
-    /// nothing was written since the last time, it does nothing.
+    /// Writes all changes that were appended, and brings the file to the disk. If nothing was
+    /// written since the last sync, it does nothing.
     pub fn sync(&self) -> Result<(), FileFault> {
         self.reach(SentAfter::Sync)?;
         Ok(())
     }
 
-    /// Does one of both, as it is asked for.
+    /// Writes all changes that were appended, and syncs the file if that is asked for.
     pub(crate) fn reach(&self, after: SentAfter) -> Result<Reached, FileFault>
         ensures { IfOk result (λ reached. reached ≡ after) }
     {
@@ -115,8 +122,9 @@ impl<'a, F: Files<File = File>> ChangesFile<'a, F> {
         }
     }
 
-    /// Saves a drive in the place of the file, if there is one to save. What is gathered is lost. The new file is on the
-    /// disk before it takes the place of the old one. After a fault the file is as it was.
+    /// Saves a drive in the place of the file, if there is one to save. Gathered changes are
+    /// dropped. The new file is on the disk before it takes the place of the old one. After a
+    /// fault the old file is still there.
     pub fn save(self, drive: Option<Drive>) -> Result<Saved, FileFault> {
         let mut file = self.file.into_inner();
         file.save(drive)

@@ -17,7 +17,7 @@ use batch_log::Entry;
 use drive_port::{Device, Halt, PortFault, append, close};
 use logical_map::Place;
 
-/// What a fault is of a command that the drive does not refuse.
+/// The halt behind the fault of a command that the drive does not refuse.
 pub fn halt_of(fault: PortFault) -> Halt
     requires { IsHalt fault }
     ensures { result ≡ fault_halt fault }
@@ -82,7 +82,8 @@ fn grow_to(tables: &mut Tables, size: Option<u32>)
     }
 }
 
-/// Sends Close to the zone that is being filled beside this one, if it may be open. A full one is not.
+/// Closes the other zone that is being filled, if it may be open. A full zone is not open, so
+/// nothing is sent to it.
 fn send_close<D: Device>(disk: &mut Mounted<D>, zone: u32) -> Result<(), Halt>
     // Tables and drive agree, and this zone is being filled.
     requires agrees { Agrees disk.old }
@@ -154,11 +155,14 @@ fn append_alone<D: Device>(
     }
 }
 
-/// Appends a batch to a zone that is being filled, and notes where its blocks are and which size the disk
-/// has. At an open limit of 1 the zone that is being filled beside it is sent Close before, if it may be
-/// open. All that it needs was allocated before. If the drive is out of memory, nothing changed, but that
-/// the zone beside may be closed. If it stops, the batch may be there, or a torn tail, and the tables are as
-/// they were, but that they may say that the zone beside is closed.
+/// Appends a batch to a zone that is being filled. The tables then say where its blocks are, and
+/// what size the disk has. All memory that this takes was allocated before.
+///
+/// At an open limit of 1 the other zone that is being filled is closed first, if it may be open.
+///
+/// If the drive is out of memory, the batch was not appended. If it stops, the zone may have the
+/// whole batch, a torn tail, or nothing of it. Either way the tables do not have the batch. The
+/// other zone may be closed by then, and the tables may say so.
 pub fn append_batch<D: Device>(
     disk: &mut Mounted<D>,
     zone: u32,
