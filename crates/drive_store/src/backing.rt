@@ -1,4 +1,4 @@
-// What the file of a drive does for those who append changes to it.
+// What a file has to do so that changes can be appended to it.
 
 ghost use Rattle.std.specs.Prelude.{◌≡◌, IfSome, length};
 ghost use Rattle.drive_store.specs.Backing.{AppendsToFile, CutsFile, FileState, IsFrontOf, NamesFile, RenewsFile};
@@ -10,18 +10,19 @@ use zone_drive::Drive;
 /// A file that was just written anew.
 #[derive(Clone, Copy, Debug, PartialEq, Eq)]
 pub struct Renewed {
-    /// Whether nothing was at its path any more: it had been removed.
+    /// Whether the old file had been removed, so that nothing was at its path.
     pub is_restored: bool,
-    /// Whether its name is on the disk. Its bytes are.
+    /// Whether the name of the new file is on the disk. Its bytes always are.
     pub name: Result<(), SystemError>,
 }
 
-/// A file to which changes are appended. Between two syncs a loss of power may leave any of the changes between them.
+/// A file to which changes are appended. A loss of power leaves what was synced, and any of the
+/// changes since.
 pub trait Backing {
-    /// Its bytes, those that it had at the last sync, and whether its name is on the disk.
+    /// The bytes of the file now and at the last sync, and whether its name is on the disk.
     ghost state: { Self → FileState };
 
-    /// How many bytes it has.
+    /// How many bytes the file has.
     fn length(&self) -> u64
         ensures { IfSome (state self.now).bytes (λ bytes. result ≡ length bytes) };
 
@@ -33,25 +34,26 @@ pub trait Backing {
     fn cut(&mut self, whole: u64) -> Result<(), SystemError>
         ensures { CutsFile whole (state self.old) result (state self.new) };
 
-    /// Writes bytes at its end. No byte was synced that was dropped since: a loss of power could bring it back, and
-    /// these after it.
+    /// Writes bytes at the end of the file. All bytes of the last sync have to be there still. Else a
+    /// loss of power could bring those back that were dropped, with the new ones behind them.
     fn append(&mut self, bytes: &[u8]) -> Result<(), SystemError>
         requires { IsFrontOf (state self.old).synced (state self.old).bytes }
         ensures { AppendsToFile bytes.now (state self.old) result (state self.new) };
 
-    /// Brings its bytes to the disk, and what the system keeps of it.
+    /// Brings the bytes of the file to the disk, and its metadata.
     fn sync_all(&mut self) -> Result<(), SystemError>
         ensures { SyncsFile (state self.old) result (state self.new) };
 
-    /// Brings its bytes to the disk.
+    /// Brings the bytes of the file to the disk.
     fn sync_data(&mut self) -> Result<(), SystemError>
         ensures { SyncsFile (state self.old) result (state self.new) };
 
-    /// Brings its name to the disk.
+    /// Brings the name of the file to the disk.
     fn sync_name(&mut self) -> Result<(), SystemError>
         ensures { NamesFile (state self.old) result (state self.new) };
 
-    /// Puts the image of a drive in the place of its bytes, once it is on the disk. After a fault they are as before.
+    /// Replaces the file by the image of a drive, once that is on the disk. After a fault it is as
+    /// before.
     fn renew(&mut self, drive: &Drive) -> Result<Renewed, FileFault>
         ensures { RenewsFile drive.now.state (state self.old) result (state self.new) };
 }

@@ -1,4 +1,4 @@
-// An output whose bytes are sent once the file of a drive has the changes before them.
+// An output that sends replies only once the file of a drive has the changes that they depend on.
 
 ghost use Rattle.std.specs.Prelude.{◌≡◌, IfOk};
 
@@ -15,13 +15,15 @@ use std::rt::Files;
 pub enum SentAfter {
     /// Once the file has all changes.
     Write,
-    /// Once they are on the disk, too.
+    /// Once the disk has them, too.
     Sync,
 }
 
-/// Sends bytes to an output, once the file of a drive has all changes that were appended before. Before this output
-/// there is a buffer, so all replies that are sent together cost one write of the file. Nothing more is sent once a
-/// change could not be written that was appended, or synced: the system tells of lost bytes only once.
+/// Sends bytes to an output, once the file of a drive has all changes that were appended before.
+/// Whoever writes here has a buffer, so replies that are sent together cost one write of the file.
+///
+/// If a change cannot be written, or a sync fails, nothing more is sent. The system tells of lost
+/// bytes only once.
 #[derive(Drop)]
 pub struct ChangesOutput<'s, 'a, F: Files<File = File>, W: Write> {
     file: &'s ChangesFile<'a, F>,
@@ -49,7 +51,7 @@ impl<'s, 'a, F: Files<File = File>, W: Write> ChangesOutput<'s, 'a, F, W> {
         }
     }
 
-    // Waits until the file is as far as the bytes wait for.
+    // Writes or syncs the changes that the next bytes depend on.
     fn wait(&self) -> io::Result<Reached>
         ensures { IfOk result (λ reached. reached ≡ self.now) }
     {

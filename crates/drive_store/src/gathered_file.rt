@@ -19,10 +19,11 @@ use std::alloc::Global;
 use std::marker::Model;
 use zone_drive::Drive;
 
-/// By how much a file has to be longer than twice the image of its drive, before it is written anew.
+/// A file is written anew when it is longer than twice the image of its drive by more than this.
 const ROOM: u64 = 1 << 20;
 
-/// How far the changes of a file have come. Only the file itself says so.
+/// How far the changes of a file have come: written, or on the disk. Only the file makes such a
+/// value, so whoever has one knows that it is true.
 #[derive(Drop)]
 pub struct Reached {
     so_far: SentAfter,
@@ -36,29 +37,30 @@ impl Model for Reached {
     ghost view = { λ r. r.so_far };
 }
 
-/// The file of a drive, to which changes are appended. They are gathered, and written together. Until the first one is
-/// written, the file is unchanged.
+/// The file of a drive, to which changes are appended. They are gathered, and written together.
+/// Until the first one is written, the file is unchanged.
 ///
-/// It is written anew when it is more than 1 MiB longer than twice the image that the drive has by then. To count the
-/// blocks of a drive takes time. So that is done only when the file has reached a length that the last count gave:
-/// 1 MiB more than would have been too long then.
+/// The file is written anew when it is more than 1 MiB longer than twice the image of the drive.
+/// To know the length of the image, the blocks of the drive are counted, which takes time. So they
+/// are counted only once the file is longer than `limit`. Each count sets the next limit.
 #[derive(Drop)]
 pub struct GatheredFile<'g, B: Backing + Drop> {
     bytes: GatheredBytes<B>,
     /// Why it cannot be written, if it was opened only to be read.
     read_only: Option<SystemError>,
-    /// The blocks of the drive are counted when the file is longer.
+    /// When the file is longer than this, the blocks of the drive are counted.
     limit: u64,
     is_changed: bool,
     /// Why it takes no more changes.
     change_fault: Option<FileFault>,
-    /// Why what it has may not be on the disk. The system tells of lost bytes only once.
+    /// Why a sync failed. It is kept, since the system tells of lost bytes only once. From then on
+    /// the file may have bytes that are not on the disk.
     sync_fault: Option<FileFault>,
-    /// Why it can never be written anew.
+    /// Why the file can never be written anew, if that is so.
     never_anew: Option<FileFault>,
-    /// Whether it had been removed, and was made again at its path.
+    /// Whether somebody removed the file, and it was made again at its path.
     is_restored: bool,
-    /// It is shut at the first fault.
+    /// The gate that is shut at the first fault.
     gate: Option<&'g Gate>,
 }
 
@@ -81,14 +83,15 @@ impl<'g, B: Backing + Drop> Model for GatheredFile<'g, B> {
         × (f.change_fault ≡ None → IsReady (B.state f.bytes.file.file) f.bytes.file.whole f.bytes.file.is_at_end) };
 }
 
-/// How long a file may be before the blocks of its drive are counted again, by how long its image was.
+/// The length at which the blocks of a drive are counted again, after a count that gave this
+/// image.
 fn limit_of(image: u64) -> u64
     ensures { result ≡ limit_of image }
 {
     image.saturating_add(ROOM).saturating_mul(2)
 }
 
-/// Whether a file of this length is written anew, by how long the image of its drive is.
+/// Whether a file is too long, and so is written anew, if the image of its drive has this length.
 fn is_too_long(length: u64, image: u64) -> bool
     ensures { IsTrue result ↔ IsTooLong length image }
 {
@@ -107,7 +110,8 @@ fn image_length(drive: &Drive) -> u64 {
 }
 
 impl<'g, B: Backing + Drop> GatheredFile<'g, B> {
-    /// A file to which nothing was appended, and why it cannot be written, if so.
+    /// A file to which nothing was appended. `read_only` says why it cannot be written, if that is
+    /// so.
     pub fn new(alloc: Global, file: B, read_only: Option<SystemError>) -> Self
         requires { IsFrontOf (B.state file).synced (B.state file).bytes }
         ensures held { result.held ≡ (B.state file).bytes }
@@ -144,7 +148,7 @@ impl<'g, B: Backing + Drop> GatheredFile<'g, B> {
         self.gate = Some(gate);
     }
 
-    /// What is known of it when its job has ended.
+    /// What a job tells of its file at the end.
     pub fn end(&self) -> FileEnd
         ensures { result ≡ self.now.end }
     {
@@ -212,7 +216,8 @@ impl<'g, B: Backing + Drop> GatheredFile<'g, B> {
         taken
     }
 
-    /// Writes all changes that are gathered to the file. If none is, nothing fails, also after a change was refused.
+    /// Writes all gathered changes to the file. If none is gathered, this succeeds, even after a
+    /// change was refused.
     pub fn write_out(&mut self) -> Result<(), FileFault>
         ensures held { self.new.held ≡ self.old.held }
         ensures written { OnOk result (IsFrontOf self.new.held self.new.file.bytes) }
@@ -231,7 +236,7 @@ impl<'g, B: Backing + Drop> GatheredFile<'g, B> {
         written
     }
 
-    // Brings what is written to the disk, unless that failed before.
+    // Syncs the file, unless a sync failed before.
     fn bring_to_disk(&mut self) -> Result<(), FileFault>
         ensures held { self.new.held ≡ self.old.held }
         ensures file { self.new.file.bytes ≡ self.old.file.bytes }
@@ -248,8 +253,8 @@ impl<'g, B: Backing + Drop> GatheredFile<'g, B> {
         synced
     }
 
-    /// Writes all changes that are gathered to the file, and brings it to the disk, with its name. After it failed once
-    /// it fails for good.
+    /// Writes all gathered changes to the file, and brings the file and its name to the disk.
+    /// After one fault it always fails.
     pub fn sync(&mut self) -> Result<(), FileFault>
         ensures held { self.new.held ≡ self.old.held }
         ensures synced { OnOk result (IsFrontOf self.new.held self.new.file.synced) }
@@ -263,7 +268,7 @@ impl<'g, B: Backing + Drop> GatheredFile<'g, B> {
         synced
     }
 
-    /// Writes all changes that are gathered to the file, or brings them to the disk, too.
+    /// Writes all gathered changes to the file. If asked to, it also brings them to the disk.
     pub fn reach(&mut self, after: SentAfter) -> Result<Reached, FileFault>
         ensures reached { IfOk result (λ reached. reached ≡ after) }
         ensures held { self.new.held ≡ self.old.held }
@@ -277,13 +282,14 @@ impl<'g, B: Backing + Drop> GatheredFile<'g, B> {
         Ok(Reached { so_far: after })
     }
 
-    // Whether it is not written anew: it failed, cannot be written, or can never be replaced.
+    // Whether the file is not written anew at all: it failed, cannot be written, or cannot be
+    // replaced.
     fn is_never_renewed(&self) -> bool {
         self.fault().is_some() || self.read_only.is_some() || self.never_anew.is_some()
     }
 
-    // Writes the image of the drive into a new file, which takes the place of this one. It has the changes that are
-    // gathered, and is on the disk.
+    // Writes the image of the drive to a new file, which takes the place of this one. The image
+    // has all changes, also the gathered ones, and is on the disk.
     fn write_anew(&mut self, drive: &Drive) -> Result<(), FileFault>
         ensures ok { OnOk result (IfSome self.new.held (λ bytes. IsStoredWhole bytes drive.now.state start)) }
         ensures synced { OnOk result (self.new.file.synced ≡ self.new.held) }
@@ -313,7 +319,7 @@ impl<'g, B: Backing + Drop> GatheredFile<'g, B> {
             return false;
         }
         if let Err(fault) = self.write_anew(drive) {
-            // The file may grow twice as long before it is tried again, if ever.
+            // It is tried again when the file is twice as long, unless it can never succeed.
             self.limit = length.saturating_mul(2);
             self.never_anew = fault.is_final().then_some(fault);
             return false;
@@ -321,7 +327,7 @@ impl<'g, B: Backing + Drop> GatheredFile<'g, B> {
         true
     }
 
-    /// Saves a drive in it, if there is one to save. What is gathered is lost.
+    /// Saves a drive in the file, if there is one to save. Gathered changes are dropped.
     pub fn save(&mut self, drive: Option<Drive>) -> Result<Saved, FileFault>
         ensures { SavesDrive drive self.old.file result self.new.file }
     {

@@ -1,8 +1,10 @@
-// The file of an image. It is opened and locked before the image is read, and locked until the drive is saved.
+// The file of an image. It is locked before the image is read, and stays locked until the drive is
+// saved.
 //
-// The lock is on the image file itself, so it needs no file of its own, and is the same through each link. A save puts
-// a new file in the place of the locked one. So a program that has locked the file looks whether the path still names
-// it: if not, the image was replaced before the file was locked.
+// The lock is on the image file itself. So it needs no file of its own, and is the same through
+// each link. A save puts a new file in the place of the locked one. So after a program has locked
+// a file, it looks whether the path still names this file. If not, the image was replaced in the
+// meantime.
 
 use crate::file_fault::{FileFault, SystemError};
 use crate::new_file::sync_name;
@@ -17,14 +19,14 @@ use std::{fs, io};
 /// An image file that is open and locked.
 #[derive(Drop)]
 pub struct ImageFile {
-    /// Where the file is. It is no symbolic link, unless the image is only read.
+    /// The path of the file. Only if the image is just read, this may be a symbolic link.
     pub path: String,
     pub file: File,
-    /// Of the file when it was locked.
+    /// The metadata of the file when it was locked.
     pub metadata: Metadata,
     /// Why the file cannot be written, if it was opened only to be read.
     pub read_only: Option<SystemError>,
-    /// Whether the file was made here, and is empty until the drive is saved.
+    /// Whether this program made the file. It is empty until the drive is saved.
     pub is_new: bool,
 }
 
@@ -32,7 +34,7 @@ fn open_fault(error: io::Error) -> FileFault {
     FileFault::Open(SystemError::from(error))
 }
 
-/// Reads a file from where it is.
+/// A reader of a file, from its present position on.
 fn reader_of(alloc: Global, file: &File) -> Result<BufReader<File>, FileFault> {
     let file = file.try_clone().map_err(open_fault)?;
     BufReader::new(alloc, file).map_err(open_fault)
@@ -42,7 +44,7 @@ fn is_same_file(one: &Metadata, other: &Metadata) -> bool {
     one.dev() == other.dev() && one.ino() == other.ino()
 }
 
-/// What an attempt to lock a file comes to.
+/// The result of an attempt to lock a file.
 fn locked(attempt: Result<(), TryLockError>) -> Result<(), FileFault> {
     match attempt {
         Ok(()) => Ok(()),
@@ -59,8 +61,8 @@ fn without_link<F: Files>(files: &F, alloc: Global, path: &str) -> io::Result<St
     Ok(String::from_str(alloc, path)?)
 }
 
-/// Opens a file to read and to write it, or only to read it: then it says why. Network file systems lock no file that
-/// cannot be written.
+/// Opens a file to read and write it. If that fails, it is opened only to read it, and the error is
+/// returned, too. Writing is asked for since network file systems lock no other file.
 fn open_both_ways<F: Files>(files: &F, path: &str) -> io::Result<(F::File, Option<SystemError>)> {
     match OpenOptions::new().read(true).write(true).open(files, path) {
         Ok(file) => Ok((file, None)),
@@ -77,8 +79,8 @@ fn look_regular<F: Files>(files: &F, path: &str) -> Result<(), FileFault> {
     Ok(())
 }
 
-/// Looks whether a path names what can be read at once: a regular file, or a pipe that is open already and has no name,
-/// as `/dev/stdin` may be.
+/// Looks whether a path names what can be read without waiting: a regular file, or a nameless pipe
+/// that is open already, such as `/dev/stdin` may be.
 fn look_readable<F: Files>(files: &F, alloc: Global, path: &str) -> Result<(), FileFault> {
     match look_regular(files, path) {
         Err(FileFault::NotRegular) if files.canonicalize(alloc, path).is_err() => Ok(()),
@@ -86,7 +88,7 @@ fn look_readable<F: Files>(files: &F, alloc: Global, path: &str) -> Result<(), F
     }
 }
 
-/// Locks a file against each other program, if the path still names it.
+/// Locks a file against all other programs. It fails if the path names another file by now.
 fn lock_at<F: Files>(
     files: &F,
     path: String,
@@ -128,8 +130,8 @@ pub fn open_to_read<F: Files<File = File>>(
     })
 }
 
-/// Opens the file of an image whose drive is going to be saved. No other program can read or change it. If it can be
-/// written, so can its folder be synchronized.
+/// Opens the file of an image to save a drive in it later. No other program can read or change it
+/// until then. If the file can be written, it also looks whether its folder can be synced.
 pub fn open_to_save<F: Files<File = File>>(
     files: &F,
     alloc: Global,
@@ -168,8 +170,8 @@ pub fn image_to_save<F: Files<File = File>>(
     Ok((image, bytes))
 }
 
-/// Makes an empty file for an image, where nothing is yet. It is removed again where it cannot be locked, unless another
-/// program has it.
+/// Makes an empty file for an image, at a path that nothing has. If it cannot be locked, it is
+/// removed again, unless another program has it by now.
 pub fn new_image<F: Files<File = File>>(
     files: &F,
     alloc: Global,
@@ -188,7 +190,7 @@ pub fn new_image<F: Files<File = File>>(
     made
 }
 
-/// Whether a file begins as an image does. The reader of images says so of its first bytes.
+/// Whether a file begins as an image does. The reader of images decides that by the first bytes.
 fn begins_as_image(alloc: Global, mut file: &File) -> io::Result<bool> {
     let mut head = [0; 64];
     file.read(&mut head)?;
@@ -196,8 +198,8 @@ fn begins_as_image(alloc: Global, mut file: &File) -> io::Result<bool> {
     Ok(!matches!(read, Err(ImageFault::Magic)))
 }
 
-/// Opens the file in which a fresh drive is going to be saved, or makes it. What it holds is going to be lost: so it
-/// has to be empty or to begin as an image does, or `force` is given.
+/// Opens the file in which a fresh drive will be saved, or makes it. What it holds will be lost.
+/// So without `force` it has to be empty, or to begin as an image does.
 pub fn open_to_format<F: Files<File = File>>(
     files: &F,
     alloc: Global,
@@ -219,7 +221,8 @@ pub fn open_to_format<F: Files<File = File>>(
 }
 
 impl ImageFile {
-    /// A new file that is going to be at the path of an old one. No other program knows it yet, so it can be locked.
+    /// A new file that will get the path of an old one. No other program knows it yet, so it can be
+    /// locked.
     pub fn replacing(alloc: Global, old: &ImageFile, file: File) -> Result<ImageFile, FileFault> {
         locked(file.try_lock())?;
         let metadata = file.metadata().map_err(open_fault)?;
@@ -239,7 +242,7 @@ impl ImageFile {
         Ok(is_same_file(&self.metadata, &named))
     }
 
-    /// Removes the file where it was made here.
+    /// Removes the file if this program made it.
     pub fn discard<F: Files>(&self, files: &F) {
         if self.is_new && self.is_named(files).unwrap_or(false) {
             let _ = fs::remove_file(files, self.path.as_str());

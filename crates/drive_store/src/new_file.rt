@@ -1,4 +1,5 @@
-// A drive is saved in a new file in the folder of the image, which takes the image's place when it is whole.
+// Saving a drive: a new file is written in the folder of the image. When it is whole, it takes the
+// place of the image.
 
 ghost use Rattle.std.specs.Prelude.{◌≡◌};
 ghost use Rattle.drive_store.specs.NewFile.{IsFolder, mode_of};
@@ -14,7 +15,7 @@ use std::rt::Files;
 use std::{fs, io};
 use zone_drive::Drive;
 
-/// A file that is written, and what the system said of the last write that failed.
+/// A file that is being written, and the error of the last write that failed.
 #[derive(Drop)]
 struct WrittenFile<'a> {
     file: &'a File,
@@ -48,14 +49,14 @@ fn name(alloc: Global, path: &str, number: u32) -> Result<String, AllocError> {
     format!(in alloc; "{path}.new-{number}")
 }
 
-/// Makes a file that nobody else can read, where there is nothing yet.
+/// Makes a new file, which nobody else can read. If something has this path, it fails.
 fn make_new<F: Files>(files: &F, path: &str) -> io::Result<F::File> {
     let mut options = OpenOptions::new();
     options.write(true).create_new(true).mode(0o600);
     options.open(files, path)
 }
 
-/// Makes a new file in the folder of the image at `path`, at the first name that nothing has.
+/// Makes a new file in the folder of the image at `path`, with the first name that is free.
 fn make_at_free_name<F: Files>(
     files: &F,
     alloc: Global,
@@ -72,8 +73,8 @@ fn make_at_free_name<F: Files>(
     Err(io::Error::from(ErrorKind::AlreadyExists))
 }
 
-/// The mode of a new file, by the mode of the old one. Where the new file has another group, its group may do what all
-/// may do.
+/// The mode of a new file, from the mode of the old one. If the new file has another group, the
+/// group may only do what all others may do.
 fn mode_of(old: u32, is_group_kept: bool) -> u32
     ensures { result ≡ mode_of old is_group_kept }
 {
@@ -120,8 +121,8 @@ fn folder(path: &str) -> &str
     }
 }
 
-/// Brings the name of a file to the disk. A file system that synchronizes no folders says that the call is invalid:
-/// then there is nothing to do.
+/// Brings the name of a file to the disk, by a sync of its folder. Some file systems cannot sync
+/// folders, and call this an invalid input. Then there is nothing to do.
 pub fn sync_name<F: Files<File = File>>(files: &F, path: &str) -> Result<(), SystemError> {
     match fs::open(files, folder(path))?.sync_all() {
         Err(error) if error.kind() == ErrorKind::InvalidInput => Ok(()),
@@ -140,9 +141,9 @@ pub struct Saving<'a, F: Files> {
 #[derive(Drop)]
 pub struct NewImage {
     pub image: ImageFile,
-    /// Whether nothing was at the path any more: the image had been removed.
+    /// Whether the old image had been removed, so that nothing was at its path.
     pub is_restored: bool,
-    /// Whether its name is on the disk. The file itself is.
+    /// Whether the name of the file is on the disk. Its bytes always are.
     pub name: Result<(), SystemError>,
 }
 
@@ -162,7 +163,7 @@ fn rename_fault(error: io::Error) -> FileFault {
     }
 }
 
-/// Whether the image was removed: nothing is at its path. It may not be another file.
+/// Whether the image was removed, so that nothing is at its path. Another file there is a fault.
 fn is_removed<F: Files>(files: &F, image: &ImageFile) -> Result<bool, FileFault> {
     match image.is_named(files) {
         Ok(true) => Ok(false),
@@ -172,8 +173,8 @@ fn is_removed<F: Files>(files: &F, image: &ImageFile) -> Result<bool, FileFault>
     }
 }
 
-/// Writes the image of a drive to a new file, locks it, and puts it in the place of the old one, or where that was if
-/// it was removed.
+/// Writes the image of a drive to a new file, locks it, and renames it to the path of the old
+/// image. The old image may have been removed.
 fn fill<F: Files<File = File>>(
     how: &Saving<'_, F>,
     drive: &Drive,
@@ -194,7 +195,8 @@ fn fill<F: Files<File = File>>(
     })
 }
 
-/// Makes a new file with the image of a drive, and puts it in the place of an image. After a fault there is none.
+/// Makes a new file with the image of a drive, and puts it in the place of the old image. After a
+/// fault the new file is removed.
 fn make_in_place<F: Files<File = File>>(
     how: &Saving<'_, F>,
     drive: &Drive,
@@ -208,8 +210,9 @@ fn make_in_place<F: Files<File = File>>(
     made
 }
 
-/// Puts a new file with the image of a drive in the place of an image, and hands it back. The new file is on the disk
-/// before it takes that place, and its name afterwards. After a fault no new file is left, and the image is as before.
+/// Puts a new file with the image of a drive in the place of the old image, and returns it. The
+/// bytes of the new file are on the disk before it is renamed, and its name is brought there
+/// afterwards. After a fault no new file is left, and the old image is as before.
 pub fn replace<F: Files<File = File>>(
     how: &Saving<'_, F>,
     drive: &Drive,
@@ -224,8 +227,9 @@ pub fn replace<F: Files<File = File>>(
     }
 }
 
-/// Saves a drive in the place of an image. After a fault no new file is left, and the image is as before, unless its
-/// name could not be brought to the disk.
+/// Saves a drive in the place of the old image. After a fault no new file is left, and the old
+/// image is as before. There is one exception: if only the sync of the name failed, the new file
+/// stays.
 pub fn save<F: Files<File = File>>(
     how: &Saving<'_, F>,
     drive: &Drive,
@@ -238,7 +242,7 @@ pub fn save<F: Files<File = File>>(
     })
 }
 
-/// What is to be known of a file once its drive is saved, or stays in it as it is.
+/// What is known of a file after its drive was saved, or needed no save.
 #[derive(Clone, Copy, Debug, PartialEq, Eq)]
 pub struct Saved {
     /// Whether the file had been removed while it was in use, and was made again at its path.

@@ -1,4 +1,4 @@
-// A file whose first bytes are whole, with what is done to it.
+// A file of which only the first bytes count.
 
 ghost use Rattle.std.specs.Prelude.{◌≡◌, ◌≤◌, IfErr, IfOk, IfSome, OnErr, OnOk, false, is_some, length, min, true};
 ghost use Rattle.std.specs.Io.KnownBytes.{append_known};
@@ -10,21 +10,22 @@ use crate::backing::{Backing, Renewed};
 use crate::file_fault::{FileFault, SystemError};
 use zone_drive::Drive;
 
-/// A file of which the first bytes are whole. What follows them is cut off before more is appended.
+/// A file whose first bytes are whole: an image and whole changes. What follows them is cut off
+/// before more is appended.
 #[derive(Drop)]
 pub(crate) struct WholeFile<B: Backing + Drop> {
     pub(crate) file: B,
     /// How many bytes are whole.
     pub(crate) whole: u64,
-    /// Whether the file ends after them.
+    /// Whether the file is known to end after them.
     pub(crate) is_at_end: bool,
-    /// Whether all its bytes are on the disk.
+    /// Whether all bytes of the file are on the disk.
     pub(crate) is_synced: bool,
 }
 
 impl<B: Backing + Drop> WholeFile<B> {
-    // Cuts off what is not whole. The cut is on the disk before more is written: else a loss of power could bring back
-    // what was cut off, after what is written now.
+    // Cuts off what is not whole, and syncs the cut before more is written. Without the sync a
+    // loss of power could bring back the old bytes behind the new ones.
     fn cut_rest(&mut self) -> Result<(), SystemError>
         requires whole { IsWhole (B.state self.old.file) self.old.whole self.old.is_synced }
         requires ready { IsReady (B.state self.old.file) self.old.whole self.old.is_at_end }
@@ -43,7 +44,7 @@ impl<B: Backing + Drop> WholeFile<B> {
         Ok(())
     }
 
-    // Makes ready for bytes to be appended.
+    // Makes the file ready to be appended to.
     fn begin(&mut self) -> Result<(), SystemError>
         requires whole { IsWhole (B.state self.old.file) self.old.whole self.old.is_synced }
         requires ready { IsReady (B.state self.old.file) self.old.whole self.old.is_at_end }
@@ -63,7 +64,8 @@ impl<B: Backing + Drop> WholeFile<B> {
         Ok(())
     }
 
-    /// Appends bytes to those that are whole. After a fault these are as before, and the file takes no more.
+    /// Appends bytes to the whole ones. After a fault the whole bytes are as before, and no more
+    /// are appended.
     pub(crate) fn append(&mut self, bytes: &[u8]) -> Result<(), SystemError>
         requires whole { IsWhole (B.state self.old.file) self.old.whole self.old.is_synced }
         requires ready { IsReady (B.state self.old.file) self.old.whole self.old.is_at_end }
@@ -80,7 +82,7 @@ impl<B: Backing + Drop> WholeFile<B> {
         Ok(())
     }
 
-    /// Brings all its bytes to the disk, and its name.
+    /// Brings all bytes of the file and its name to the disk.
     pub(crate) fn sync(&mut self) -> Result<(), SystemError>
         requires whole { IsWhole (B.state self.old.file) self.old.whole self.old.is_synced }
         ensures whole { IsWhole (B.state self.new.file) self.new.whole self.new.is_synced }
@@ -101,7 +103,7 @@ impl<B: Backing + Drop> WholeFile<B> {
         Ok(())
     }
 
-    /// Says that no more than these bytes are whole.
+    /// Notes that only this many bytes are whole, or fewer.
     pub(crate) fn cut(&mut self, whole: u64)
         requires whole { IsWhole (B.state self.old.file) self.old.whole self.old.is_synced }
         ensures whole { IsWhole (B.state self.new.file) self.new.whole self.new.is_synced }
@@ -114,7 +116,8 @@ impl<B: Backing + Drop> WholeFile<B> {
         self.is_at_end = false;
     }
 
-    /// Puts the image of a drive in the place of its bytes, on the disk. After a fault they are as before.
+    /// Replaces the file by the image of a drive, which is on the disk then. After a fault it is
+    /// as before.
     pub(crate) fn renew(&mut self, drive: &Drive) -> Result<Renewed, FileFault>
         ensures ok { IfOk result (λ renewed.
             HoldsImage drive.now.state (is_ok renewed.name) (B.state self.old.file) (B.state self.new.file)) }
