@@ -17,7 +17,7 @@ use nvme_wire::{Command, Status};
 use sqlite_wal::checksum_of;
 use std::alloc::AllocError;
 
-/// The checksum that runs through the changes of a file, up to one of them.
+/// A running checksum: it covers all changes of a file up to some point.
 pub type Sum = (u32, u32);
 
 /// The sum before the first change of a file.
@@ -29,14 +29,14 @@ pub(crate) const MARK: [u8; 8] = *b"ZNSCHG02";
 /// How a change began in the version before.
 pub(crate) const EARLIER_MARK: [u8; 8] = *b"ZNSCHG01";
 
-/// The sum, which goes on over bytes.
+/// The sum after some more bytes.
 pub(crate) fn sum_over(sum: Sum, bytes: &[u8]) -> Sum
     ensures { result ≡ sum_over sum bytes.now }
 {
     checksum_of(false, sum, bytes)
 }
 
-/// The sum before the next change: it starts again where the bytes were written anew.
+/// The sum before the next change. If the file was just written anew, it starts again.
 pub(crate) fn sum_before(anew: bool, sum: Sum) -> Sum
     ensures { result ≡ (if anew then start else sum) }
 {
@@ -55,7 +55,7 @@ pub(crate) fn sum_bytes(sum: Sum) -> [u8; 8]
     out
 }
 
-/// The data of an entry, where its command writes them.
+/// The data that a command writes. Commands that write none have no data.
 #[inline(always)]
 pub(crate) fn written_of<'a>(entry: &[u8; 64], bytes: &'a [u8]) -> &'a [u8]
     ensures { result.now ≡ beside_bytes (decode_of entry.now) bytes.now }
@@ -66,8 +66,9 @@ pub(crate) fn written_of<'a>(entry: &[u8; 64], bytes: &'a [u8]) -> &'a [u8]
     }
 }
 
-/// Writes the change of an entry and its data to a store, in parts, so that the data are not copied before. It goes on
-/// from a sum, and what is returned is the sum after it. After a fault a beginning of the change is written.
+/// Writes the change of an entry and its data to a store. `sum` is the sum before it, and the sum
+/// after it is returned. The parts are written one after the other, so that the data need not be
+/// copied. After a fault a beginning of the change is written.
 pub(crate) fn write_change<D: Device, S: Store<D>>(
     store: &mut S,
     sum: Sum,
@@ -108,7 +109,8 @@ pub(crate) fn will_change<D: Foreseeing>(device: &D, entry: &[u8; 64], bytes: &[
     }
 }
 
-/// Takes the memory that the device needs for a command, and room for its entry and its data.
+/// Reserves all memory for a command: in the device, and in `room` for a copy of its entry and its
+/// data.
 pub(crate) fn make_ready<D: Foreseeing>(
     device: &mut D,
     room: &mut Vec<u8>,
@@ -124,7 +126,7 @@ pub(crate) fn make_ready<D: Foreseeing>(
     device.reserve(entry, bytes)
 }
 
-/// Puts an entry and its data where there is room for them.
+/// Copies an entry and its data to the room that was reserved for them.
 pub(crate) fn keep(room: &mut Vec<u8>, entry: &[u8; 64], written: &[u8])
     requires empty { room.old.items ≡ [] }
     requires room { 64 + length written.now ≤ vec_capacity room.old }

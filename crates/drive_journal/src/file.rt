@@ -20,17 +20,17 @@ use std::io::Read;
 use zone_drive::Drive;
 use zone_states::{Geometry, Zone, is_open};
 
-/// A drive that was read in a file.
+/// A drive that was read from a file.
 #[derive(Drop)]
 pub struct OpenedDrive {
     pub drive: Drive,
-    /// How many bytes of the file are the image and whole changes. The bytes after them are a change that was cut
-    /// off: the file is cut there before more is written.
+    /// How many bytes the image and the whole changes have. If the file has more bytes, these are
+    /// a change that was cut off. They have to be removed before more is written.
     pub whole: u64,
-    /// The sum from which the next change goes on.
+    /// The sum before the next change.
     pub sum: Sum,
-    /// Whether all bytes of the file are the image of the drive as a restart leaves it: there was no change, also none
-    /// that was cut off, and no zone is open.
+    /// Whether the file is just the image of the drive after a restart. So it has no change, not
+    /// even one that was cut off, and no zone is open.
     pub is_image: bool,
 }
 
@@ -45,14 +45,14 @@ fn settle(zones: &mut [Zone], block: u32, has_changes: bool)
     }
 }
 
-// Whether no zone is open, as after a restart.
+// Whether no zone is open.
 fn are_shut(zones: &[Zone]) -> bool
     ensures { result ≡ list_all (λ zone. not (is_open zone.state)) zones.now }
 {
     zones.iter().all(|zone| !is_open(zone.state()))
 }
 
-// Whether all bytes of a file are an image, which ends at `from`, of zones none of which is open.
+// Whether a file ends with its image, at `from`, and none of these zones is open.
 fn is_rested_image(zones: &[Zone], from: u64, end: &Replayed) -> bool
     ensures { result ≡ ((end.now.is_all && (end.now.whole == from))
         && list_all (λ zone. not (is_open zone.state)) zones.now) }
@@ -60,7 +60,7 @@ fn is_rested_image(zones: &[Zone], from: u64, end: &Replayed) -> bool
     end.is_all && end.whole == from && are_shut(zones)
 }
 
-// A drive of these zones, if any.
+// A drive with these zones, if a drive can have them.
 fn make_drive(alloc: Global, geometry: Geometry, zones: Vec<Zone>) -> Result<Drive, FileFault>
     requires in_range { IsInRange geometry }
     requires whole { HaveWholeBlocks geometry.block zones.items }
@@ -74,8 +74,9 @@ fn make_drive(alloc: Global, geometry: Geometry, zones: Vec<Zone>) -> Result<Dri
     }
 }
 
-/// Reads the drive that a file holds, to the end of the reader: the image, and the changes after it. The drive has
-/// completed no command. If there are changes, none of its zones is open, as after a restart; else they are as saved.
+/// Reads the drive that a file holds: its image, and all changes after it. The drive has completed
+/// no command. If there are changes, its open zones are closed, as after a restart. Else the zones
+/// are as they were saved.
 pub fn open_drive<R: Read>(alloc: Global, reader: &mut R) -> Result<OpenedDrive, FileFault>
     ensures ok { IfOk result (λ opened. IfSome (R.remaining reader.old) (λ bytes.
         IsDriveFile bytes opened.drive.state opened.whole opened.sum)) }

@@ -15,7 +15,8 @@ use zone_drive::Drive;
 
 /// A device that knows how a command will end before it is done, and that never stops inside one.
 pub trait Foreseeing: Device {
-    /// What the command of an entry gives with these bytes as its data, if there is memory for it.
+    /// The outcome of the command of an entry with these bytes as its data, if there is memory for
+    /// it.
     ghost foreseen: { Self → List ℕ → List ℕ → Outcome };
 
     /// The status with which the command of this entry will end, if there is memory for it and the device has not
@@ -25,11 +26,13 @@ pub trait Foreseeing: Device {
         ensures can { CanGive (Self.drive self.now) (decode_of entry.now) bytes.now
             (foreseen self.now entry.now bytes.now) };
 
-    /// Takes the memory that the command of this entry needs for its blocks. Nothing else changes.
+    /// Reserves the memory that the command of this entry needs for its blocks. Nothing else
+    /// changes.
     fn reserve(&mut self, entry: &[u8; 64], bytes: &[u8]) -> Result<(), AllocError>
         ensures { self.new ≡ self.old };
 
-    /// Answers an entry as `submit` does, and extends what `into` holds as `submit_extending` does.
+    /// Answers an entry as `submit` does. Bytes that come back are added to `into`, as
+    /// `submit_extending` does it.
     fn answer(
         &mut self,
         entry: &[u8; 64],
@@ -43,7 +46,7 @@ pub trait Foreseeing: Device {
             ≡ is_success (foreseen self.old entry.now bytes.now).status) }
         ensures kept { OnErr result (self.new ≡ self.old) };
 
-    /// Only the bytes that the command writes matter.
+    /// Bytes that the command does not write make no difference to the outcome.
     ghost same_data: { (device : Self) (entry bytes : List ℕ) →
         foreseen device entry (beside_bytes (decode_of entry) bytes) ≡ foreseen device entry bytes };
 }

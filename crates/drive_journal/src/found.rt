@@ -1,18 +1,19 @@
 use crate::change::Sum;
 
-/// What is found where a change may be.
+/// What a reader finds where the next change would begin.
 #[derive(Clone, Copy, Debug, PartialEq, Eq)]
 pub(crate) enum Found {
-    /// No byte.
+    /// Nothing: the file ends here.
     End,
     /// A whole change, and the sum after it.
     Change(Sum),
     /// A change that was cut off.
     CutOff,
-    /// Bytes that begin as a change does, and are none, nor a change that was cut off.
+    /// Damage: bytes that begin with the mark of a change, but are neither a whole change nor the
+    /// beginning of one.
     Damaged,
-    /// The mark of a change of the version before.
+    /// The mark of an older version.
     Earlier,
-    /// Other bytes.
+    /// Any other bytes.
     Other,
 }

@@ -12,20 +12,22 @@ use drive_port::{Device, Geometry, Halt};
 use std::alloc::Global;
 use std::marker::Model;
 
-/// A device that writes each change of another to a store, before the other makes it. The store holds the image of a
-/// drive, and after it the changes since. The drive that is shown is always the one that the store holds.
+/// A device that writes each change to a store before the device within makes it. The store holds
+/// the image of a drive, and after it all changes since. This device always shows the drive that
+/// the store holds.
 ///
-/// Where the store fails, the device has stopped, and shows the drive as it was before the command. If the store has
-/// the change and there is no memory to do the command, the device has stopped too, and shows the drive with the
-/// command done.
+/// If the store fails, this device has stopped, and shows the drive before the command. If the store
+/// has the change, but there is no memory to do the command, it has stopped too, and shows the drive
+/// after the command.
 #[derive(Drop)]
 pub struct Journaling<D: Foreseeing + Drop, S: Store<D> + Drop> {
     device: D,
     store: S,
     loss: Loss,
-    // The sum from which the next change goes on.
+    // The sum before the next change.
     sum: Sum,
-    // The entry and the data of the last change, if its completion was lost. Else there is room for those of the next.
+    // If the completion of the last change was lost: its entry and data. Else this is room for the
+    // next ones.
     change: Vec<u8>,
 }
 
@@ -44,7 +46,7 @@ impl<D: Foreseeing + Drop, S: Store<D> + Drop> Model for Journaling<D, S> {
       sum = j.sum;
     } };
 
-    // A device that lost something has told its store.
+    // If something was lost, the store has been told.
     ghost invariant = { λ j. IsInStep (record {
       drive = shown_drive j.loss (D.drive j.device)
           (D.foreseen j.device (changed_entry_in j.change.items) (changed_data_in j.change.items)).zones;
@@ -55,8 +57,8 @@ impl<D: Foreseeing + Drop, S: Store<D> + Drop> Model for Journaling<D, S> {
 }
 
 impl<D: Foreseeing + Drop, S: Store<D> + Drop> Journaling<D, S> {
-    /// A device whose changes go to this store, which holds the drive of the device. They go on from this sum: `START`
-    /// if the store holds an image and no change.
+    /// A device whose changes go to this store. The store has to hold the drive of the device
+    /// already. `sum` is the sum after the changes in the store: `START` if it has none.
     pub fn new(alloc: Global, device: D, store: S, sum: Sum) -> Self
         requires { IfSome (S.held store) (λ bytes. IsStoredWhole bytes (D.drive device) sum) }
         ensures { result ≡ record { drive = D.drive device; lost = false; contents = S.held store; sum = sum } }
@@ -70,8 +72,9 @@ impl<D: Foreseeing + Drop, S: Store<D> + Drop> Journaling<D, S> {
         }
     }
 
-    /// The device within and the store, as they are. The store holds the drive that was shown. So does the device,
-    /// unless the store failed: it refused a change, or there was no memory for one that it has.
+    /// The device within and the store, as they are. The store holds the drive that was shown. The
+    /// device within holds it too, unless the store has failed: it refused a change, or has one
+    /// that the device could not make.
     pub fn into_parts(self) -> (D, S)
         ensures device { S.failed result.1 ≡ false → D.drive result.0 ≡ self.drive }
         ensures store { S.held result.1 ≡ self.contents }
@@ -90,7 +93,7 @@ impl<D: Foreseeing + Drop, S: Store<D> + Drop> Journaling<D, S> {
         }
     }
 
-    // Answers an entry. What it returns goes after what `into` holds.
+    // Answers an entry. Bytes that come back are added to `into`.
     fn answer(
         &mut self,
         entry: &[u8; 64],

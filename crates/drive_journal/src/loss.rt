@@ -1,4 +1,4 @@
-/// What a device lost that has stopped.
+/// What was lost when the device stopped.
 #[derive(Clone, Copy, Debug, PartialEq, Eq)]
 pub enum Loss {
     /// Nothing: the store has the changes of all commands that were completed, and no other.

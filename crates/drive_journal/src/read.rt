@@ -15,7 +15,7 @@ use nvme_wire::{Command, DecodeFault};
 use std::io::Read;
 use zone_states::Geometry;
 
-/// Reads until the buffer is full or the reader ends, and says how many bytes.
+/// Reads until the buffer is full or the reader ends. Answers how many bytes were read.
 fn fill<R: Read>(reader: &mut R, buffer: &mut [u8]) -> Result<usize, ImageFault>
     ensures read { IfOk result (λ n. Consumes (R.remaining reader.old) (R.remaining reader.new) (take n buffer.new)) }
     ensures bound { IfOk result (λ n. n ≤ length buffer.old) }
@@ -34,7 +34,8 @@ fn fill<R: Read>(reader: &mut R, buffer: &mut [u8]) -> Result<usize, ImageFault>
     Ok(at)
 }
 
-/// Reads up to that many bytes in the place of those that `bytes` holds, and says how many. The others are zeros.
+/// Replaces the contents of `bytes` by `count` bytes of the reader, and answers how many it had.
+/// If it had fewer, zeros follow.
 fn fill_bytes<R: Read>(
     reader: &mut R,
     bytes: &mut Vec<u8>,
@@ -52,7 +53,8 @@ fn fill_bytes<R: Read>(
     fill(reader, bytes)
 }
 
-/// How many blocks of data come with a command that changes a drive of this shape.
+/// How many blocks of data a command has that changes a drive of this shape. Any other command has
+/// `None`.
 fn data_blocks(geometry: &Geometry, command: Result<Command, DecodeFault>) -> Option<u32>
     ensures changes { IfSome result (λ blocks. changes command ≡ true) }
     ensures blocks { IfSome result (λ blocks. blocks ≡ beside_blocks command) }
@@ -77,7 +79,8 @@ fn is_sum(bytes: &[u8; 8], sum: Sum) -> bool
     *bytes == sum_bytes(sum)
 }
 
-/// How many bytes of data the change of this entry has, if the entry and the sum after it are a head.
+/// How many bytes of data the change of this entry has. `None` if the entry and the bytes after
+/// it, which should be the sum, are no head of a change.
 fn data_length(geometry: &Geometry, sum: Sum, entry: &[u8; 64], sealed: &[u8; 8]) -> Option<usize>
     requires { IsInRange geometry.now }
     ensures some { IfSome result (λ count. IsSealedEntry geometry.now sum entry.now sealed.now) }
@@ -91,7 +94,8 @@ fn data_length(geometry: &Geometry, sum: Sum, entry: &[u8; 64], sealed: &[u8; 8]
     Some(blocks as usize * geometry.block as usize)
 }
 
-/// What follows a whole change with a wrong sum: no byte, so it was cut off, or more.
+/// Judges a change that has its full length and a wrong last sum. If nothing follows, it was cut
+/// off. Else it is damaged.
 fn find_end<R: Read>(reader: &mut R) -> Result<Found, ImageFault>
     ensures ok { IfOk result (λ found. FindsEnd (R.remaining reader.old) found) }
     ensures err { IfErr result (λ fault. is_of_bytes fault ≡ false) }
@@ -140,14 +144,14 @@ fn read_body<R: Read>(
     Ok(Found::Change(next))
 }
 
-/// Whether these bytes are a front of the mark.
+/// Whether these bytes are the mark or a beginning of it.
 fn is_front_of_mark(bytes: &[u8]) -> bool
     ensures { result ≡ starts_with nat_eq mark bytes.now }
 {
     MARK.starts_with(bytes)
 }
 
-/// What bytes are that are no front of the mark.
+/// Judges bytes that are neither the mark nor a beginning of it.
 fn find_other(bytes: &[u8]) -> Found
     ensures { IsOther bytes.now result }
 {
@@ -157,7 +161,7 @@ fn find_other(bytes: &[u8]) -> Found
     Found::Other
 }
 
-/// Reads the next change, which goes on from this sum: its entry and its data.
+/// Reads the next change: its entry and its data. `sum` is the sum before it.
 pub(crate) fn read_change<R: Read>(
     reader: &mut R,
     geometry: &Geometry,

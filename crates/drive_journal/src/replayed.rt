@@ -7,6 +7,6 @@ pub struct Replayed {
     pub whole: u64,
     /// The sum after the last of the changes.
     pub sum: Sum,
-    /// Whether no byte follows: the bytes of a change that was cut off may.
+    /// Whether the file ends there. Else a change follows that was cut off.
     pub is_all: bool,
 }

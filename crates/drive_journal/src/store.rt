@@ -13,9 +13,10 @@ use std::alloc::Global;
 use std::io::Write;
 use zone_drive::Drive;
 
-/// What the changes of a device are written to: a file, whose bytes no contract knows, or bytes in memory.
+/// Where the changes of a device are written to: bytes in memory, or a file. Of the bytes of a
+/// file contracts say nothing.
 pub trait Store<D: Device> {
-    /// The bytes that it holds, where they are known.
+    /// The bytes that it holds, if they are known.
     ghost held: { Self → Option (List ℕ) };
 
     /// Whether it refused bytes, or has a change that the device could not make.
@@ -25,7 +26,7 @@ pub trait Store<D: Device> {
     fn has_failed(&self) -> bool
         ensures { result ≡ failed self.now };
 
-    /// Writes bytes after those that it holds. After a fault a beginning of them is written.
+    /// Appends bytes. After a fault a beginning of them is written.
     fn append(&mut self, bytes: &[u8]) -> Result<(), WriteFault>
         ensures ok { OnOk result (Appends (held self.old) (held self.new) bytes.now) }
         ensures err { OnErr result (AppendsFront (held self.old) (held self.new) bytes.now) }
@@ -38,9 +39,9 @@ pub trait Store<D: Device> {
         ensures held { held self.new ≡ held self.old }
         ensures failed { failed self.new ≡ true };
 
-    /// May put others in the place of the bytes that it holds, which store the same drive, as its image does, and says
-    /// whether it did. The sum starts again after them. It is called before a change is written. Where the others
-    /// cannot be written, the bytes stay.
+    /// May replace its bytes by others that store the same drive, such as the image of the drive.
+    /// Answers whether it did. Then the sum starts again. It is called before a change is written.
+    /// If the new bytes cannot be written, the old ones stay.
     fn renew(&mut self, device: &D) -> bool
         requires { (sum : Sum) × IfSome (held self.old) (λ bytes. IsStoredWhole bytes (D.drive device.now) sum) }
         ensures anew { IsTrue result → IfSome (held self.new) (λ bytes.
@@ -55,7 +56,7 @@ pub trait Store<D: Device> {
         ensures failed { failed self.new ≡ failed self.old };
 }
 
-/// A writer of whose bytes no contract says anything, as a file. It writes nothing anew.
+/// A writer, such as a file, of whose bytes contracts say nothing. It never replaces its bytes.
 #[derive(Drop)]
 pub struct Unknown<W: Write + Drop> {
     writer: W,
@@ -102,12 +103,12 @@ impl<W: Write + Drop, D: Device> Store<D> for Unknown<W> {
         false
     }
 
-    // Whoever made the writer has to do it.
+    // Whoever made the writer has to cut its bytes.
     fn cut(&mut self, _whole: u64) {}
 }
 
-/// Bytes in memory. Where there are more than a limit, they are written anew as the image of the drive. Then the limit
-/// is at least twice as long as the image, so that this seldom happens.
+/// Bytes in memory. When they are longer than a limit, they are replaced by the image of the
+/// drive. The limit is then raised to twice the image at least, so that this seldom happens.
 #[derive(Drop)]
 pub struct Held {
     alloc: Global,
@@ -119,7 +120,7 @@ pub struct Held {
 impl Held {
     ghost use Rattle.drive_journal.specs.Held.{held_bytes};
 
-    /// These bytes, and the limit.
+    /// A store of these bytes, with this limit.
     pub fn new(alloc: Global, bytes: Vec<u8>, limit: usize) -> Self
         ensures { held_bytes result ≡ bytes.items }
     {
@@ -131,7 +132,7 @@ impl Held {
         }
     }
 
-    /// The image of this drive, and the limit.
+    /// A store of the image of this drive, with this limit.
     pub fn of_drive(alloc: Global, drive: &Drive, limit: usize) -> Result<Self, WriteFault>
         ensures { IfOk result (λ held. IsStoredWhole (held_bytes held) drive.now.state start) }
     {
