@@ -7,19 +7,20 @@ ghost use Rattle.batch_log.specs.Ending.{AreBlocks};
 use crate::fault::{FaultAt, LogFault};
 use crate::view::{HeaderView, is_zero, read_header};
 
-/// A batch of a zone, lent from the zone's bytes.
+/// A batch of a zone. It borrows from the bytes of the zone.
 #[derive(Drop)]
 pub struct Batch<'a> {
-    /// The block of the zone where the header stands, counted from 0.
+    /// At which block of the zone the header is, from 0 on.
     pub offset: u32,
-    /// The header, lent from its block.
+    /// The header, read from its block.
     pub header: HeaderView<'a>,
-    /// The data, a block for each entry of the header that is not a trim.
+    /// The data: one block for each entry that is not a trim.
     pub body: &'a [u8],
 }
 
-/// The batches of a zone, read from its bytes one after the other. After the last comes an error
-/// where something else follows, and then no more; or a torn tail, of which `torn` tells.
+/// The batches of a zone, read from its bytes one after the other. If something else follows the
+/// last one, an error comes then, and nothing after it. A torn tail is no error: `torn` tells of
+/// it.
 #[derive(Drop)]
 pub struct Batches<'a> {
     rest: &'a [u8],
@@ -36,8 +37,8 @@ pub struct Batches<'a> {
 impl<'a> Batches<'a> {
     ghost use Rattle.batch_log.specs.Lent.{AreRead, IsDone, Steps, begins, bytes_of_blocks, left, torn_left};
 
-    /// The batches of the readable blocks of a zone, which have `block_bytes` bytes each: of a full
-    /// zone all blocks up to the capacity, of another the written ones.
+    /// The batches in the readable blocks of a zone, of `block_bytes` bytes each. In a Full zone
+    /// these are all blocks up to the capacity, and in any other the written ones.
     pub fn new(bytes: &'a [u8], block_bytes: u32, is_full: bool) -> Batches<'a>
         requires room { head_size ≤ block_bytes }
         requires whole { length bytes.now % block_bytes ≡ 0 }
@@ -55,7 +56,8 @@ impl<'a> Batches<'a> {
         }
     }
 
-    /// The block where a torn tail begins. To be asked once `next` has answered `None`.
+    /// At which block a torn tail begins, if there is one. This is known once `next` has answered
+    /// `None`.
     pub fn torn(&self) -> Option<u32>
         requires { IsDone self.now }
         ensures { result ≡ torn_left self.now }
@@ -63,7 +65,8 @@ impl<'a> Batches<'a> {
         self.torn
     }
 
-    /// No header block stands here.
+    /// What comes where a block is no header block: an error, or the end of the log if the zone is
+    /// Full and only zeros follow.
     fn foreign(&mut self, cause: LogFault) -> Option<Result<Batch<'a>, FaultAt>>
         requires some { self.old.rest.now ≢ [] }
         requires long { self.old.block_bytes ≤ length self.old.rest.now }
@@ -86,7 +89,8 @@ impl<'a> Batches<'a> {
         Some(Err(FaultAt::new(offset, LogFault::ForeignTail)))
     }
 
-    /// A header block stands here, and too few blocks follow.
+    /// What comes where too few blocks follow a header block: an error in a Full zone, else a torn
+    /// tail.
     fn short(&mut self) -> Option<Result<Batch<'a>, FaultAt>>
         requires some { self.old.rest.now ≢ [] }
         requires header { header_fault (take self.old.block_bytes self.old.rest.now) ≡ None }

@@ -35,7 +35,7 @@ fn u64_at(block: &[u8], place: usize) -> u64
     LittleEndian::read_u64(&block[place..])
 }
 
-/// The entry with a number, of those that the bytes hold.
+/// The entry with this number, of bytes that begin with the entries.
 fn entry_at(bytes: &[u8], i: usize) -> Entry
     requires { 8 * i + 8 ≤ length bytes.now }
     ensures value { result ≡ entry_of (number_at (8 * i) 8 bytes.now) }
@@ -60,7 +60,7 @@ fn one_unless(trim: bool) -> usize
     if trim { 0 } else { 1 }
 }
 
-/// How many of the entries that the bytes hold are not trims.
+/// How many of the first `count` entries are not trims.
 fn data_count(bytes: &[u8], count: usize) -> usize
     requires { 8 * count ≤ length bytes.now }
     ensures { result ≡ data_count (entries_in count bytes.now) }
@@ -114,7 +114,7 @@ pub(crate) fn is_zero(bytes: &[u8]) -> bool
     bytes.iter().all(|byte| *byte == 0)
 }
 
-/// Whether one of the entries from `first` on names the block.
+/// Whether one of the entries with the numbers from `first` on names the block.
 fn is_named(block: u64, bytes: &[u8], first: usize, count: usize) -> bool
     requires { 8 * count ≤ length bytes.now }
     ensures { let later = entries_in (count - first) (drop (8 * first) bytes.now) in
@@ -128,7 +128,7 @@ fn is_named(block: u64, bytes: &[u8], first: usize, count: usize) -> bool
     false
 }
 
-/// Whether each entry names a later block than the one before, so that none repeats another.
+/// Whether each entry names a greater block than the one before. Then no two name the same block.
 fn ascend(bytes: &[u8], count: usize) -> bool
     requires { 8 * count ≤ length bytes.now }
     ensures { IsTrue result → repeats (entry_blocks (entries_in count bytes.now)) ≡ false }
@@ -144,8 +144,8 @@ fn ascend(bytes: &[u8], count: usize) -> bool
     true
 }
 
-/// Whether two of the entries name one block. Entries in ascending order are looked at once; of
-/// others each is compared with each, 508 * 507 / 2 times at most.
+/// Whether two entries name the same block. Entries in ascending order are looked at once. Others
+/// are all compared with each other, which takes 508 * 507 / 2 comparisons at most.
 fn repeats(bytes: &[u8], count: usize) -> bool
     requires { 8 * count ≤ length bytes.now }
     ensures { result ≡ repeats (entry_blocks (entries_in count bytes.now)) }
@@ -161,7 +161,7 @@ fn repeats(bytes: &[u8], count: usize) -> bool
     false
 }
 
-/// Whether two of the entries of a block that has `count` of them name one block.
+/// Whether two of the `count` entries of a header block name the same block.
 fn has_repeats(block: &[u8], count: usize) -> bool
     requires { head_size + 8 * count ≤ length block.now }
     ensures { result ≡ repeats (entry_blocks (entries_in count (drop head_size block.now))) }
@@ -169,7 +169,7 @@ fn has_repeats(block: &[u8], count: usize) -> bool
     repeats(&block[HEAD_SIZE..], count)
 }
 
-/// Whether all is zeros from a place on.
+/// Whether a block has only zeros from this byte on.
 fn is_zero_from(block: &[u8], place: usize) -> bool
     requires { place ≤ length block.now }
     ensures { result ≡ is_zero (drop place block.now) }
@@ -177,7 +177,8 @@ fn is_zero_from(block: &[u8], place: usize) -> bool
     is_zero(&block[place..])
 }
 
-/// Why the block is no header block.
+/// Why a block is no header block, or `None` if it is one. There is no checksum: each field is
+/// checked.
 #[tactic(auto, unfolding(crate::specs::Causes::header_fault))]
 fn fault_in(block: &[u8]) -> Option<LogFault>
     requires { head_size ≤ length block.now }
@@ -217,7 +218,7 @@ fn fault_in(block: &[u8]) -> Option<LogFault>
     None
 }
 
-/// The header in a block, which is lent.
+/// The header in a block. It borrows the block, and reads each field when it is asked for.
 #[derive(Drop)]
 pub struct HeaderView<'a> {
     block: &'a [u8],
@@ -234,7 +235,7 @@ impl<'a> Model for HeaderView<'a> {
     ghost invariant = { λ v. IsView v.block.now };
 }
 
-/// Reads the header of a batch. A block that is none has the first cause that holds of it.
+/// Reads the header of a batch. If the block is no header, the first cause is returned.
 pub fn read_header(block: &[u8]) -> Result<HeaderView<'_>, LogFault>
     requires room { head_size ≤ length block.now }
     requires small { length block.now < 2 ^ 32 }
@@ -262,7 +263,8 @@ impl HeaderView<'_> {
         Kind::Host
     }
 
-    /// The number of the batch, in the order in which those of a drive were written.
+    /// The sequence of the batch: its number in the order in which all batches of the drive were
+    /// written.
     pub fn sequence(&self) -> u64
         ensures { result ≡ self.now.sequence }
     {
@@ -276,7 +278,7 @@ impl HeaderView<'_> {
         u32_at(self.block, 24)
     }
 
-    /// The number of logical blocks of the disk, which a header of version 1 does not say.
+    /// The number of logical blocks of the disk. A header of version 1 does not say it.
     pub fn size(&self) -> Option<u32>
         ensures { result ≡ self.now.size }
     {
@@ -293,7 +295,7 @@ impl HeaderView<'_> {
         u32_at(self.block, 12) as usize
     }
 
-    /// The entry with a number, counted from 0.
+    /// The entry with this number, from 0 on.
     pub fn entry(&self, i: usize) -> Entry
         requires { i < length self.now.entries }
         ensures { slice_get self.now.entries i ≡ Some result }

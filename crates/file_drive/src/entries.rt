@@ -20,7 +20,7 @@ fn is_word(geometry: &Geometry, word: u64) -> bool
     entry.word() == word && entry.written <= geometry.capacity
 }
 
-// Refuses a table by the first word that it may not have.
+// Refuses a table that has a word which no zone has. The first one is named.
 fn check_words(geometry: &Geometry, words: &[u64]) -> Result<(), OpenFault>
     requires { length words.now ≤ 65536 }
     ensures ok { OnOk result (AllByRecursion (IsWord geometry.now) words.now) }
@@ -34,7 +34,7 @@ fn check_words(geometry: &Geometry, words: &[u64]) -> Result<(), OpenFault>
     Ok(())
 }
 
-// Refuses zones by the first that holds more blocks than its state allows.
+// Refuses zones of which one has more blocks than its state allows. The first one is named.
 fn check_entries(geometry: &Geometry, entries: &[Entry]) -> Result<(), OpenFault>
     requires { length entries.now ≤ 65536 }
     ensures ok { OnOk result (AllByRecursion (Holds geometry.now) entries.now) }
@@ -49,7 +49,7 @@ fn check_entries(geometry: &Geometry, entries: &[Entry]) -> Result<(), OpenFault
     Ok(())
 }
 
-// What the words of a table say.
+// The entries that the words of a table stand for.
 fn entries_of(alloc: Global, words: &[u64]) -> Result<Vec<Entry>, AllocError>
     ensures { IfOk result (λ entries. entries.items ≡ map entry_of words.now) }
 {
@@ -60,7 +60,7 @@ fn entries_of(alloc: Global, words: &[u64]) -> Result<Vec<Entry>, AllocError>
     Ok(entries)
 }
 
-// Refuses zones of which more are active or open than may be.
+// Refuses zones if too many of them are active or open.
 fn check_limits(geometry: &Geometry, entries: &[Entry]) -> Result<(), OpenFault>
     requires { length entries.now ≤ 65536 }
     ensures ok { OnOk result (AreFew geometry.now entries.now) }
@@ -73,7 +73,8 @@ fn check_limits(geometry: &Geometry, entries: &[Entry]) -> Result<(), OpenFault>
     Ok(())
 }
 
-/// Refuses zones by the first that is in the place where the last flush has more blocks of it.
+/// Refuses zones of which one is in the place where the last flush has more blocks of it. The
+/// first one is named.
 pub fn check_apart(words: &[u64], entries: &[Entry]) -> Result<(), OpenFault>
     requires few { length entries.now ≤ 65536 }
     requires count { length words.now ≡ length entries.now }
@@ -89,7 +90,7 @@ pub fn check_apart(words: &[u64], entries: &[Entry]) -> Result<(), OpenFault>
     Ok(())
 }
 
-/// The zones that the words of a table say, if it is one of a drive of this shape.
+/// The entries of a table, if a drive of this shape can have it.
 pub fn table_entries(
     alloc: Global,
     geometry: &Geometry,

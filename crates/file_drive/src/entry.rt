@@ -16,7 +16,7 @@ pub struct Entry {
     pub second: bool,
 }
 
-/// A state as a restart leaves it.
+/// The state after a restart: a zone that was open is Closed.
 fn restarted(state: ZoneState) -> ZoneState
     ensures { result ≡ restarted_state state }
 {
@@ -26,7 +26,8 @@ fn restarted(state: ZoneState) -> ZoneState
     }
 }
 
-// The number of a state in a table: the standard's, but 0 for an empty zone, so that a table of zeros has only these.
+// The number of a state in a table. It is that of the standard, except that Empty has 0. So in a
+// table of zeros all zones are Empty.
 fn table_code(state: ZoneState) -> u8
     ensures { result ≡ table_code state }
 {
@@ -36,7 +37,7 @@ fn table_code(state: ZoneState) -> u8
     state.code()
 }
 
-// The state with a number in a table. A number without a state is taken for Offline.
+// The state that a number in a table means. A number that means none gives Offline.
 fn state_from(code: u64) -> ZoneState
     ensures { result ≡ state_from code }
 {
@@ -78,7 +79,8 @@ impl Entry {
         }
     }
 
-    /// The place of the zone with a number: the first or the second of its two.
+    /// The number of the place that the zone is in. The zone with the number n has the places 2n
+    /// and 2n + 1.
     pub fn place(self, number: u32) -> u32
         requires { number < 2 ^ 30 }
         ensures { result ≡ place_of number self }
@@ -86,7 +88,8 @@ impl Entry {
         2 * number + one_if(self.second)
     }
 
-    /// Whether the zone is not where the last flush has more of its blocks.
+    /// Whether all blocks that the last flush has of the zone are still there: the zone is in its
+    /// other place, or has at least as many blocks in the same one.
     pub fn is_apart(self, flushed: Entry) -> bool
         ensures { result ≡ is_apart flushed self }
     {
@@ -98,7 +101,8 @@ impl Entry {
         moved || flushed.written <= self.written
     }
 
-    // Which place the zone is in after an action. A Reset leaves the place where the last flush has blocks of it.
+    // Whether the zone is in its second place after an action. If the last flush has blocks of the
+    // zone, a Reset takes the other place than the one of these blocks.
     fn second_after(self, action: Action, flushed: Entry) -> bool
         ensures { result ≡ second_after action flushed self }
     {
@@ -108,7 +112,8 @@ impl Entry {
         self.second
     }
 
-    /// The zone after an action, or as it is if its state does not admit that. The last flush says this of it.
+    /// The zone after an action. If its state does not admit the action, it is unchanged.
+    /// `flushed` is what the last flush says of the zone.
     pub fn acted(self, action: Action, flushed: Entry) -> Entry
         ensures { result ≡ acted action flushed self }
     {
@@ -128,7 +133,7 @@ impl Entry {
         }
     }
 
-    /// The zone after an action on all zones, if there is one.
+    /// The zone after an action on all zones. Without an action it is unchanged.
     pub fn next(self, action: Option<Action>, flushed: Entry) -> Entry
         ensures { result ≡ next_entry action flushed self }
     {
@@ -138,7 +143,7 @@ impl Entry {
         }
     }
 
-    /// The zone once more of its blocks are written.
+    /// The zone after so many more blocks were written.
     pub fn appended(self, geometry: &Geometry, blocks: u32) -> Entry
         requires { self.written + blocks < 2 ^ 32 }
         ensures { result ≡ appended geometry.now self blocks }
@@ -157,7 +162,8 @@ impl Entry {
     }
 }
 
-/// Does an action on all zones, as far as their states admit it. The last flush has these words of them.
+/// Does an action on each zone whose state admits it. `flushed` has the words of the zones at the
+/// last flush.
 pub fn send_to_each(entries: &mut Vec<Entry>, flushed: &[u64], action: Action)
     requires { length flushed.now ≡ length entries.old.items }
     ensures { entries.new.items ≡ next_entries (Some action) flushed.now entries.old.items }

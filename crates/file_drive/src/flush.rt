@@ -12,7 +12,7 @@ use file_bytes::FileBytes;
 use std::mem::swap;
 
 impl<F: FileBytes + Drop, S: System + Drop> FileZones<F, S> {
-    // Writes the words of the zones in the flushed table that is not picked, and syncs the file.
+    // Writes the words of the zones to the flushed table that is not picked, and syncs the file.
     fn write_other(&mut self) -> Result<(), Halt>
         ensures shape { self.new.shape ≡ self.old.shape }
         ensures entries { self.new.entries ≡ self.old.entries }

@@ -28,7 +28,7 @@ pub fn is_same_boot(served: Boot, boot: Boot) -> bool
     boot.second != 0 && served.first == boot.first && served.second == boot.second
 }
 
-// The words of the table that counts.
+// The words of the table that counts: the live one in the same boot, and else the flushed one.
 fn counting(tables: &Tables, is_same_boot: bool) -> &[u64]
     ensures { result.now ≡ (if is_same_boot then tables.now.current.items else tables.now.safe.items) }
 {
@@ -39,7 +39,7 @@ fn counting(tables: &Tables, is_same_boot: bool) -> &[u64]
     }
 }
 
-/// Reads what a system in this boot opens.
+/// Reads and checks what an open in this boot of a system needs.
 pub fn read_all<F: FileBytes>(alloc: Global, file: &mut F, boot: Boot) -> Result<Found, OpenFault>
     ensures ok { IfOk result (IsFound boot (F.FileBytes.seen file.old)) }
     ensures err { IfErr result (IsOpenFault boot (F.FileBytes.seen file.old)) }

@@ -84,8 +84,8 @@ fn put_live<F: FileBytes>(file: &mut F, found: &mut Found) -> io::Result<()>
     )
 }
 
-// Makes a file ready for this boot: its live table says what was found. Until the last word is written, the file is of
-// no boot.
+// Makes a file ready for this boot, by writing what was found to its live table. The second word
+// of the boot is 0 in the meantime. So the file belongs to no boot until the last word is written.
 fn take_over<F: FileBytes>(file: &mut F, found: &mut Found, boot: Boot) -> io::Result<()>
     requires read { IsRead (F.FileBytes.seen file.old) found.old }
     requires count { length found.old.entries.items ≡ found.old.head.geometry.zones }
@@ -133,11 +133,13 @@ fn make_ready<F: FileBytes>(file: &mut F, found: &mut Found, boot: Boot) -> io::
 
 /// Opens a file as a drive: reads it, syncs it, and makes it ready for this boot of the system.
 ///
-/// Where the same boot served the file last, the zones are those after the last command: the system kept all that was
-/// written, though the program may have been killed. Else the zones are as the last flush left them.
+/// If the same boot served the file last, the zones are those after the last command. The program
+/// may have been killed, but the system kept all that was written. In another boot the zones are
+/// those of the last flush.
 ///
-/// After an error a system in this boot finds the same zones as before. A system in another boot finds the same, or the
-/// zones of the last flush. What a loss of power leaves is what it might have left before, or that flush.
+/// After an error the next open in this boot finds the same zones as before. An open in another
+/// boot finds the same, or those of the last flush. A loss of power leaves what it might have left
+/// before, or that flush.
 pub fn open<F: FileBytes, S: System>(
     alloc: Global,
     file: &mut F,

@@ -8,8 +8,8 @@ use crate::zones::FileZones;
 use file_bytes::FileBytes;
 use zone_states::ZoneState;
 
-/// Notes the zones that have fewer blocks than these words say, as far as there is memory for that. No more are noted
-/// than there are zones.
+/// Notes the zones that have fewer blocks now than these words say. If memory for that is missing,
+/// some are left out. At most as many are noted as there are zones.
 pub fn note_all_freed(freed: &mut Vec<usize>, before: &[u64], entries: &[Entry]) {
     for index in 0..entries.len() {
         if index >= before.len() || freed.len() >= entries.len() {
@@ -22,7 +22,8 @@ pub fn note_all_freed(freed: &mut Vec<usize>, before: &[u64], entries: &[Entry])
 }
 
 impl<F: FileBytes + Drop, S: System + Drop> FileZones<F, S> {
-    // Notes a zone if a Reset took blocks from it and there is memory for that. No more are noted than there are zones.
+    // Notes a zone from which a Reset took blocks. If memory for that is missing, it is left out.
+    // At most as many are noted as there are zones.
     pub(crate) fn note_freed(&mut self, index: usize, is_freed: bool)
         ensures { self.new ≡ self.old }
     {
@@ -31,8 +32,8 @@ impl<F: FileBytes + Drop, S: System + Drop> FileZones<F, S> {
         }
     }
 
-    // Gives back the room of the first or the second place of a zone, if no block is counted there: by what is known of
-    // the zone, and by the last flush.
+    // Gives the room of one of the two places of a zone back to the file system. It does nothing
+    // if the zone or the last flush has a block there.
     fn release_place(&mut self, index: usize, second: bool)
         ensures shape { self.new.shape ≡ self.old.shape }
         ensures zones { filed F.seen self.new ≡ filed F.seen self.old }
@@ -56,7 +57,8 @@ impl<F: FileBytes + Drop, S: System + Drop> FileZones<F, S> {
         self.file.release(at, room);
     }
 
-    /// Gives back the room of the zones that were noted, as far as no block is counted there.
+    /// Gives the room of the noted zones back, wherever neither the zone nor the last flush has a
+    /// block.
     pub(crate) fn release_freed(&mut self)
         ensures shape { self.new.shape ≡ self.old.shape }
         ensures zones { filed F.seen self.new ≡ filed F.seen self.old }

@@ -21,7 +21,7 @@ use std::io;
 use zone_drive::Drive;
 use zone_states::{Geometry, Zone};
 
-// What a table says of a zone in memory that is stored in the first of its places.
+// The entry of a zone in memory, once its blocks are in the first of its two places.
 fn stored_entry(geometry: &Geometry, zone: &Zone) -> Entry
     requires { length zone.now.bytes / geometry.now.block < 2 ^ 32 }
     ensures { result ≡ stored_entry geometry.now zone.now }
@@ -33,7 +33,7 @@ fn stored_entry(geometry: &Geometry, zone: &Zone) -> Entry
     }
 }
 
-// Writes the blocks of each zone in its first place, in one write.
+// Writes the blocks of each zone to its first place, by one write for each zone.
 fn put_blocks<F: FileBytes>(file: &mut F, geometry: &Geometry, zones: &[Zone]) -> io::Result<()>
     requires in_range { IsInRange geometry.now }
     requires zones { AreZones geometry.now zones.now }
@@ -54,7 +54,7 @@ fn put_blocks<F: FileBytes>(file: &mut F, geometry: &Geometry, zones: &[Zone]) -
     Ok(())
 }
 
-// Writes the words of the zones in a table of zeros.
+// Writes the words of the zones to a table that has only zeros.
 fn put_table<F: FileBytes>(
     file: &mut F,
     geometry: &Geometry,
@@ -82,10 +82,12 @@ fn put_table<F: FileBytes>(
     Ok(())
 }
 
-/// Makes a file of zeros, which is as long as a drive of this shape wants, a drive with these zones, as a restart leaves
-/// them. Each block is written once, straight from memory, and of the tables only what is not zero. The file is synced.
+/// Stores these zones in a file, as they are after a restart. The file has only zeros before, and
+/// the length that a drive of this shape needs. Each block is written once, straight from memory,
+/// and of the tables only what is not zero. Then the file is synced.
 ///
-/// After an error it is no drive or this one, whatever a kill or a loss of power leaves, if it was none before.
+/// After an error, a kill or a loss of power the file is no drive, or holds this one. That holds
+/// if no loss of power could have left a drive there before.
 pub fn store_zones<F: FileBytes>(
     file: &mut F,
     geometry: &Geometry,
@@ -108,10 +110,11 @@ pub fn store_zones<F: FileBytes>(
     put_head(file, geometry)
 }
 
-/// Makes a file of zeros, which is as long as this drive wants, the same drive, as a restart leaves it. The file is
-/// synced.
+/// Stores this drive in a file, as it is after a restart. The file has only zeros before, and the
+/// length that the drive needs. Then the file is synced.
 ///
-/// After an error it is no drive or this one, whatever a kill or a loss of power leaves, if it was none before.
+/// After an error, a kill or a loss of power the file is no drive, or holds this one. That holds
+/// if no loss of power could have left a drive there before.
 pub fn store<F: FileBytes>(file: &mut F, drive: &Drive) -> io::Result<()>
     requires zeros { F.FileBytes.seen file.old ≡ replicate (file_length drive.now.state.geometry) 0 }
     requires usable { IsTrue (F.FileBytes.is_usable file.old) }

@@ -9,7 +9,8 @@ use file_bytes::FileBytes;
 use std::io;
 use zone_states::Action;
 
-/// Writes a word in the place of one that is known, if it differs.
+/// Writes a word to the file. `known` is the word that is there. If both are the same, nothing is
+/// written.
 pub fn put_word<F: FileBytes>(file: &mut F, at: u64, known: u64, word: u64) -> io::Result<()>
     requires aligned { at % 8 ≡ 0 }
     requires within { at + 8 ≤ length (F.FileBytes.seen file.old) }
@@ -27,7 +28,8 @@ pub fn put_word<F: FileBytes>(file: &mut F, at: u64, known: u64, word: u64) -> i
     Ok(())
 }
 
-// Writes the word of a zone in a table of which these words are known.
+// Writes the word of a zone to a table in the file. `words` are the words that the table has,
+// before and after.
 fn put_in_table<F: FileBytes>(
     file: &mut F,
     at: u64,
@@ -54,8 +56,9 @@ fn put_in_table<F: FileBytes>(
     Ok(())
 }
 
-/// Writes the words of a table of which these are known: those that differ from the words of the zones after an action
-/// on all of them, if there is one. The last flush has these words of the zones.
+/// Makes a table in the file say what these zones are after an action on all of them or, without
+/// one, what they are. `words` are the words that the table has, before and after: only those that
+/// change are written. `flushed` has the words of the zones at the last flush.
 pub fn write_words<F: FileBytes>(
     file: &mut F,
     at: u64,
@@ -84,7 +87,7 @@ pub fn write_words<F: FileBytes>(
     Ok(())
 }
 
-/// Notes the words of these zones.
+/// Puts the words of these zones into `words`. The file is not used.
 pub fn note_words(words: &mut Vec<u64>, entries: &[Entry])
     requires { length words.old.items ≡ length entries.now }
     ensures { words.new.items ≡ map word_of entries.now }

@@ -38,11 +38,13 @@ pub struct FileZones<F: FileBytes + Drop, S: System + Drop> {
     /// The words of that table, and of the other flushed one.
     pub(crate) safe: Vec<u64>,
     pub(crate) other: Vec<u64>,
-    /// A call on the file has failed. Nothing is asked of it any more.
+    /// Whether a call on the file has failed. Then the file is used no more.
     pub(crate) failed: bool,
-    /// It failed while a flush picked its table. A loss of power may leave either of the flushed tables picked.
+    /// Whether it failed while a flush picked its table. Then a loss of power may leave either
+    /// flushed table picked.
     pub(crate) unsure: bool,
-    /// Zones from which a Reset took blocks. The next flush gives their room back.
+    /// Zones from which a Reset took blocks. The next flush gives their room back to the file
+    /// system.
     pub(crate) freed: Vec<usize>,
 }
 
@@ -78,7 +80,7 @@ impl<F: FileBytes + Drop, S: System + Drop> Model for FileZones<F, S> {
 }
 
 impl<F: FileBytes + Drop, S: System + Drop> FileZones<F, S> {
-    /// Nothing is asked of the file any more.
+    /// Notes that a call on the file has failed, so that the file is used no more.
     fn fail(&mut self) -> Halt
         ensures halt { result ≡ Halt.Stopped }
         ensures same { self.new ≡ self.old }
@@ -87,7 +89,7 @@ impl<F: FileBytes + Drop, S: System + Drop> FileZones<F, S> {
         Halt::Stopped
     }
 
-    /// Notes what is known of a zone, and writes its word in the live table if that changes.
+    /// Replaces the entry of a zone, and writes its word to the live table if the word changes.
     pub(crate) fn put(&mut self, index: usize, entry: Entry) -> Result<(), Halt>
         requires in_range { index < length self.old.entries }
         requires within { entry.written ≤ self.old.shape.capacity }

@@ -40,8 +40,8 @@ pub(crate) fn finish_zone<D: Device>(
     Ok(())
 }
 
-/// Whether a zone is partly written, but a disk does not continue with it: fewer than two blocks are free, or a batch
-/// has more than `most` entries.
+/// Whether a zone is partly written, and a disk cannot continue with it. That is so if fewer than
+/// two blocks are free, or a batch has more than `most` entries.
 fn is_to_finish(reported: ReportedZone, heads: &ZoneHeads, capacity: u32, most: u32) -> bool
     ensures { result ≡ is_to_finish capacity most reported heads.now }
 {
@@ -49,7 +49,7 @@ fn is_to_finish(reported: ReportedZone, heads: &ZoneHeads, capacity: u32, most: 
         && ((capacity as u64) < reported.blocks as u64 + 2 || most < heads.most())
 }
 
-/// Finishes a zone, if it is partly written and a disk does not continue with it.
+/// Finishes a zone if it is partly written and a disk cannot continue with it.
 fn finish_if_due<D: Device>(
     alloc: Global,
     device: &mut D,
@@ -77,8 +77,8 @@ fn finish_if_due<D: Device>(
     finish_zone(alloc, device, survey, zone)
 }
 
-/// Finishes the zones that are partly written and have fewer than two free blocks, or a batch with more entries than
-/// ours.
+/// Finishes each partly written zone that has fewer than two free blocks, or a batch with more
+/// entries than this disk writes.
 pub(crate) fn finish_zones<D: Device>(
     alloc: Global,
     device: &mut D,

@@ -20,7 +20,7 @@ use drive_survey::{MountFault, Survey, greatest_sequence, survey_drive};
 use std::alloc::Global;
 use zone_choice::Tables;
 
-/// Repairs the torn zone, if any.
+/// Repairs the torn zone, if there is one.
 fn repair_torn<D: Device>(
     alloc: Global,
     device: &mut D,
@@ -49,7 +49,8 @@ fn repair_torn<D: Device>(
     repair_zone(alloc, device, survey, repair)
 }
 
-/// Empties and repairs zones, and finishes those that are to be written no more.
+/// Carries out the plan: empties zones, repairs the torn one, and finishes zones that take no more
+/// batches.
 fn carry_out<D: Device>(
     alloc: Global,
     device: &mut D,

@@ -23,9 +23,10 @@ use std::alloc::{AllocError, Global};
 pub struct Plan {
     /// Zones without a batch that are to be emptied, in ascending order.
     pub vacant: Vec<u32>,
-    /// Zones that a clean left half clean, each the lowest such of its moment.
+    /// Half clean zones, in the order in which they are to be emptied. Each is the lowest one that
+    /// is left then.
     pub half_clean: Vec<u32>,
-    /// The torn zone that is left, if one is.
+    /// The repair of the zone that is torn then, if one is.
     pub repair: Option<Repair>,
 }
 
@@ -59,7 +60,8 @@ fn is_to_empty(survey: &Survey, zone: usize) -> bool
     survey.scanned[zone].heads.blocks() == 0 && survey.zones[zone].state != ZoneState::Empty
 }
 
-/// What is to be done to a drive, once all headers are read. Its half clean zones are forgotten.
+/// Plans what is to be done to a drive, once all headers are read. Afterwards the survey has no
+/// batches of the half clean zones.
 pub fn plan_mount<D: Device>(
     alloc: Global,
     device: &mut D,

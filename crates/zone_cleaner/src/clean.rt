@@ -14,8 +14,8 @@ use logical_map::Place;
 use std::marker::Model;
 use zone_choice::{Mounted, Second, append_batch, batch_most, halt_of};
 
-/// A clean that runs: the live records of one zone, the victim, are moved to another, and then the victim is
-/// emptied.
+/// A clean that runs. It moves the live records of one zone, the victim, to another, and then
+/// empties the victim.
 #[derive(Drop)]
 pub struct Clean {
     victim: u32,
@@ -33,8 +33,8 @@ impl Model for Clean {
 }
 
 impl Clean {
-    /// A clean of a victim, of which nothing is done yet. It uses the memory of the records, which it takes out of
-    /// `gathered`, and allocates nothing.
+    /// A new clean of a victim. It drops the records in `gathered`, and uses their memory. Nothing
+    /// is allocated.
     pub(crate) fn new(victim: u32, mut gathered: Gathered) -> Clean
         ensures { result ≡ started victim }
     {
@@ -51,7 +51,7 @@ impl Clean {
         self.gathered
     }
 
-    /// Takes out the gathered records of the blocks that these entries name. It allocates nothing.
+    /// Drops the gathered records of the blocks that these entries name. Nothing is allocated.
     pub fn forget(&mut self, entries: &[Entry])
         requires { AllByRecursion (λ e. e.block < 2 ^ 32) entries.now }
         ensures { self.new ≡ forgotten entries.now self.old }
@@ -59,7 +59,7 @@ impl Clean {
         self.gathered.forget(entries);
     }
 
-    /// Gathers the record of a block, which is in the victim.
+    /// Gathers the record of a block. Its place is in the victim.
     pub(crate) fn gather<D: Device>(
         &mut self,
         disk: &mut Mounted<D>,
@@ -78,7 +78,8 @@ impl Clean {
         Ok(())
     }
 
-    /// Appends the gathered records to the destination, as one Move. All is allocated before that its Append needs.
+    /// Appends a Move of the gathered records to the destination. All memory is allocated before
+    /// the Append.
     pub(crate) fn carry<D: Device>(&mut self, disk: &mut Mounted<D>) -> Result<(), CleanFault>
         requires { IsAtStep Step.Move disk.old self.old }
         ensures leaves { StepLeaves Step.Move disk.old self.old result disk.new (Some self.new) }
@@ -111,7 +112,7 @@ impl Clean {
         }
     }
 
-    /// Empties the victim, whose records are all moved.
+    /// Empties the victim, once all its records are moved.
     pub(crate) fn empty_victim<D: Device>(&self, disk: &mut Mounted<D>) -> Result<(), CleanFault>
         requires { IsAtStep Step.Reset disk.old self.now }
         // The array never changes. Done, the victim is empty, and the destination is the next zone.
@@ -147,7 +148,8 @@ impl Clean {
     }
 }
 
-/// What a clean does next whose records are all taken, by the second zone and the number of gathered records.
+/// What a clean does next when it has taken all records of its victim. If some are gathered, or no
+/// Move is written yet, that is a Move. Else it is the Reset.
 fn last_step(second: Option<Second>, gathered: usize) -> Step
     ensures { (rs : List LiveRecord) → length rs ≡ gathered
         → result ≡ last_step (destination_written second) rs }

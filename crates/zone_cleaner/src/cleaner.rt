@@ -20,7 +20,8 @@ use std::marker::Model;
 use std::mem::replace;
 use zone_choice::{BatchBuilder, Filling, Mounted, Tables, append_batch, fill};
 
-/// Cleans the zones of a drive one after the other, in turns between the host's commands.
+/// Cleans the zones of a drive one after the other, in turns. The host's commands may come between
+/// them.
 #[derive(Drop)]
 pub struct Cleaner {
     clean: Option<Clean>,
@@ -37,7 +38,7 @@ impl Model for Cleaner {
     ghost view = { λ c. c.clean };
 }
 
-/// The zone of which a clean is due, if one is.
+/// The victim of the clean that is due, if one is due.
 fn due(tables: &Tables, geometry: &Geometry) -> Option<u32>
     requires in_range { IsInRange geometry.now }
     requires zones { length tables.now.roles.empty ≡ tables.now.map.zones }
@@ -58,7 +59,7 @@ fn due(tables: &Tables, geometry: &Geometry) -> Option<u32>
 }
 
 impl Cleaner {
-    /// A cleaner of which no clean runs. It allocates nothing.
+    /// A cleaner that runs no clean. Nothing is allocated.
     pub fn new(alloc: Global) -> Cleaner
         ensures { result ≡ None }
     {
@@ -75,10 +76,11 @@ impl Cleaner {
         self.clean.is_some()
     }
 
-    /// Takes out the gathered records of the blocks that a batch of the host names. It allocates nothing.
+    /// Drops the gathered records of the blocks that a batch of the host names. Nothing is
+    /// allocated.
     ///
-    /// It is called once the batch is appended: before that its blocks still have to be moved. `Cleaner::append_batch`
-    /// appends, and then forgets.
+    /// This is for a batch that was appended. Before that, its blocks still have to be moved.
+    /// `Cleaner::append_batch` does both.
     pub fn forget(&mut self, entries: &[Entry])
         requires { AllByRecursion (λ e. e.block < 2 ^ 32) entries.now }
         ensures { self.new ≡ option_map (forgotten entries.now) self.old }
@@ -117,8 +119,8 @@ impl Cleaner {
         }
     }
 
-    /// Starts a clean, if one is due: of the sealed zone with the fewest live records, into the lowest empty
-    /// zone. No command is sent.
+    /// Starts the clean that is due, if one is. Its victim is the sealed zone with the fewest live
+    /// records, and its destination the lowest empty zone. No command is sent.
     pub fn start<D: Device>(&mut self, disk: &mut Mounted<D>)
         // No clean runs, the geometry is in range, and roles and map have the same number of zones.
         requires none { self.old ≡ None }
@@ -153,7 +155,7 @@ impl Cleaner {
         }
     }
 
-    /// What a turn does.
+    /// Does what one turn does.
     fn step<D: Device>(&mut self, disk: &mut Mounted<D>) -> Result<(), CleanFault>
         requires cleaned { AgreesWithClean disk.old self.old }
         ensures leaves { TurnLeaves disk.old self.old result disk.new self.new }
@@ -174,10 +176,11 @@ impl Cleaner {
         }
     }
 
-    /// One turn: the next step of the clean that runs; if none runs, the start of one that is due.
+    /// Takes one turn: the next step of the clean that runs. If none runs, the one that is due is
+    /// started.
     ///
-    /// After `OutOfMemory` and `Spent` the clean is as it was before the turn, and continues at the next. At most two
-    /// commands are completed.
+    /// After `OutOfMemory` and `Spent` the clean is as before the turn, and the next turn tries it
+    /// again. At most two commands are completed.
     pub fn turn<D: Device>(&mut self, disk: &mut Mounted<D>) -> Result<(), CleanFault>
         requires cleaned { AgreesWithClean disk.old self.old }
         ensures { TurnAnswers disk.old self.old result disk.new self.new }
@@ -199,9 +202,9 @@ impl Cleaner {
         Ok(())
     }
 
-    /// Cleans a zone at once, for a disk that has no host zone, no next zone, and at most one empty zone: the clean
-    /// that runs is run to its end or, if none runs, one is started and run. Then there is a next zone, with two
-    /// free blocks.
+    /// Makes room at once, for a disk that has no host zone, no next zone, and at most one empty
+    /// zone. The clean that runs is run to its end. If none runs, one is started before.
+    /// Afterwards there is a next zone with two free blocks.
     pub fn clean_zone<D: Device>(&mut self, disk: &mut Mounted<D>) -> Result<(), CleanFault>
         requires cleaned { AgreesWithClean disk.old self.old }
         requires lacks { LacksZones disk.old.tables.roles }

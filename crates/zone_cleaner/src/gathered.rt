@@ -21,19 +21,20 @@ use std::alloc::{AllocError, Global};
 use std::marker::Model;
 use zone_choice::{BatchBuilder, Mounted, halt_of};
 
-/// The live records that the next Move takes, in the order in which they were gathered: of each block its
-/// data, or none for a trim. The data is where the Move has it.
+/// The live records for the next Move, in the order in which they were gathered. A record has
+/// data, or none if it is a trim. Data is read straight into the bytes of the Move.
 #[derive(Drop)]
 pub struct Gathered {
-    /// Of each block the position of its data in the Move, or none for a trim.
+    /// For each block the position of its data in `batch`; none for a trim.
     records: IndexMap<u32, Option<usize>>,
     /// The Move: room for its header block, and the data in the order in which it was read.
     batch: BatchBuilder,
-    /// Whether records were taken out. Their data is there still, so that the Move is packed before it is appended.
+    /// Whether records were dropped. Their data is still in `batch`. So the Move is packed before
+    /// it is appended.
     gaps: bool,
-    /// The packed Move.
+    /// The Move without the data of dropped records.
     packed: BatchBuilder,
-    /// How many bytes the header block has, and each block of data.
+    /// How many bytes each block has, the header block included.
     block_bytes: u32,
 }
 
@@ -56,7 +57,7 @@ impl Model for Gathered {
         → data_bytes g.block_bytes g.batch.bytes g.records.entries ≡ drop g.block_bytes g.batch.bytes) };
 }
 
-/// What the header block of a Move says besides its entries, and how long it is.
+/// What the header block of a Move says besides its entries, and how many bytes it has.
 #[derive(Clone, Copy)]
 pub struct MoveHeader {
     /// How many logical blocks the disk has.
@@ -67,7 +68,7 @@ pub struct MoveHeader {
     pub block_bytes: u32,
 }
 
-/// What a halt of the drive is to a clean.
+/// The fault of a clean that a halt of the drive causes.
 pub fn fault_of(halt: Halt) -> CleanFault
     ensures { result ≡ clean_fault halt }
 {
@@ -77,7 +78,7 @@ pub fn fault_of(halt: Halt) -> CleanFault
     }
 }
 
-/// Adds the data of a block, which is at an address, to a batch.
+/// Reads the data of a block from its address, and adds it to a batch.
 fn fetch<D: Device>(
     batch: &mut BatchBuilder,
     disk: &mut Mounted<D>,
@@ -104,7 +105,7 @@ fn fetch<D: Device>(
 }
 
 impl Gathered {
-    /// No record yet. It allocates nothing.
+    /// No records. Nothing is allocated.
     pub fn new(alloc: Global) -> Gathered
         ensures { result.records ≡ [] }
     {
@@ -138,7 +139,7 @@ impl Gathered {
         Ok(())
     }
 
-    /// Adds the record of a block above those that are there: a trim.
+    /// Adds a trim, of a block that is greater than those that are gathered.
     fn push_trim(&mut self, block: u32) -> Result<(), AllocError>
         requires above { AllByRecursion (λ r. r.block < block) self.old.records }
         ensures ok { OnOk result (self.new.records ≡ self.old.records ++ trim_record block ∷ []) }
@@ -148,8 +149,8 @@ impl Gathered {
         Ok(())
     }
 
-    /// Adds the record of a block above those that are there, with the data that is at an address. Out of memory the
-    /// drive may have completed a Read.
+    /// Adds a record with data, which is read from an address. Its block is greater than those
+    /// that are gathered. If it runs out of memory, the drive may have completed a Read.
     fn read<D: Device>(
         &mut self,
         disk: &mut Mounted<D>,
@@ -175,7 +176,8 @@ impl Gathered {
         Ok(())
     }
 
-    /// Gathers the record of a block above those that are there, which is at a place.
+    /// Gathers the record of a block, which is at this place. The block is greater than those that
+    /// are gathered.
     pub fn gather<D: Device>(
         &mut self,
         disk: &mut Mounted<D>,
@@ -193,7 +195,7 @@ impl Gathered {
         Ok(())
     }
 
-    /// Takes the record of a block out, if it is there.
+    /// Drops the record of a block, if it is gathered.
     fn forget_one(&mut self, block: u32)
         ensures { self.new.records ≡ without_block block self.old.records }
     {
@@ -202,7 +204,7 @@ impl Gathered {
         }
     }
 
-    /// Takes out the records of the blocks that these entries name. It allocates nothing.
+    /// Drops the records of the blocks that these entries name. Nothing is allocated.
     pub fn forget(&mut self, entries: &[Entry])
         requires { AllByRecursion (λ e. e.block < 2 ^ 32) entries.now }
         ensures { self.new.records ≡ without_all entries.now self.old.records }
@@ -212,7 +214,7 @@ impl Gathered {
         }
     }
 
-    /// Takes all records out, and keeps their memory.
+    /// Drops all records, and keeps their memory.
     pub fn clear(&mut self)
         ensures { self.new.records ≡ [] }
     {
@@ -222,7 +224,7 @@ impl Gathered {
         self.gaps = false;
     }
 
-    /// Builds the Move of the records. All is allocated then that its Append needs of them.
+    /// Builds the Move of the records. After that its Append allocates nothing for them.
     pub fn build(&mut self, header: MoveHeader) -> Result<(), AllocError>
         // One header block can name all the records, and each record's data is a whole block.
         requires block { (header.block_bytes ≡ 512) ⊎ (header.block_bytes ≡ 4096) }
@@ -255,7 +257,7 @@ impl Gathered {
     }
 }
 
-/// Copies the data of the records, after room for a header block, to another batch.
+/// Makes another batch: room for a header block, and then the data of the records.
 fn pack(
     records: &IndexMap<u32, Option<usize>>,
     bytes: &[u8],
@@ -288,7 +290,7 @@ fn copy_all(
     Ok(())
 }
 
-/// Adds the block of data at a position to a batch; none without a position.
+/// Adds the block of data at a position to a batch. Without a position nothing is added.
 fn copy_block(
     bytes: &[u8],
     block_bytes: usize,
@@ -305,7 +307,7 @@ fn copy_block(
     }
 }
 
-/// Writes the header of the Move of the records into its room, before their data.
+/// Writes the header of a Move of these records into the room that was left for it.
 fn head_move(
     records: &IndexMap<u32, Option<usize>>,
     batch: &mut BatchBuilder,

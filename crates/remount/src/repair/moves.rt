@@ -22,12 +22,12 @@ use logical_map::Place;
 use std::alloc::{AllocError, Global};
 use zone_choice::{BatchBuilder, Tables};
 
-/// The Moves that repair a torn zone.
+/// Which Moves repair a torn zone.
 #[derive(Drop)]
 pub struct MovePlan {
     /// The torn zone.
     pub torn: u32,
-    /// What was reported of it.
+    /// What the report says of it.
     pub reported: ReportedZone,
     /// The zone that the records are moved to.
     pub into: u32,
@@ -37,7 +37,7 @@ pub struct MovePlan {
     pub most: u32,
     /// The sequence of the first Move.
     pub next: u64,
-    /// The size that the Moves before the last one say.
+    /// The size that all Moves but the last one say.
     pub early: Option<u32>,
     /// The size that the last Move says.
     pub size: Option<u32>,
@@ -50,15 +50,15 @@ struct NextMove {
     block: Vec<u8>,
 }
 
-/// The Moves that are made, one after the other.
+/// The Moves that were made so far.
 #[derive(Drop)]
 struct Moves {
-    /// The headers of those that were made.
+    /// Their headers.
     heads: ZoneHeads,
     next: NextMove,
 }
 
-/// Names a block that is at a place.
+/// Adds an entry for a block: data or a trim, by its place.
 fn name_record(batch: &mut BatchBuilder, block: u32, place: Place) -> Result<(), AllocError>
     requires { block + 1 < 2 ^ 32 }
     ensures { OnOk result (batch.new.heading ≡ record batch.old.heading {
@@ -71,7 +71,7 @@ fn name_record(batch: &mut BatchBuilder, block: u32, place: Place) -> Result<(),
     }
 }
 
-/// Names these blocks, each as what is at its place.
+/// Adds an entry for each of these blocks: data or a trim, by its place.
 fn name_records(batch: &mut BatchBuilder, tables: &Tables, blocks: &[u32]) -> Result<(), AllocError>
     requires { AllByRecursion (λ block. (block < size_of tables.now) × (block + 1 < 2 ^ 32)) blocks.now }
     ensures { OnOk result (batch.new.heading ≡ record batch.old.heading {
@@ -84,7 +84,7 @@ fn name_records(batch: &mut BatchBuilder, tables: &Tables, blocks: &[u32]) -> Re
     Ok(())
 }
 
-/// Reads the data at a place of a zone, and adds it to a Move. A trim has none.
+/// Reads the data of a record from its zone, and adds it to a Move. A trim has no data.
 fn copy_record<D: Device>(
     device: &mut D,
     zone: ReadableZone,
@@ -115,7 +115,7 @@ fn copy_record<D: Device>(
     Ok(())
 }
 
-/// Reads the data of these blocks from the zone where it is, and adds it to a Move.
+/// Reads the data of these blocks from their zone, and adds it to a Move.
 fn copy_records<D: Device>(
     device: &mut D,
     zone: ReadableZone,
@@ -143,7 +143,7 @@ fn copy_records<D: Device>(
     Ok(())
 }
 
-/// The numbers from `from` on, but at most `most` of them.
+/// At most `most` of the numbers, from index `from` on.
 fn part(numbers: &[u32], from: usize, most: usize) -> &[u32]
     requires { from ≤ length numbers.now }
     ensures { result.now ≡ take most (drop from numbers.now) }
@@ -153,7 +153,7 @@ fn part(numbers: &[u32], from: usize, most: usize) -> &[u32]
 }
 
 impl MovePlan {
-    /// How many Moves there are, one at least.
+    /// How many Moves there are. It is at least one.
     fn count(&self) -> usize
         requires { 1 ≤ self.now.most }
         ensures { result ≡ move_count self.now }
@@ -187,7 +187,7 @@ impl MovePlan {
     }
 }
 
-/// Builds the Move with a number: all that its Append needs.
+/// Builds the Move with this number, so that only its Append is left to do.
 fn build_move<D: Device>(
     device: &mut D,
     plan: &MovePlan,
@@ -224,7 +224,7 @@ fn build_move<D: Device>(
     copy_records(device, zone, tables, blocks, next)
 }
 
-/// Adds the header of a batch that was built.
+/// Adds the header of a batch to those of its zone.
 fn push_built(
     heads: &mut ZoneHeads,
     batch: &BatchBuilder,
@@ -269,7 +269,8 @@ fn append_move<D: Device>(
     }
 }
 
-/// Makes the Move with a number, and adds its header to the headers of the Moves before it.
+/// Builds and appends the Move with this number, and adds its header to those of the Moves before
+/// it.
 fn make_move<D: Device>(
     alloc: Global,
     device: &mut D,
@@ -298,7 +299,7 @@ fn make_move<D: Device>(
     append_move(alloc, device, plan.into, &moves.next.batch)
 }
 
-/// Makes all Moves, and gives their headers.
+/// Builds and appends all Moves, and returns their headers.
 pub(crate) fn make_moves<D: Device>(
     alloc: Global,
     device: &mut D,

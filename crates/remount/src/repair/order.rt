@@ -24,7 +24,8 @@ fn greatest_sequence(scanned: &[ScannedZone]) -> u64
     drive_survey::greatest_sequence(scanned)
 }
 
-/// Why the torn zone is not half clean. Only a zone of Moves is looked at.
+/// Finds why the torn zone is needed, so that it is not half clean. A zone that has other batches
+/// than Moves is never half clean, so it is not looked at.
 fn why_needed<D: Device>(
     alloc: Global,
     device: &mut D,
@@ -47,7 +48,7 @@ fn why_needed<D: Device>(
     examine_zone(alloc, device, survey, zone)
 }
 
-/// All of these blocks but one.
+/// These blocks without `last`.
 fn others(alloc: Global, blocks: &[u32], last: u32) -> Result<Vec<u32>, AllocError>
     ensures { IfOk result (λ order. order.items ≡ others last blocks.now) }
 {
@@ -60,7 +61,8 @@ fn others(alloc: Global, blocks: &[u32], last: u32) -> Result<Vec<u32>, AllocErr
     Ok(order)
 }
 
-/// The order in which the blocks are moved: the one that the torn zone is needed for comes last.
+/// The order in which the blocks are moved. If the torn zone is needed for one block, that one
+/// comes last. So the zone does not become half clean before.
 fn ordered(alloc: Global, blocks: &[u32], why: Finding) -> Result<Vec<u32>, AllocError>
     ensures { IfOk result (λ order. order.items ≡ ordered blocks.now why) }
 {
@@ -75,7 +77,8 @@ fn ordered(alloc: Global, blocks: &[u32], why: Finding) -> Result<Vec<u32>, Allo
     Ok(order)
 }
 
-/// The size that all Moves but the last one say: none if the torn zone is needed for the size.
+/// The size that all Moves but the last one say. If the torn zone is needed for the size, they say
+/// none.
 fn early_size(size: Option<u32>, why: Finding) -> Option<u32>
     ensures { result ≡ early_size size why }
 {
@@ -85,7 +88,7 @@ fn early_size(size: Option<u32>, why: Finding) -> Option<u32>
     }
 }
 
-/// The Moves that repair a torn zone, to a zone that is empty.
+/// Plans the Moves from a torn zone to an empty one.
 pub(crate) fn plan_moves<D: Device>(
     alloc: Global,
     device: &mut D,

@@ -81,7 +81,7 @@ fn live_blocks(alloc: Global, tables: &mut Tables, zone: u32) -> Result<LiveBloc
     Ok(LiveBlocks { blocks, with_data })
 }
 
-/// How many Moves take that many records, one at least.
+/// How many Moves that many records take. It is at least one.
 fn count_moves(most: u32, records: u64) -> u64
     requires { 1 ≤ most }
     ensures moves { result ≡ moves most records }
@@ -90,9 +90,9 @@ fn count_moves(most: u32, records: u64) -> u64
     records.div_ceil(most as u64).max(1)
 }
 
-/// How the torn zone of a cleared drive is repaired; `None` if no zone is torn. `TornZone` names the lowest torn
-/// zone, where another is torn, too, or where its live records do not fit in a zone. `Spent` comes if no sequences
-/// are left for the Moves.
+/// Plans the repair of the torn zone of a cleared drive. Without a torn zone there is none.
+/// `TornZone` means that two zones are torn, or that the live records do not fit in a zone. It
+/// names the lowest torn zone. `Spent` means that too few sequences are left for the Moves.
 pub fn plan_repair(
     alloc: Global,
     survey: &Survey,

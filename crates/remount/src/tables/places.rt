@@ -25,7 +25,7 @@ const MOST_BLOCKS: u32 = 1 << 31;
 /// The greatest address that a place can have.
 const LAST_ADDRESS: u64 = (1 << 63) - 2;
 
-/// Where a record's data is or, of a trim, its header.
+/// The place of a record: where its data is or, for a trim, its header.
 fn place_of(found: KeptRecord, zone_size: u32) -> Place
     ensures place { result ≡ kept_place zone_size found }
     ensures fits { place_address result + 1 < 2 ^ 63 }
@@ -38,7 +38,8 @@ fn place_of(found: KeptRecord, zone_size: u32) -> Place
     Place::At(address)
 }
 
-/// Places a record that no record placed before is older than, unless its block has a place.
+/// Gives the block of a record its place, unless it has one already. Records have to come newest
+/// first: so the first one of a block is its newest.
 fn place_record(tables: &mut Tables, zone_size: u32, found: KeptRecord) -> Result<(), AllocError>
     requires few { size_of tables.old ≤ 2 ^ 31 }
     ensures places { OnOk result ((all : List KeptRecord) → PlacesNewest zone_size all tables.old.map.places
@@ -57,7 +58,7 @@ fn place_record(tables: &mut Tables, zone_size: u32, found: KeptRecord) -> Resul
     Ok(())
 }
 
-/// Places the records of a batch that no record placed before is older than.
+/// Does so for all records of a batch. Batches have to come newest first.
 fn place_batch(
     tables: &mut Tables,
     zone_size: u32,
@@ -82,7 +83,8 @@ fn place_batch(
     Ok(())
 }
 
-/// Places the records of these batches, the newest first.
+/// Does so for all records of these batches, from the newest batch on. The list has the oldest
+/// first.
 fn place_batches(
     tables: &mut Tables,
     scanned: &[ScannedZone],
@@ -105,7 +107,7 @@ fn place_batches(
     Ok(())
 }
 
-/// Makes room to note the blocks of each zone.
+/// Reserves memory for the list of blocks of each zone.
 fn reserve_zones(tables: &mut Tables, scanned: &[ScannedZone], zones: u32) -> Result<(), AllocError>
     ensures { tables.new ≡ tables.old }
 {
@@ -119,8 +121,8 @@ fn reserve_zones(tables: &mut Tables, scanned: &[ScannedZone], zones: u32) -> Re
     Ok(())
 }
 
-/// Tables that say where the newest record of each block is, by the headers that are kept. They say nothing of
-/// the zones yet.
+/// Makes tables that say where the newest record of each block is, from the headers that were
+/// read. Zones have no roles yet.
 pub fn place_records(
     alloc: Global,
     survey: &Survey,

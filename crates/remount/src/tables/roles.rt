@@ -51,7 +51,7 @@ fn partly_from(reported: &[ReportedZone], from: u32, end: u32) -> Option<Filling
     None
 }
 
-/// The lowest one after the first, if there is a first.
+/// The next partly written zone after `first`, if there is a `first`.
 fn partly_after(reported: &[ReportedZone], first: Option<Filling>, end: u32) -> Option<Filling>
     requires { FindsPartly reported.now 0 end first }
     ensures { FindsNext reported.now end first result }
@@ -60,8 +60,8 @@ fn partly_after(reported: &[ReportedZone], first: Option<Filling>, end: u32) -> 
     partly_from(reported, first.zone + 1, end)
 }
 
-/// What the zones of a drive with that many are for, by their report: of two that are partly written the lower is
-/// the host zone, and the other the next one.
+/// The roles of the zones, by their report. Of two zones that are partly written the lower one is
+/// the host zone, and the other the next zone.
 pub(crate) fn mounted_roles(
     alloc: Global,
     reported: &[ReportedZone],
