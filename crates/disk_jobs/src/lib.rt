@@ -58,7 +58,7 @@
 //!   no change to its store (`call_tests`).
 //! * That the device of a run keeps its `--stop-after`, `--tear` and `--habit` until it is given back. The rows of
 //!   `worked_runs` and `call_tests` show that they act.
-//! * That [`Explained`], [`Watched`] and the input pass on what they are given: a stream may fail at any call. By
+//! * That [`Explained`], [`Watched`] and `CountedLines` pass on what they are given: a stream may fail at any call. By
 //!   contract [`Explained`] passes exactly these bytes; what it says on standard error is tested.
 //! * The text of `--statistics`, the explanations of faults, what is said of the size of a disk, and how many commands
 //!   a mount took, which standard error says after a stop (`call_tests`).

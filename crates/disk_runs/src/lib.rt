@@ -38,8 +38,8 @@
 //! * A line `idle K` that is answered took K turns, each by the step of the clean that was next. A line `fill`,
 //!   `write` or `trim` was one write of the disk, by batches that are as large as they can be: the first two leave
 //!   records with data, and the last one leaves trims. A line `grow` appended a batch, also where the size is the
-//!   present one. A line that is skipped changed nothing. The lines that were answered lead, one after the other, from
-//!   the disk that was mounted to the one whose drive is given back.
+//!   present one. After each of these the headers say the size. A line that is skipped changed nothing. The lines that
+//!   were answered lead, one after the other, from the disk that was mounted to the one whose drive is given back.
 //! * A line takes no more commands than the disk's calls may, answered or refused, and throws no clean back that runs.
 //!   So a run takes no more than all its lines may, with one for each flush; what its remounts take is not counted. A
 //!   clean ends by its `capacity`-th turn, whatever lines fall between (`laws::runs_make_progress`).

@@ -59,7 +59,9 @@
 //!   zone, or its zone was emptied (`KeepsClean`).
 //! * While the disk serves, `place_of` tells where the newest record of a block is, `live` how many blocks have theirs
 //!   in a zone, and `is_cleaning` whether a clean runs. If none runs, a zone is kept empty.
-//! * A report shows all zones, whole, at one moment of the call (`ReportsAll`).
+//! * A report shows all zones, whole, at one moment of the call, up to closings (`ReportsAll`).
+//! * Blocks that are written read back, and a write changes no other block (`laws`). `into_device` gives the drive
+//!   back as it is.
 //! * Only a `flush` changes what a loss of power leaves (`HardensBy` in specs/Answers). Done, that is this array.
 //! * A batch finds a host zone with two free blocks. A new one is the next zone or, without one, the lowest empty
 //!   zone, never the last. Only a host zone with fewer than two free blocks is given up. Only a disk without a host
