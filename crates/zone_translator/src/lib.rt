@@ -32,7 +32,8 @@
 //!   or trim has written a front of its blocks, and nothing else. A refused growth leaves the array the same, or after
 //!   a stop the array before or after the growth.
 //! * No call is refused for lack of room: once it was begun, only by `OutOfMemory` or `Stopped`; all but reads and
-//!   reports also by `Spent`. A read answers `Stopped` only if one of its blocks has data (`HasData`).
+//!   reports also by `Spent`. A read of a disk that serves answers `Stopped` only if one of its blocks has data
+//!   (`HasData`).
 //! * `Stopped` comes only if the drive has stopped, `Spent` only if the next sequence is 2^63 - `capacity` or more
 //!   (`cause`). A call whose answer is known before it begins leaves disk and drive untouched.
 //! * The drive refuses no command. At each exit, whatever the answer, the drive can be mounted and encodes the array
@@ -47,12 +48,13 @@
 //! * After a write, a fill or a trim of some blocks the greatest size in the drive's headers is the disk's. A
 //!   completed growth appended at least one batch that says the new one (`says`).
 //! * After these calls the next sequence is at most 2^63 - `capacity`: the sequences kept for repairs are left
-//!   (`early`). It rises by one with each Append, and falls only by a remount. It is above every sequence on the
-//!   drive.
+//!   (`early`). It rises by one with each Append, and falls only by a remount. While the disk serves, it is above
+//!   every sequence on the drive.
 //! * Every new host batch is full, unless it is the last of the call or ends its zone, whatever the call answers.
 //!   Moves are the only other new batches (`cut`, `LogsAreCut`).
 //! * Completed commands are at most, with c for 2 * `capacity` + 1: `n` for a read of `n` blocks; `n` * c for a write
-//!   or a fill; ceil(`n` / `batch_most`) * c for a trim; c for a growth; 2 for a turn; 1 for a report (`completed`).
+//!   or a fill; ceil(`n` / `batch_most`) * c for a trim; c for a growth; 2 for a turn; 1 for a report or a flush
+//!   (`completed`).
 //! * An `idle` of a serving disk is exactly one turn of cleaning (`IsTurn`). Each completed turn leaves fewer turns, a
 //!   refused one as many, and no other completed call adds any. A clean that a turn starts has at most `capacity` - 1.
 //! * A refused write, fill, trim or growth does not set back a clean that ran before it: it still runs, of the same
