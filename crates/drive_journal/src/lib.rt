@@ -4,7 +4,7 @@
 //! let opened = open_drive(alloc, &mut reader)?; // the drive that the file holds
 //! file.set_len(opened.whole)?; // without a change that was cut off
 //! let mut device = Journaling::new(alloc, opened.drive, Unknown::new(file), opened.sum);
-//! append(alloc, &mut device, 0, &block)?; // in the file before it is answered
+//! append(alloc, &mut device, 0, &block)?; // given to the store before it is answered
 //! ```
 //!
 //! A change is a mark of 8 bytes, the entry of 64 bytes of the command that made it, a sum of 8 bytes, the data of the
