@@ -25,7 +25,7 @@
 //!   Finish and a restart. So can one between the Moves of a repair, the last of which may be torn.
 //! * The array of a mountable drive consists of whole blocks.
 //!
-//! `laws` has all but the first of these.
+//! Functions with empty bodies carry all but the first of these as their contracts (`laws.rt`).
 //!
 //! Tests: the rows of `worked_runs`, for the functions and the laws.
 #![tactic(auto)]

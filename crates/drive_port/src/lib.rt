@@ -22,7 +22,7 @@
 //!   only the first blocks were written. A device leaves whole blocks only: a block that is written in part is never
 //!   met.
 //! * Before a command and after it a controller may close implicitly opened zones, as the standard allows: such a
-//!   *closing* changes no content of a zone (`specs/Drive.antt`, `laws`).
+//!   *closing* changes no content of a zone (`specs/Drive.antt`, `closing_keeps_contents`).
 //! * Each call is one submit of its command, and gives its result, the refusal, memory or the stop. It says what it
 //!   leaves of the zones, up to closings (`Leaves`), and of their contents (`AppendKeeps` and its kin), also where the
 //!   device stopped; when a drive has to take it (`CanAppend` and its kin); and what every call keeps (`Obeys`). All
