@@ -1,8 +1,7 @@
-//! The log that a zone holds: batches, each a header block that names logical blocks, followed by
-//! their data.
+//! The log that a zone holds: batches, each a header block that names logical blocks, followed by their data.
 //!
-//! A batch is written by one Append. `header_bytes` writes its header block: in version 2 where the
-//! header has the disk's size, in version 1 where it has none. `read_header` reads a block of either
+//! A batch is written by one Append. `header_bytes` writes its header block: in version 2 where the header has the
+//! disk's size, in version 1 where it has none. The disk writes version 2. `read_header` reads a block of either
 //! version, and `Batches` reads a whole zone. Both lend what they are given, and take no memory.
 //!
 //! ```text
@@ -16,14 +15,18 @@
 //! let torn = batches.torn(); // the block where a torn tail begins, if any
 //! ```
 //!
-//! A zone that is not full may end in a torn tail: a header block and fewer data blocks than it needs,
-//! as an Append leaves that was stopped midway. It is no batch.
+//! A zone that is not full may end in a torn tail: a header block and fewer data blocks than it needs, as an Append
+//! leaves that was stopped midway. It is no batch. A mount reads only headers; `Batches` serves whoever has the bytes.
 //!
-//! Promised: each header has one block that encodes it, and any other block is refused with the first
-//! cause that holds of it. A zone is read in one way: as the batches from its first block on, up to
-//! if none begins, and what is there, which is nothing, a torn tail or a fault. Where the zone
-//! has a log, it is these batches; where a fault is met it has none. `laws` says what an Append, a part
-//! of one and a Finish do to a log.
+//! # What is promised
+//!
+//! * Each header has one block that encodes it, and any other block is refused with the first cause that holds of it.
+//! * A zone is read in one way: as the batches from its first block on, up to where none begins, and what is there:
+//!   nothing, a torn tail or a fault, told with its offset and cause. Where the zone has a log, it is these batches;
+//!   where a fault is met it has none.
+//! * `laws` says what an Append, a part of one and a Finish do to a log: it stays one. A list of blocks has at most
+//!   one log, and at most one torn tail. A batch counts whole or not at all.
+//! * [`entry_room`] is how many entries fit in a header. Each fault has its text.
 //!
 //! `docs/formats.md` states the header's bytes, `docs/placement.md` what batches are for.
 //!

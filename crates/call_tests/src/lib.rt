@@ -1,8 +1,12 @@
 //! Tests of what only a call can show: readers and writers that fail, command lines and the files that they leave,
 //! counts and places. The worked examples, which `worked_runs` answers, show the rest.
 //!
-//! They are in a crate of their own, since a crate with tests is proved twice: each library is proved once,
-//! and its tests load it. Here is nothing but tests, and the readers and writers that they need.
+//! They are in a crate of their own, since a crate with tests is proved twice: each library is proved once, and its
+//! tests load it. Here is nothing but tests, and the readers and writers that they need.
+//!
+//! # What is promised
+//!
+//! Nothing beyond safety.
 #![tactic(auto)]
 
 #[cfg(test)]

@@ -6,7 +6,13 @@
 //! let text = findings_json(alloc, &findings)?;   // the same as JSON
 //! ```
 //!
-//! Nothing is promised beyond safety; what they show is tested.
+//! # What is promised
+//!
+//! Nothing beyond safety.
+//!
+//! # What is not proved
+//!
+//! What the texts show is tested.
 //!
 //! Tests: the rows of `tool_rows`.
 #![tactic(auto)]

@@ -5,20 +5,26 @@
 //! let imported = do_import(&rt, alloc, &import_job, rt.reader());
 //! ```
 //!
-//! An [`ExportJob`] or an [`ImportJob`] says which file is used, and which blocks. [`do_export`] and [`do_import`] open
-//! the file of a path, lock it and, after an import, save it.
+//! An [`ExportJob`] or an [`ImportJob`] says which file is used, and which blocks. [`do_export`] and [`do_import`]
+//! open the file of a path, lock it and, after an import, save it.
 //!
 //! # What is promised
 //!
 //! Over every file, store, reader and writer (`specs/DriveCopies.antt`):
 //!
-//! * [`export_drive`] restarts the drive in the file, mounts it and exports its blocks, as `block_copies` promises.
-//!   Before another fault than the export's own nothing is written.
-//! * [`import_drive`] restarts the drive in the file, mounts it and imports blocks to its disk. Whatever ends that, the
-//!   store holds the drive that is left, which can be mounted again. Without a mounted drive nothing is read.
+//! * [`export_drive`] restarts the drive in the file, mounts it as the size that it says, and exports its blocks, as
+//!   `block_copies` promises. Before another fault than the export's own nothing is written (`ExportsFile`).
+//! * [`import_drive`] restarts the drive in the file, mounts it as the size that it says or the number that was given,
+//!   and imports blocks to its disk. Whatever ends that, the store holds the drive that is left, in its image and its
+//!   changes, which can be mounted again. A failed store is told exactly. Without a mounted drive nothing is read, and
+//!   the fault is the first (`ImportsFile`).
 //!
-//! What is saved after an import, and what is told if its file failed, is decided by `kept_drives`. Nothing else is
-//! promised of [`do_export`] and [`do_import`], since no contract says what a file holds.
+//! What is saved after an import, and what is told if its file failed, is decided by `kept_drives`.
+//!
+//! # What is not proved
+//!
+//! * [`do_export`] and [`do_import`]: no contract says what a file holds. That a completed import survives a loss of
+//!   power is tested (`tools/power_cuts`). Their lock and `--progress` have no test.
 //!
 //! Tests: the rows of `copy_rows`.
 #![tactic(auto)]

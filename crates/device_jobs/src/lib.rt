@@ -6,9 +6,9 @@
 //! let well = check_device(alloc, job.blocks, &mut drive, &job.form, &mut output)?;
 //! ```
 //!
-//! A [`DeviceJob`] is what the words of the command line ask for (`command_line` reads them). [`Devices`] is the way to
-//! the drives; a program that has none has [`NoDevices`]. What is done with an open drive is generic: each job works
-//! over every `Device` of `drive_port`, and so over a drive in memory.
+//! A [`DeviceJob`] is what the words of the command line ask for (`command_line` reads them). [`Devices`] is the way
+//! to the drives; a program that has none has [`NoDevices`]. What is done with an open drive is generic: each job
+//! works over every `Device` of `drive_port`, and so over a drive in memory.
 //!
 //! A drive that stays in its file is opened by such a way, too. It alone can be made: [`DeviceJob::Create`] is done by
 //! the way itself. And it alone can be read without a change: what only reads opens it by [`Devices::open_reader`].
@@ -19,24 +19,36 @@
 //!
 //! Over every device, medium, reader and writer:
 //!
-//! * [`run_device`] mounts the drive, and answers the lines of a trace as `disk_runs` promises: all, or those that read,
-//!   or all with a Flush after each that changes the drive (`specs/Runs.antt`). Then the zones of the drive are shown by a report of it, if they are asked for.
-//! * [`serve_device`] serves the drive as `nbd_session` promises, read only where that is asked for. Each sync of the session is one of the medium, or a
-//!   Flush of the drive that the medium counts. [`serve_flushed`] also flushes such a drive at the end.
+//! * [`run_device`] mounts the drive, and answers the lines of a trace as `disk_runs` promises: all, or those that
+//!   read, or all with a Flush after each that changes the drive (`specs/Runs.antt`). Then the zones of the drive are
+//!   shown by a report of it, if they are asked for.
+//! * [`serve_device`] serves the drive as `nbd_session` promises, read only where that is asked for. Each sync of the
+//!   session is one of the medium, or a Flush of the drive that the medium counts. [`serve_flushed`] also flushes such
+//!   a drive at the end.
 //! * [`export_device`] exports the blocks of the disk (`specs/Copies.antt`). The array stays. `import_mounted` of
 //!   `copy_jobs` imports them.
 //! * [`check_device`] finds all faults of the drive, and [`inform_device`] what it holds (`specs/Looks.antt`).
-//!   [`answer_report`] shows its zones (`specs/Reports.antt`). No zone is changed, but that a controller may close
-//!   some. [`show_zones`] shows them in other forms (`specs/Shown.antt`). [`plan_device`] plans a drive of its shape, as
-//!   `tool_jobs` does.
+//!   [`answer_report`] shows its zones (`specs/Reports.antt`), also after a run. No zone is changed, but that a
+//!   controller may close some. [`show_zones`] shows them in other forms (`specs/Shown.antt`). [`plan_device`] plans a
+//!   drive of its shape, as `tool_jobs` does.
 //! * [`format_device`] leaves a drive whose zones are all Empty, if it answers `Ok`. Without `force` it changes no
 //!   zone, nor where a zone is Read Only or Offline. Whatever it answers, each zone holds what it held, or is Empty
-//!   (`specs/Formats.antt`). No contract says what it tells on standard error.
+//!   (`specs/Formats.antt`).
+//! * A format that is not done says why: what the drive holds, which zone cannot be used, that the drive has stopped,
+//!   or which zone was not reset. It then writes no `ok`, or a front of it where the output failed. Out of memory all
+//!   zones are as they were, or all are empty (`IsUnformatted`, `SaysNoOk`).
 //! * [`harden`] flushes the drive where a sync of its medium is that, and syncs the medium (`specs/Durable.antt`).
-//! * Each device is refused by [`DeviceFault::NoWay`] in a program that has [`NoDevices`], and so is a new drive.
+//! * Each device is refused by [`DeviceFault::NoWay`] in a program that has [`NoDevices`], and so is a new drive. It
+//!   makes, stores and loads none (`HasNoWay`).
 //!
-//! Nothing is promised of [`send_lines`], which sends entries as they are and believes no answer, nor of
-//! [`serve_client`], which is [`serve_flushed`] between buffers.
+//! # What is not proved
+//!
+//! * [`send_lines`], which sends entries as they are and believes no answer, and [`serve_client`], which is
+//!   [`serve_flushed`] between buffers.
+//! * What a format tells on standard error before the first Reset, that it ends where that cannot be told, and which
+//!   zone is named where several cannot be used.
+//! * Which drive a way opens or makes, and that it does so.
+//! * The texts are tested.
 //!
 //! Tests: the rows of `device_rows`.
 #![tactic(auto)]

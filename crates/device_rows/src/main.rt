@@ -5,6 +5,10 @@
 //! it ended; of words that are refused the first line of the reason. Then the reasons why a device is not used are
 //! shown, and what a program without a way to devices does. At the end are tasks on files that begin as a drive does
 //! which stays in its file: without a way to such drives, and with one. `stdout` has what is to be printed.
+//!
+//! # What is promised
+//!
+//! Nothing beyond safety. What it prints is compared with `stdout`.
 #![tactic(auto)]
 
 mod faults;

@@ -17,11 +17,19 @@
 //! }
 //! ```
 //!
-//! What is promised: [`LineReader::next_line`] takes the first line of what is left, or says why it did not;
-//! [`TraceLine::parse`] and [`parse_raw_line`] accept the lines of their grammars and no others, say what
-//! those say, and decode their data into a buffer that the caller keeps; replies are their texts; and
-//! [`write_out`] writes all its bytes, or after a fault a beginning of them. `laws` has what holds of all
-//! lines: those that are written are read again.
+//! # What is promised
+//!
+//! * [`LineReader::next_line`] takes the first line of what is left, or says why it did not.
+//! * [`TraceLine::parse`] and [`parse_raw_line`] accept the lines of their grammars and no others, say what those say,
+//!   and decode their data into a buffer that the caller keeps.
+//! * Replies are their texts. [`write_out`] writes all its bytes, or after a fault a beginning of them.
+//! * `laws` has what holds of all lines: those that are written are read again.
+//! * A `FailAfter` is a reader or a writer that fails after a number of bytes, for tests.
+//!
+//! # What is not proved
+//!
+//! * Readers and writers that fail, and long lines, are tested.
+//! * No clause states that a reader is called less than 2^62 times.
 //!
 //! Tests: the rows of `worked_runs`, and `texts.rt` of `call_tests`.
 #![tactic(auto)]

@@ -16,32 +16,52 @@
 //! ```
 //!
 //! A [`Job`] is what the words of the command line ask for (`command_line` reads them). [`run_job`] does it, and
-//! [`do_job`] does it on the drive of its file: it locks the file, and saves the drive. [`Done`] says how the job ended
-//! and how the save did. [`explain`] says what a fault is in a line for people; the input has the one at which a
+//! [`do_job`] does it on the drive of its file: it locks the file, and saves the drive. [`Done`] says how the job
+//! ended and how the save did. [`explain`] says what a fault is in a line for people; the input has the one at which a
 //! run ended. [`size_notes`] says what is to be known of the size of the disk. [`Explained`] passes the replies of
 //! `nvme` on, and tells what their statuses are. [`Watched`] says how much of a stream was read or written.
 //!
 //! # What is promised
 //!
-//! * What [`run_job`] hands back is what the lines left, also after a fault: of `run`, what `run_trace` of `disk_runs`
-//!   left of the drive in the file, restarted; of `nvme`, what `run_raw` left of it; of `format`, a fresh drive
-//!   (`specs/Saved.antt`). Then the fault comes from the run, and the output is `ok` of `format`, the replies, and then
-//!   the zones if they are asked for.
-//! * The store of `run` and `nvme` holds that drive too: its image, and all changes since. Each was written before the
-//!   reply to its line.
+//! Of [`run_job`], over every reader and every store:
+//!
+//! * What is handed back is what the lines left, also after a fault: of `run`, what `run_trace` of `disk_runs` left of
+//!   the drive in the file, restarted, with its stop; of `nvme`, what `run_raw` left of it; of `format`, a fresh drive
+//!   (`LeftByLines` in `specs/Saved.antt`). If the store failed, only the store has that drive, and nothing is saved.
+//! * The store of `run` and `nvme` holds that drive too: its image, and all changes since. A failed store is told
+//!   exactly if the store says so.
 //! * A run with `--read-only` answers only lines that read, by the drive in the file, which it mounts and repairs in
 //!   memory. Its store holds what it held, and its drive is not saved.
+//! * Which disk was mounted is told. None is told only if the mount was refused, or the job mounts nothing
+//!   (`TellsJob`).
+//! * The fault that is told with a drive comes from the run. `Reserve` tells the greatest number of blocks that the
+//!   drive has room for (`TellsRun`).
 //! * There is no drive only after a report, or if none was made or read. Then no line was read, and the fault says
-//!   why. Nothing is written before a fault of the file.
-//! * What is saved in a file is that drive, also after a fault, unless the job only reads; a fresh drive only if its `ok`
-//!   was sent (`saving.rt`, and `drive_to_save` of `kept_drives`).
+//!   why: the geometry or the bytes of the file have it, the writer failed, or memory ran out. Nothing is written
+//!   before a fault of the file (`HasNoDrive`). A report shows the zones as they were saved, without a restart
+//!   (`ShowsReport`).
+//! * The output is `ok` of `format`, then the replies, and after a completed run the zones, if they are asked for.
+//!   With `--statistics` some text is between, and all else is as without it (`SaysFirst`, `ThenShows`,
+//!   `RunsCounted`).
+//! * What is saved in a file is the drive of the job, also after a fault, unless the job only reads; a fresh drive
+//!   only if its `ok` was sent. Nothing is saved if a change could not be written (`left_to_save`, `fresh_to_save`).
 //! * [`write_program_fault`] writes the line of each fault, or a beginning of it (`specs/FaultLine.antt`).
 //!
-//! A run with `--statistics` is promised as one without; its replies are followed by some text. Of [`do_job`] nothing
-//! is promised, since no contract of std says what a file of a path holds, or who has locked it. A job makes its device
-//! with the stop and the habit that it names; that the device keeps them during the lines is tested, since a run
-//! promises something of the drive in a device alone. The texts of `--statistics` are tested in `call_tests`; what the
-//! drive closes with each `--habit` is in the rows of `worked_runs`.
+//! # What is not proved
+//!
+//! * [`do_job`]: that the file of the path takes the changes, gets the image of that drive, and keeps what it holds if
+//!   the save fails. std's `Files` says nothing of what a path holds.
+//! * The lock, held from before the image is read until the drive is saved; that a save keeps mode, owner, symbolic
+//!   link, and every other file; that a file which failed says so, and keeps the first changes (`tools/two_programs`).
+//! * When replies are sent, and that the changes before them are in the file by then (`tools/kill_runs`).
+//! * That a run with `--read-only` leaves each byte of the file. By contract it hands no drive to be saved, and writes
+//!   no change to its store (`call_tests`).
+//! * That the device of a run keeps its `--stop-after`, `--tear` and `--habit` until it is given back. The rows of
+//!   `worked_runs` and `call_tests` show that they act.
+//! * That [`Explained`], [`Watched`] and `CountedLines` pass on what they are given: a stream may fail at any call. By
+//!   contract [`Explained`] passes exactly these bytes; what it says on standard error is tested.
+//! * The text of `--statistics`, the explanations of faults, what is said of the size of a disk, and how many commands
+//!   a mount took, which standard error says after a stop (`call_tests`).
 //!
 //! Tests: `jobs.rt` of `call_tests`; `tools/kill_runs` and `tools/two_programs`, on files.
 #![tactic(auto)]

@@ -1,5 +1,5 @@
-//! The array that a drive holds: the records of all batches of all zones, the array that the newest of
-//! them encode, which drives can be mounted, and how many blocks are kept in reserve.
+//! The array that a drive holds: the records of all batches of all zones, the array that the newest of them encode,
+//! which drives can be mounted, and how many blocks are kept in reserve.
 //!
 //! ```text
 //! let geometry = Geometry { block: 512, zones: 4, size: 8, capacity: 6, transfer: 4, active: 2, open: 2 };
@@ -10,13 +10,24 @@
 //! ```
 //!
 //! Nothing here keeps a state or sends a command. The definitions say what a drive means: its records
-//! (`specs/Records`), its size (`specs/Sizes`), its logs and its array (`specs/ZoneLogs`), which zones can be
-//! given up (`specs/Spare`), how a torn zone is repaired (`specs/Repair`, `specs/Repairing`), which drives can
-//! be mounted (`IsMountable` in `specs/Mountable`), and the reserve (`FitsReserve` in `specs/Reserve`).
+//! (`specs/Records`), its size (`specs/Sizes`), its logs and its array (`specs/ZoneLogs`), which zones can be given up
+//! (`specs/Spare`), how a torn zone is repaired (`specs/Repair`, `specs/Repairing`), which drives can be mounted
+//! (`IsMountable` in `specs/Mountable`), and the reserve (`FitsReserve` in `specs/Reserve`).
 //!
-//! `laws` has what holds of all drives' contents: what an Append, whole or torn, a Finish, and the Resets of a
-//! mount change of logs, array and mountability. The functions compute the reserve. Tests of both are in
-//! `worked_runs`.
+//! # What is promised
+//!
+//! * The reserve is computed exactly, and the greatest number of blocks that fits it.
+//! * The newest record of a block has the greatest sequence of that block. The size is the greatest in the headers.
+//! * An Append of a batch with the greatest sequence changes array, map and size by its own records only.
+//! * After an Append, whole or torn, and after a Finish each zone has a log.
+//! * There is exactly one clearing, and it keeps the array.
+//! * A drive with one torn zone like ours can be mounted. So can one after each Reset that a mount sends, and after a
+//!   Finish and a restart. So can one between the Moves of a repair, the last of which may be torn.
+//! * The array of a mountable drive consists of whole blocks.
+//!
+//! Functions with empty bodies carry all but the first of these as their contracts (`laws.rt`).
+//!
+//! Tests: the rows of `worked_runs`, for the functions and the laws.
 #![tactic(auto)]
 
 mod laws;

@@ -10,14 +10,20 @@
 //!
 //! # What is promised
 //!
-//! * The refusal is the fault by which a mount is refused, the first in its order, or none exactly where the drive
-//!   can be mounted (`Refuses` in specs/Findings). A drive that can be mounted has no findings.
-//! * Else the lists have exactly the faults of their kinds (`ListsFaults`): each zone that is Read Only or Offline.
-//!   If there is none: how many zones are partly written; for each zone the first fault of its batches by
-//!   themselves; each sequence that is met again; each zone that names a block past the end; each torn zone. What
-//!   one zone holds hides no fault of another one.
+//! * The refusal is the fault by which a mount is refused, the first in its order, or none exactly where the drive can
+//!   be mounted (`Refuses` in specs/Findings). Nothing is listed of a drive that can be mounted, nor of one whose
+//!   geometry is out of range.
+//! * Else the lists have exactly the faults of their kinds (`ListsFaults`): each zone that is Read Only or Offline. If
+//!   there is none: how many zones are partly written; for each zone the first fault of its batches by themselves;
+//!   among zones without a fault each sequence that is met again, each zone that names a block past the end, and each
+//!   torn zone. What one zone holds hides no fault of another one.
 //! * Whatever is answered, no command was refused and nothing was appended. The zones are as before, but that the
-//!   controller may have closed some (`KeepsZones` in drive_survey/specs/Reported).
+//!   controller may have closed some (`KeepsZones` in drive_survey/specs/Reported). A check ends early only by a stop
+//!   or a failed allocation.
+//! * `foresee_mount` tells what a mount does before it changes the drive.
+//!
+//! A check looks at no batch if a zone cannot be used, and tells only the first fault of a zone. It lists a torn zone
+//! also if a mount would empty it.
 //!
 //! # How it goes
 //!

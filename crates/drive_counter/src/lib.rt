@@ -1,5 +1,5 @@
-//! A device that counts what another does: its commands by kind, and the blocks that its Appends wrote. And the
-//! lines that show it.
+//! A device that counts what another does: its commands by kind, and the blocks that its Appends wrote. And the lines
+//! that show it.
 //!
 //! ```text
 //! let mut counter = Counter::new(device);
@@ -13,11 +13,15 @@
 //! let counts = tally.counts();              // as many as tally.completed()
 //! ```
 //!
-//! What is promised: a `Counter` does what every device promises, and its counts rise with each completed
-//! command as `counts_after` in specs/Counting says. No command is sent for them. A count that would pass `u64::MAX`
-//! stays there. The text is in specs/StatisticsText.
-//! A `Tally` counts in the same way, and has completed exactly the commands that it counted (`tallied`). So a call that
-//! knows no more than a device can tell how many were counted: as many as were completed.
+//! # What is promised
+//!
+//! * A `Counter` does what every device promises. Its counts rise with each completed command, by what the command is
+//!   and by the header of the batch that it appends (`counts_after` in specs/Counting). No command is sent for them. A
+//!   count that would pass `u64::MAX` stays there.
+//! * A `Tally` counts in the same way, and has completed exactly the commands that it counted (`tallied`). So a call
+//!   that knows no more than a device can tell how many were counted: as many as were completed.
+//! * A `Spread` has the least, the median and the most of some numbers. The text of the counts is in
+//!   specs/StatisticsText.
 //!
 //! Tests: the command lines with `--statistics` in `call_tests`.
 #![tactic(auto)]

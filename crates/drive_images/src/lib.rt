@@ -7,8 +7,7 @@
 //! ```
 //!
 //! An image is a head of 64 bytes with the geometry, and then each zone in order: 8 bytes with its state and the
-//! number of its written blocks, and these blocks. Nothing follows. So each drive has one image
-//! (`specs/Image.antt`).
+//! number of its written blocks, and these blocks. Nothing follows. So each drive has one image (`specs/Image.antt`).
 //!
 //! # What is promised
 //!
@@ -19,6 +18,14 @@
 //! * [`read_image_front`] reads an image that other bytes follow, and leaves the reader behind it.
 //! * Other bytes are refused by the first fault in them, from the first byte on (`specs/Reading.antt`). Before that
 //!   fault is met, the reader may fail or memory may run out. [`image_fault_line`] is the line that tells it.
+//! * No image has a fault. No bytes are the images of two drives, or have two first faults. Bytes begin with one image
+//!   at most (`laws`).
+//!
+//! # What is not proved
+//!
+//! * That `Input` comes only if the reader failed.
+//! * That an image is read and written once, to its end, is tested; so are readers and writers that fail, and images
+//!   that are cut or changed.
 //!
 //! Tests: the rows of `worked_runs`, and `images.rt` of `call_tests`.
 #![tactic(auto)]

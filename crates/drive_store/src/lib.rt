@@ -12,17 +12,22 @@
 //!
 //! # What is promised
 //!
-//! * Over every file that does what [`Backing`] says (`specs/Backing.antt`): its bytes and the changes that are gathered
-//!   for it hold all that was appended; after a fault, all before the change that was refused. Writing out puts all of
-//!   it in the file, and a sync on the disk, with the name of the file. What is cut off is cut off on the disk before
-//!   more is appended, so that no loss of power brings it back. A failed sync is remembered: no later one is done by
-//!   success, and no change is taken. The file is written anew, or saved, by the image of the drive, on the disk.
+//! Over every file that does what [`Backing`] says (`specs/Backing.antt`):
 //!
-//! Of the files of the system nothing is promised by contract, since std says nothing of what a path names, what a file
-//! holds or who has locked it. One of them does what [`Backing`] says, by a call of the system for each call. Nor is it
-//! promised that the changes of a reply are in the file before it is sent: no contract sees into the cell that the store
-//! and the output share. `tools/two_programs` and `tools/kill_runs` try this: an answered change is found again after a
-//! kill, and two programs never share a file.
+//! * Its bytes and the changes that are gathered for it hold all that was appended; after a fault, all before the
+//!   change that was refused. Writing out puts all of it in the file, and a sync on the disk, with the name of the
+//!   file.
+//! * What is cut off is cut off on the disk before more is appended, so that no loss of power brings it back.
+//! * A failed sync is remembered: no later one is done by success, and no change is taken.
+//! * The file is written anew, or saved, by the image of the drive, on the disk.
+//!
+//! # What is not proved
+//!
+//! * Anything of the files of the system: std does not say what a path names, what a file holds or who has locked it.
+//!   One of them does what [`Backing`] says, by a call of the system for each call. Its lock, its syncs, the new file
+//!   that takes its place, and the input that ends when it fails are tested (`tools/two_programs`).
+//! * That the changes of a reply are in the file before it is sent: no contract sees into the cell that the store and
+//!   the output share. `tools/kill_runs` kills runs, and looks for answered lines that are lost.
 //!
 //! Tests: `tools/kill_runs` and `tools/two_programs`, on files.
 #![tactic(auto)]

@@ -16,10 +16,22 @@
 //!   allows the size that they say. Then the headers of all batches are known (`Surveys` in specs/Survey).
 //! * Each fault but `Halted` and `OutOfMemory` is the first one, in the order in which a survey looks (`SurveyFails`):
 //!   the report first, then zone by zone and batch by batch (`FailsFirst` in specs/Scan).
-//! * The half clean zones are found, each the lowest of its moment (`IsClearing` in drive_array/specs/Spare). `NoSpare`
-//!   comes exactly where there is neither a half clean zone nor a vacant one.
+//! * The half clean zones are found, each the lowest of its moment (`IsClearing` in drive_array/specs/Spare).
+//!   `NoSpare` comes exactly where there is neither a half clean zone nor a vacant one.
+//! * If a zone of Moves is needed for a block, the block that is told is the first such one that the zone names
+//!   (`IsFirstNeeded` of `Finds`).
+//! * No command is sent for a geometry out of range, or a number that the reserve does not allow.
+//! * A survey completes at most one command more than there are readable blocks. If it accepts: one for the report,
+//!   one for each batch, one for each block after the last batch of its zone (`ReadsOnce`).
+//! * A search for half clean zones passes over the zones once for each that it finds, and once more. It reads at most
+//!   two blocks for each entry (`SearchesBy`).
 //! * Whatever is answered, no command was refused and nothing was appended. The zones are as before, but that the
 //!   controller may have closed some (`KeepsZones` in specs/Reported).
+//!
+//! # What is not proved
+//!
+//! That the commands of a survey are Reads. Nothing is appended by contract, and the rows of `worked_runs` show the
+//! rest.
 //!
 //! # How it goes
 //!

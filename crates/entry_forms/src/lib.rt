@@ -5,9 +5,12 @@
 //! let line = entry_line(alloc, &entry, &words.beside)?; // 128 digits, and those of the data
 //! ```
 //!
-//! What is promised: [`entry_of`] gives the command that the words name, with the values of its options, and refuses
-//! exactly the words that name none (`specs/Entries.antt`). The line of [`entry_line`] is a raw line, and whoever
-//! decodes its digits finds the command, its identifier and the data again (`IsLineOf`).
+//! # What is promised
+//!
+//! * [`entry_of`] gives the command that the words name, with the values of its options. It refuses words only where
+//!   the command does not take an option, or a number does not fit its field (`specs/Entries.antt`).
+//! * The line of [`entry_line`] is a raw line, and whoever decodes its digits finds the command, its identifier and
+//!   the data again (`IsLineOf`).
 //!
 //! Tests: `tools.rt` of `call_tests`.
 #![tactic(auto)]

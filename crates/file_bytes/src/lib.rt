@@ -13,20 +13,28 @@
 //!
 //! # What is promised
 //!
-//! * A `FileBytes` is strict: what a read returns is what the file holds. A read changes neither that, nor what a loss of
-//!   power may leave.
+//! * A `FileBytes` is strict: what a read returns is what the file holds. A read changes neither that, nor what a loss
+//!   of power may leave.
 //! * After a loss of power each range that was written since the last sync may hold any bytes. So a write may be lost,
 //!   torn, or kept while an earlier one is lost. The other bytes are those of that sync.
-//! * The room of a range can be given back (`release`). Then the range may hold any bytes, as if it were being written.
+//! * The room of a range can be given back (`release`). Then the range may hold any bytes, as if it were being
+//!   written.
 //! * A process that is killed leaves what a read would return. So a kill inside a call is a call that failed.
 //! * After a sync that failed, none may be called again: the system may have dropped what was written.
 //! * `MemoryFile` may leave all that this allows, and takes each of these outcomes by `lose_power`.
-//! * `ReadAheadFile` reads ahead in another file. To a reader it is that file: it never returns bytes that have changed
-//!   since.
-//! * `ReadOnlyFile` never changes another file. It keeps in memory what is written to it, and shows the other file with
-//!   that.
-//! * `StoppingFile` does a number of changes of another file, and fails from then on. The write at which it stops may be
-//!   torn.
+//! * `ReadAheadFile` reads ahead in another file. To a reader it is that file: it never returns bytes that have
+//!   changed since.
+//! * `ReadOnlyFile` never changes another file. It keeps in memory what is written to it, and shows the other file
+//!   with that.
+//! * `StoppingFile` does a number of changes of another file, and fails from then on. Only the write at which it stops
+//!   may be torn.
+//!
+//! # What is not proved
+//!
+//! * That a `ReadAheadFile` makes few calls of the file within. A test counts them.
+//! * That a file of the system keeps this contract: `ports/linux` says what it rests on.
+//!
+//! Tests: in this crate.
 #![tactic(auto)]
 
 mod file;

@@ -12,19 +12,32 @@
 //!
 //! # What is promised
 //!
-//! * Over every file that keeps the contract of `file_bytes`, the drive is a `Device`: what it reads is what its file
-//!   holds. Blocks above a zone's pointer are zeros, whatever the file holds there.
-//! * A kill between two calls of the file leaves a file that can be opened. A system that knows its boot, and is
-//!   still in it, finds the zones as the last answered command left them, or the one under way
-//!   (`FileZones::into_file`, `kill`).
+//! * Over every file that keeps the contract of `file_bytes`, the drive is a `Device`: each command is in the file
+//!   when it is answered, and what a Read shows is what the file holds. Blocks above a zone's pointer are zeros,
+//!   whatever the file holds there.
+//! * A kill between two calls of the file leaves a file that can be opened. A system that knows its boot, and is still
+//!   in it, finds the zones as the last answered command left them, or the one under way (`FileZones::into_file`,
+//!   `kill`). Only a read that fails or missing memory prevents it.
 //! * Only a Flush changes what an open may find after a loss of power (`durable` of `FileZones`). Whatever that leaves
 //!   can be opened in another boot, and has zones that are durable. After a Flush that was answered these are just the
 //!   zones of that flush. A flush that fails leaves the zones of the last one, or its own (`flush`, `power`).
-//! * `store` makes a file the same drive as one in memory, as a restart leaves it (`HoldsDrive` in `specs/Storing.antt`).
-//!   Cut at any point, it leaves no drive or the whole one, as `format` does (`whole`).
-//! * A write or a sync that fails stops the drive. What was promised before stays.
-//! * An open that fails leaves the same zones for a system in this boot. A system in another boot finds the same, or
-//!   the zones of the last flush (`open`, `unnoticed`). It tells by name why a file is no drive.
+//! * `format` makes a file of zeros a drive of empty zones. `store` makes it the same drive as one in memory, as a
+//!   restart leaves it (`HoldsDrive` in `specs/Storing.antt`). The file is synced, and each boot opens it. Cut at any
+//!   point, both leave no drive or the whole one (`whole`).
+//! * A write or a sync that fails stops the drive: the zones are as they were, nothing more is asked of the file, and
+//!   what was promised before stays.
+//! * An open finds the zones of the table that counts, or tells by name why a file is no drive. Whatever it answers, a
+//!   system in this boot finds the same zones later. A system in another boot finds the same, or the zones of the last
+//!   flush (`open`, `unnoticed`).
+//!
+//! # What is not proved
+//!
+//! * That a file of the system keeps the contract of `file_bytes`, and that two boots have two identifiers:
+//!   `ports/linux` says what that rests on.
+//! * That a drive stops, and `format`, `store` and `open` fail, only where a call on the file failed: a body that
+//!   always stops meets any contract. Tests try it.
+//! * That the room of blocks that a Reset took comes back after a flush: a file may keep it by contract. A test counts
+//!   it.
 //!
 //! # How
 //!
@@ -35,9 +48,9 @@
 //! An append writes the blocks, and then the zone's word in the live table. A flush writes the flushed table that is
 //! not picked, syncs, picks it, and syncs. So a flush costs two syncs.
 //!
-//! A Reset moves a zone to its other place if the last flush has blocks of it in the present one, and only then. So
-//! no append writes over blocks that the last flush promised (`AreApart` in `specs/InFile.antt`). The file is sparse:
-//! a place takes room on the disk once it is written. So the file may take up to twice the drive's written blocks.
+//! A Reset moves a zone to its other place if the last flush has blocks of it in the present one, and only then. So no
+//! append writes over blocks that the last flush promised (`AreApart` in `specs/InFile.antt`). The file is sparse: a
+//! place takes room on the disk once it is written. So the file may take up to twice the drive's written blocks.
 //!
 //! A new file has the blocks of each zone in its first place. All of it is synced before its first word is written, by
 //! which an open knows a drive.
@@ -48,6 +61,8 @@
 //!
 //! The head names the boot of the system that served the file last. An open in the same boot takes the live table. In
 //! another boot it takes the flushed one. Then it writes the live one anew before it names its own boot.
+//!
+//! Tests: in this crate.
 #![tactic(auto)]
 
 mod all;

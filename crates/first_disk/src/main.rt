@@ -1,6 +1,9 @@
-//! A first disk: a small drive in memory, mounted as nine logical blocks, of which three are written and
-//! read back. It shows all that a program needs to stand on zonedisk's libraries, and proves two things
-//! of its own: what `write_and_read` shows is what it wrote, and what `fill_once` leaves is found again after a restart.
+//! A first disk: a small drive in memory, mounted as nine logical blocks, of which three are written and read back. It
+//! shows all that a program needs to stand on zonedisk's libraries.
+//!
+//! # What is promised
+//!
+//! What `write_and_read` shows is what it wrote. What `fill_once` leaves is found again after a restart.
 #![tactic(auto)]
 
 ghost use Rattle.std.specs.Prelude.{◌≡◌, ◌*◌, IfOk, OnOk, length};

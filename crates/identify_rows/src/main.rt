@@ -9,6 +9,10 @@
 //! - An empty line, and one that begins with `#`, says nothing.
 //!
 //! Shown are the lines `drive` and `shape`, each of the latter with its answer.
+//!
+//! # What is promised
+//!
+//! Nothing beyond safety. What it prints is compared with `stdout`.
 #![tactic(auto)]
 
 mod drive;

@@ -8,7 +8,13 @@
 //!
 //! [`unmounted_text`] and [`unmounted_json`] show a drive whose mount was not rehearsed: nothing may change it.
 //!
-//! Nothing is promised beyond safety; what they show is tested.
+//! # What is promised
+//!
+//! Nothing beyond safety.
+//!
+//! # What is not proved
+//!
+//! What the texts show is tested, also the dead and the free blocks of a zone.
 //!
 //! Tests: the rows of `tool_rows`.
 #![tactic(auto)]

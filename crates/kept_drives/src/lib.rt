@@ -16,15 +16,19 @@
 //!   was saved; or they tell the first fault in the bytes.
 //! * [`keep`] makes a device of that drive and a store: the device shows the drive, and the store holds it.
 //! * [`keep_restarted`] and [`leave`] are the two ends of any job on the drive in a file. Whatever the job does to the
-//!   drive, the store holds the drive that is left. Whether the store failed is told, and whether the file was the image
-//!   of the drive at rest (`LeavesFile` in `specs/Left.antt`).
-//! * [`drive_to_save`] says what is saved at the end: the drive that is left, also after a fault. Nothing is, if the store
-//!   failed, or if the file stays as it is. By [`stays`] it does only if it was the image of the drive at rest and took no
-//!   change, or if it takes no more changes.
-//! * [`first_told`] tells a job by the fault of its file, if that failed.
+//!   drive, the store holds the drive that is left, in its image and its changes. Whether the store failed is told
+//!   exactly, and whether the file was the image of the drive at rest (`LeavesFile` in `specs/Left.antt`).
+//! * [`drive_to_save`] says what is saved at the end: the drive that is left, also after a fault. Nothing is, if the
+//!   store failed, or if the file stays as it is. By [`stays`] it does only if it was the image of the drive at rest
+//!   and took no change, or if it takes no more changes.
+//! * [`first_told`] tells a job by the fault of its file, with its reason, if that failed.
 //!
-//! [`finish`] does this with a file of the system, of which no contract says anything. [`KeepFault`] says why a job does
-//! not work on the drive in a file, or why the drive is not saved. Its texts are tested.
+//! # What is not proved
+//!
+//! * The file itself: [`finish`] saves in a file of the system, of which no contract says anything.
+//! * That the drive has the habit that was asked for: `keep` may make each one lazy. The rows of `worked_runs` and
+//!   `call_tests` show that habits act.
+//! * The texts of [`KeepFault`], which says why a job does not work on the drive in a file or why it is not saved.
 //!
 //! Tests: the rows of `nbd_rows` and `copy_rows`; `tools/kill_runs` and `tools/two_programs`, on files.
 #![tactic(auto)]

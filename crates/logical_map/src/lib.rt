@@ -10,11 +10,19 @@
 //! map.grow(12);                               // 3 blocks more, none of which has a place
 //! ```
 //!
-//! What is promised: the map is a list of places, and `set` changes that of one block and no other. Its
-//! memory is made page by page, so a map of few written blocks is small; a block that was placed can be
-//! placed again without an allocation (`MapView` and `Reserves` in specs/Places). The blocks that are in a
-//! zone are found in ascending order, one by one (`first_record` in specs/Live), at a cost that does not grow
-//! with the map while room was made to note them.
+//! # What is promised
+//!
+//! * The map is a list of places. `set` changes that of one block and no other, answers between which zones the block
+//!   was moved, and allocates nothing. `grow` adds blocks without a place.
+//! * Its memory is made page by page, so a map of few written blocks is small. A block that was placed can be placed
+//!   again without an allocation (`MapView` and `Reserves` in specs/Places).
+//! * `live` tells how many blocks have their record in a zone. `first_record` gives the first of them from a block on,
+//!   so all are found in ascending order, one by one (specs/Live).
+//!
+//! # What is not proved
+//!
+//! That these are found without a walk over the map, at a cost that does not grow with it, while room was made to note
+//! them. It is tested.
 //!
 //! Tests: `places.rt` of `call_tests`.
 #![tactic(auto)]

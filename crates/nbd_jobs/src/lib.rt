@@ -16,19 +16,29 @@
 //! * [`serve_drive`], over every reader, writer and store: the drive in the file is restarted and mounted, and each
 //!   message of the client is answered by its disk, as `nbd_session` says. Whatever ends the session, the store holds
 //!   the drive that is left, which can be mounted again and has each write that was answered (`specs/Serving.antt`).
-//!   A FLUSH, or a write with FUA, that is answered by success is followed by a sync of the medium that was handed in.
-//!   Where that is a Flush of the drive, the drive is flushed before the session, too, and what a loss of power leaves
+//! * A FLUSH, or a write with FUA, is answered by success only after a sync of the medium that was handed in. Where
+//!   that is a Flush of the drive, the drive is flushed before the first message, too, and what a loss of power leaves
 //!   is found again (`laws::loss_is_found`).
-//!   A turn of cleaning is taken after each request if the job says so.
-//! * [`serve_read_only`], over every reader and writer: the same of a disk that is read only. No store is handed in, so
-//!   nothing of the file is written.
-//! * If no number of blocks was given, the disk has the size that the drive says. A drive that says none is not served.
-//! * Where the drive is not mounted, or the file holds none, no message is read and nothing is written. The fault
-//!   says why.
+//! * A turn of cleaning is taken after each request if the job says so.
+//! * [`serve_read_only`], over every reader and writer: the same of a disk that is read only. No store is handed in,
+//!   so nothing but the replies is written.
+//! * If no number of blocks was given, the disk has the size that a header on the drive says, also if that is one
+//!   block. A drive that says none is not served, and is told by whether it has any batch (`SaysNoSize`).
+//! * Where the drive is not mounted, or the file holds none, no message is read and nothing is written. The fault says
+//!   why. A drive that could be mounted still can be, with the same array.
+//! * Which disk was served is told; what was counted only if the job asks for it (`TellsSession`). What is saved after
+//!   a session is the drive that is left, also after a fault; replies that could not be sent are told as such
+//!   ([`sent_end`]).
 //!
-//! Nothing is promised of [`do_nbd_job`], since no contract says what a file holds. That the changes are in the file
-//! before a reply is sent, and on the disk before a FLUSH is answered, is tried by `tools/nbd_clients` and
-//! `tools/kill_runs`.
+//! # What is not proved
+//!
+//! * [`do_nbd_job`]: no contract says what a file holds, or who has locked it. A served file is shared by its store
+//!   and its medium; that its medium counts a sync only after the file's own is in no contract.
+//! * That the changes are in the file before a reply is sent, and on the disk before a FLUSH is answered:
+//!   `tools/nbd_clients` and `tools/kill_runs` try it.
+//! * That the device keeps the habit and the stop of the job. A served drive that is to tear an Append may leave one
+//!   block of it, however many were asked for ([`serve_stopping`]).
+//! * The text of `--statistics`.
 //!
 //! Tests: the rows of `nbd_rows`; `tools/nbd_clients`, with real clients.
 #![tactic(auto)]

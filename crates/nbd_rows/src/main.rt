@@ -5,16 +5,21 @@
 //! - `session NAME ..` begins one. After the name may come `wide` (blocks of 4,096 bytes, else of 512), `stop K` (the
 //!   drive stops after `K` commands, with the commands of the mount) and `worn` (the medium fails).
 //! - A line of words is what the client sends: hexadecimal digits, or `BB*N` for a byte that is repeated.
-//! - `end` runs the session. `cuts` runs it cut after each of its bytes, and with an output that fails after each byte.
+//! - `end` runs the session. `cuts` runs it cut after each of its bytes, and with an output that fails after each
+//!   byte.
 //! - `kept N` runs the session over the drive of a file, with N logical blocks, and cleans between requests; the file
 //!   keeps what it wrote. `again` runs it over the same file, and says no number. The first file has a fresh drive.
 //!   `reading` does what `again` does, read only. `counted N` runs it over a new file, and shows what was written,
 //!   moved and cleaned.
-//! - `fresh` makes a new file. `old N` makes one whose drive has a header of version 1, which says no size: block N was
-//!   written.
+//! - `fresh` makes a new file. `old N` makes one whose drive has a header of version 1, which says no size: block N
+//!   was written.
 //! - An empty line, and one that begins with `#`, says nothing.
 //!
 //! Shown are the lines `session`, a line for each reply, and how the session ended.
+//!
+//! # What is promised
+//!
+//! Nothing beyond safety. What it prints is compared with `stdout`.
 #![tactic(auto)]
 
 mod fault;

@@ -9,31 +9,52 @@
 //! let (disk, medium) = store.into_parts();
 //! ```
 //!
-//! What is promised, of every reader, every writer and every store:
+//! # What is promised
 //!
-//! - What is read is a list of messages, and what is written are the replies to them, in order. Requests are answered
-//!   as a flat disk answers them, an array of blocks.
-//! - A request is answered after it was done. The data of a READ follow only a reply that says so, and a request that
-//!   is refused has its error, also one that is not aligned or past the end.
-//! - A TRIM leaves records without data, and so does a WRITE_ZEROES that may leave a hole. One that may not, and a
+//! Of every reader, every writer and every store:
+//!
+//! * What is read is a list of messages, and what is written are the replies to them, in order, starting with the
+//!   greeting (`Served`, `AnswersEach`). The bytes are promised where reader and writer say by contract which bytes
+//!   they have left and hold.
+//! * A request is done by one call of the disk, as a flat array does it, and then answered: by its error if it was
+//!   refused, with the blocks of a READ only if it was done. Or it is refused beforehand, and nothing is done: if it
+//!   is not aligned or past the end.
+//! * A refused call has its cause in the drive. After the drive has stopped each request that needs it is answered by
+//!   `ESHUTDOWN`, and the session continues.
+//! * A TRIM leaves records without data, and so does a WRITE_ZEROES that may leave a hole. One that may not, and a
 //!   WRITE, leave records with data. Each takes so many commands at most.
-//! - A FLUSH, and a write with FUA, is answered by success only after a sync, which a store counts. After a FLUSH a
-//!   loss of power leaves the array as it is. After such a write it leaves the blocks that were named, and of a
-//!   [`ServedDisk`] the whole array (`laws::forced_is_durable`).
-//! - Until the next sync a loss of power leaves what it could have left before, with parts of the later writes. Of a
-//!   `ServedDisk` it leaves an array that the disk had since.
-//! - With the medium [`DriveFlush`] a sync is a Flush of the drive, and a loss of power leaves the array of the last
-//!   one: a mount of the drive finds it (`laws::loss_is_found`). Any other medium's word stands for it.
-//! - After each request a store that cleans ([`ServedDisk::cleaning`]) takes one turn of cleaning. That changes no
-//!   block. Any other store does nothing then.
-//! - The client is told whether a store is read only ([`ServedDisk::reading`]). If so, a WRITE, a TRIM and a
-//!   WRITE_ZEROES are refused by `EPERM`, and the array stays as it is (`laws::read_only_keeps_array`).
-//! - After the drive has stopped each request that needs it is answered by `ESHUTDOWN`, and the session continues.
-//! - After a fault all messages before are answered. Of the next one nothing is done, unless only its reply was cut.
-//! - Replies are passed on before the next request is waited for.
-//! - Whatever comes, the drive can be mounted again, and no command was refused.
+//! * A FLUSH, and a write with FUA, is answered by success only after a completed sync: of the whole array, or of the
+//!   blocks that the write named. After a FLUSH a loss of power leaves the array as it is. After such a write it
+//!   leaves the blocks that were named, and of a [`ServedDisk`] the whole array (`laws::forced_is_durable`).
+//! * A sync that is done raises the store's count of syncs, and nothing else does. Of a `ServedDisk` this is the count
+//!   of its medium: a sync of a served disk syncs its medium.
+//! * Each other call adds only arrays that a loss of power could leave before, with a part of the call (`since` of
+//!   `Calls`). Of a `ServedDisk` it adds at most the arrays of its moments, and nothing is pending above it. What is
+//!   pending above another store was written by a call, and pays for the commands that its write may take
+//!   (`laws::session_keeps_mode`).
+//! * With the medium [`DriveFlush`] a sync is a Flush of the drive, and a loss of power leaves the array of the last
+//!   one: what it leaves can be mounted, and the mount finds it, however the session ends (`laws::loss_is_found`). Any
+//!   other medium's word stands for it.
+//! * After each request a store that cleans ([`ServedDisk::cleaning`]) takes one turn of cleaning. That changes no
+//!   block, and adds no array that a loss of power may leave. Any other store does nothing then.
+//! * The client is told whether a store is read only ([`ServedDisk::reading`]). If so, a WRITE, a TRIM and a
+//!   WRITE_ZEROES are refused by `EPERM`, no other request is refused for it, and no turn is taken. The array stays as
+//!   it is, whatever the client sends (`laws::read_only_keeps_array`).
+//! * `Ok` only if the client has said that it ends, or the input ended between two messages. After a fault all
+//!   messages before are answered. Of the next one nothing is done, unless only its reply was cut.
+//! * The faults: `Input`, fewer bytes than a message has were read; `Magic`, a head with which no message begins;
+//!   `Unsent`, all messages are answered, and the last reply was not passed on; `Output`, the message is done, and a
+//!   beginning of its reply is written; `TooMany`, 2^64 - 1 messages were answered.
+//! * Whatever comes, the drive has the same geometry, can be mounted again if it could before, and refused no command.
 //!
-//! The bytes are promised where reader and writer say by contract which bytes they have left and hold.
+//! # What is not proved
+//!
+//! * That `Input` and `Output` come only if the reader or the writer failed, or `ENOMEM` only if an allocation failed.
+//! * What a medium keeps. With one that keeps each command, what a loss of power leaves says nothing of the medium.
+//! * That replies are passed on before the next message is read: std's `Write` says nothing of a flush, so a session
+//!   that never flushes would be proved.
+//! * The rows of `nbd_rows` show the bytes of each command, option and error except `ENOMEM`, and sessions that are
+//!   cut.
 //!
 //! Tests: the rows of `nbd_rows`; `tools/nbd_clients`, with real clients.
 #![tactic(auto)]

@@ -6,8 +6,10 @@
 //! let reply = simple_reply(ErrorCode::Success, request.cookie); // 16 bytes, without the data of a READ
 //! ```
 //!
-//! A request, the head of an option and the client's flags are decoded exactly from the bytes that they are encoded
-//! to. Every reply has the bytes that the protocol says (`specs/Handshake.antt`, `specs/Transmission.antt`).
+//! # What is promised
+//!
+//! * A request, the head of an option and the client's flags have one encoding each. No other bytes are read as one.
+//! * Every reply has the bytes that the protocol says (`specs/Handshake.antt`, `specs/Transmission.antt`).
 //!
 //! Tests: the rows of `nbd_rows`.
 #![tactic(auto)]

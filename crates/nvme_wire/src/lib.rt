@@ -1,9 +1,9 @@
-//! The bytes that pass between a host and a zoned NVMe drive: submission queue entries, completion
-//! queue entries, and the parts of a zone report.
+//! The bytes that pass between a host and a zoned NVMe drive: submission queue entries, completion queue entries, and
+//! the parts of a zone report.
 //!
-//! The formats come from the NVM Express Base Specification 2.0, the NVM Command Set
-//! Specification 1.0 and the Zoned Namespace Command Set Specification 1.1, cut down to the profile
-//! that `docs/zones.md` states. Nothing here allocates.
+//! The formats come from the NVM Express Base Specification 2.0, the NVM Command Set Specification 1.0 and the Zoned
+//! Namespace Command Set Specification 1.1, cut down to the profile that `docs/zones.md` states. Nothing here
+//! allocates.
 //!
 //! # Example
 //!
@@ -19,12 +19,17 @@
 //!
 //! # What is promised
 //!
-//! * A command that the profile admits has one encoding, which decodes to that command again. An entry
-//!   decodes to an admitted command, or has the first fault in the order opcode, namespace, field
-//!   (`specs/Entry.antt`).
-//! * A completion, a descriptor and a report's head have one encoding each, and decoding accepts these
-//!   bytes and no others (`specs/Completion.antt`, `specs/Descriptor.antt`).
+//! * A command that the profile admits has one encoding, which decodes to that command again. An entry decodes to an
+//!   admitted command, or has the first fault in the order opcode, namespace, field (`specs/Entry.antt`).
+//! * The identifier of any entry is read (`entry_id`).
+//! * A completion, a descriptor and a report's head have one encoding each, and decoding accepts these bytes and no
+//!   others (`specs/Completion.antt`, `specs/Descriptor.antt`).
 //! * A status has the standard's code and name (`specs/Status.antt`).
+//!
+//! # What is not proved
+//!
+//! The bytes of whole examples are tested: a definition that names a wrong byte would be met by code that does so,
+//! too.
 //!
 //! Tests: the rows of `worked_runs` for raw lines and commands.
 #![tactic(auto)]

@@ -11,24 +11,33 @@
 //! returns is believed. A Success was done, if the address of an Append is the zone's pointer, and a report shows the
 //! zones that are there. Any other answer, or none, says only that the zones are left as by a stop inside the command.
 //!
-//! [`PassthroughDrive`] makes a device of a way. [`ReadAhead`] is a way above a way. [`Through`] is a way to any device,
-//! so the contract of a way can be met, and all of this can be tried over a drive in memory.
+//! [`PassthroughDrive`] makes a device of a way. [`ReadAhead`] is a way above a way. [`Through`] is a way to any
+//! device, so the contract of a way can be met, and all of this can be tried over a drive in memory.
 //!
 //! # What is promised
 //!
-//! * A [`PassthroughDrive`] keeps the contract of a device, whatever the drive answers. It keeps a table of what was seen
-//!   of each zone (`specs/Seen.antt`), and that table is true as long as the device has not stopped.
-//! * It stops for ever at an answer that is not Success, at an Append with another address than the table says, and at a
-//!   report with a zone in another state, at another pointer, or of another shape (`specs/Showing.antt`).
-//! * It sends only what the contract of a way asks for: Reads of written blocks, Appends and actions that fit the table, and
-//!   reports of no more than one transfer. A block that is not written is zeros, whatever the drive says.
-//! * It sends no Write, no Open, no Offline and no action to all zones. These stop the device. A disk needs none of them,
-//!   and a real drive may do half of some.
+//! * A [`PassthroughDrive`] keeps the contract of a device, whatever the drive answers. It keeps a table of what was
+//!   seen of each zone (`specs/Seen.antt`), and that table is true as long as the device has not stopped.
+//! * What a first report shows of each zone is true of the zones that it shows ([`zones_shown`]); or the report has
+//!   another length, or a descriptor of another zone.
+//! * It stops for ever at an answer that is not Success, at an Append with another address than the table says, and at
+//!   a report with a zone in another state, at another pointer, or of another shape (`specs/Showing.antt`). Then it
+//!   sends nothing.
+//! * It sends only what the contract of a way asks for: Reads of written blocks, Appends and actions that fit the
+//!   table, and reports of no more than one transfer. A block that is not written is zeros, whatever the drive says.
+//! * It sends no Write, no Open, no Offline and no action to all zones. These stop the device. A disk needs none of
+//!   them, and a real drive may do half of some.
 //! * [`ReadAhead`] answers a Read by what the zones hold, and never reads past the end that it is given.
 //!
-//! Not proved is that the device asks for a report of a zone after a Finish and a Reset, and how many commands are sent
-//! with [`ReadAhead`]. A Flush that a drive refused, and that a way told as done, is refused by no contract: a drive of this
-//! profile has no volatile write cache.
+//! # What is not proved
+//!
+//! * That the device asks for a report of a zone after a Finish and a Reset, and how many commands are sent with
+//!   [`ReadAhead`]: `passthrough_rows` counts them.
+//! * Which fault of a first report is named.
+//! * A Flush that a drive refused, and that a way told as done, is refused by no contract: a drive of this profile has
+//!   no volatile write cache.
+//!
+//! Tests: `passthrough_rows`.
 #![tactic(auto)]
 
 mod acting;

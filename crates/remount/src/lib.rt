@@ -13,17 +13,37 @@
 //!   Only or Offline, at most two are partly written, each zone holds a log, the batches are sound, the reserve allows
 //!   the size that they say, a zone is vacant or half clean, and at most one zone is torn when the half clean ones are
 //!   emptied, which can be repaired. Then the tables agree with the drive that is left, which encodes the same array
-//!   (`Mounts` in specs/Mount).
-//! * No zone is finished without need. If no zone is torn, each zone that still has a batch holds what it held,
-//!   unless it is partly written with fewer than two free blocks or with a batch of more entries than ours. Beside a
-//!   torn zone all zones are finished that are opened or Closed. The zone that takes its Moves stays open if two of
-//!   its blocks are free, and no other zone is opened (`FinishesByNeed` in specs/Mount). The tables note a zone as
-//!   one that may be open only if it was open before, or took these Moves (`may_open` of `Mounts`).
+//!   (`Mounts` in specs/Mount). Partly written zones are the host zone and the next one. The next sequence is one more
+//!   than the greatest that was met.
+//! * Half clean zones are emptied, each the lowest of its moment. Only zones that were not reported Empty are reset
+//!   for having no batch (`needed` of `AreToEmpty`).
+//! * What is live in a torn zone is then in the lowest zone that had no batch, in as many Moves as that takes. They
+//!   name each block whose newest record was in the torn zone, once, and no other, and repeat its record
+//!   (`RepeatLive`).
+//! * These Moves are numbered on from the greatest sequence left. All say the torn zone's size, or none. If the disk
+//!   would have another size without the torn zone, perhaps only the last one says it (`said` of `AreRepairMoves`).
+//! * A Close is sent only at an open limit of 1 (`spared` of `close_alone`).
+//! * No zone is finished without need. If no zone is torn, each zone that still has a batch holds what it held. It is
+//!   Full only if it was, or is partly written with fewer than two free blocks or with a batch of more entries than
+//!   ours.
+//! * Beside a torn zone all zones are finished that are opened or Closed. The zone that takes its Moves stays open if
+//!   two of its blocks are free, and no other zone is opened (`FinishesByNeed` in specs/Mount). The tables note a zone
+//!   as one that may be open only if it was open before, or took these Moves (`may_open` of `Mounts`).
 //! * Each fault but `Halted` and `OutOfMemory` is the first one, in the order in which a mount looks (`MountFails`),
 //!   and leaves the drive unchanged, except that its controller may have closed zones (`KeepsZones` in
 //!   drive_survey/specs/Reported).
 //! * Whatever is answered, a drive that could be mounted still can, with the same array, and no command was refused
 //!   (`KeepsMountable` in specs/Kept): also where the drive stopped inside a command, an Append of a repair included.
+//!
+//! # What is not proved
+//!
+//! * Which commands a mount sends after the first repair. In which order zones without a batch are reset: all orders
+//!   leave the same drive, and only a stop between two Resets tells them apart. The stored runs stop there.
+//! * That no needless Close is sent is said only by the parts of a mount.
+//! * That a mount sends one report, and one Read for each batch and each zero block after the last batch of a full
+//!   zone. Each time that a zone of only Moves is looked at, it sends at most two Reads for each block that the zone
+//!   shows. Then come the repairs. The rows of `worked_runs` show this.
+//! * How many commands the repairs take is not promised.
 //!
 //! # How it goes
 //!

@@ -7,8 +7,16 @@
 //! let state = state_named("Full");                          // Some(ZoneState::Full)
 //! ```
 //!
-//! Nothing here sends a command. What is promised: `count_zones` is how many zones are in a state, and `state_named`
-//! knows exactly the names of a report's lines. What the texts show is tested.
+//! Nothing here sends a command.
+//!
+//! # What is promised
+//!
+//! * `count_zones` is how many zones are in a state.
+//! * `state_named` knows exactly the names of a report's lines.
+//!
+//! # What is not proved
+//!
+//! What the texts show is tested.
 //!
 //! Tests: the rows of `tool_rows`.
 #![tactic(auto)]

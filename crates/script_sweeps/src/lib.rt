@@ -1,6 +1,6 @@
-//! The lines of a script that repeat something with a halt or a change at each place, and compare what
-//! came of it: traces and mounts with a stop, a tear or a failed allocation at each command, and images
-//! with each byte changed or cut off. What was right is counted; the first that is wrong is a fault.
+//! The lines of a script that repeat something with a halt or a change at each place, and compare what came of it:
+//! traces and mounts with a stop, a tear or a failed allocation at each command, and images with each byte changed or
+//! cut off. What was right is counted; the first that is wrong is a fault.
 //!
 //! ```text
 //! let trace = Trace::new(alloc, &lines, &mut out)?;
@@ -8,6 +8,10 @@
 //! trial.show_halts(alloc, Halts::Stop, &mut out)?;               // a stop after each number of commands
 //! show_mount_halts(alloc, &world, Halts::Memory, 9, &mut out)?;  // no memory, once, at each of a mount
 //! ```
+//!
+//! # What is promised
+//!
+//! Nothing beyond safety.
 //!
 //! Tests: the rows of `worked_runs`, which it answers.
 #![tactic(auto)]

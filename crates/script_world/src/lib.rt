@@ -1,5 +1,5 @@
-//! What the lines of a script work on: their words, the drive that is kept from one line to the next, the
-//! device that a run is sent to, and the runs themselves.
+//! What the lines of a script work on: their words, the drive that is kept from one line to the next, the device that
+//! a run is sent to, and the runs themselves.
 //!
 //! `crates/worked_runs/README.md` describes the lines. `script_sweeps` repeats a run with a halt or a change at each
 //! place, and `worked_runs` is the program that reads a script.
@@ -11,6 +11,10 @@
 //! show_lines(&ran.replies, &mut out)?;                   // ok
 //! world = ran.left.world;                                // the drive that the run left
 //! ```
+//!
+//! # What is promised
+//!
+//! Nothing beyond safety.
 //!
 //! Tests: the rows of `worked_runs`, which it answers.
 #![tactic(auto)]

@@ -23,15 +23,22 @@
 //! * Over every reader, writer and form of text: exactly the text is written that the form gives of what was found, or
 //!   a beginning of it where the writer fails (`specs/Telling.antt`). Before another fault nothing is written.
 //! * What was found is what `drive_check`, `drive_info` and `write_plan` define, for the drive that the bytes hold:
-//!   [`answer_check`] finds all of its faults, and says that it can be mounted exactly where nothing refuses it.
-//! * Each job is done by its own call, with what it says (`specs/Asked.antt`). Only a check may say that not all is
-//!   well.
+//!   [`answer_check`] finds all of its faults, and says that it can be mounted exactly where a mount of the restarted
+//!   drive would be done (`FindsMountable`).
+//! * Each job is done by its own call, with its numbers, form and words, and names the file that it reads
+//!   (`specs/Asked.antt`). Only a check may say that not all is well.
 //! * A fault of the file is the first fault in its bytes.
-//! * The lines of the zones in a state are those of a report of that state. What the other forms say is tested.
-//! * A picture is given the live blocks of each zone (`specs/Pictures.antt`). That it draws them is tested.
+//! * The lines of the zones in a state are exactly those of a report of that state (`ShowsZones`).
+//! * A picture shows the zones as they were saved, and is given how many blocks with data are live in each. Of a drive
+//!   that cannot be mounted it is given none of these numbers (`specs/Pictures.antt`).
 //!
-//! Nothing is promised of [`do_tool_job`], since no contract says what a file holds. Nor is it of [`drive_in_image`] and
-//! [`make_image`], which read an image file and make one: what stands in their bytes is promised by `drive_store`.
+//! # What is not proved
+//!
+//! * [`do_tool_job`], [`drive_in_image`] and [`make_image`], which open files: no contract says what a file holds.
+//!   What stands in their bytes is promised by `drive_store`.
+//! * What the other forms say, and that a picture draws the live blocks, is tested.
+//!
+//! Tests: the rows of `tool_rows`.
 #![tactic(auto)]
 
 mod answering;

@@ -1,5 +1,9 @@
 //! Shows what the tools say of examples: plans of drives, checks of drives, zones in other forms than a report's
 //! lines, and what drives hold. `stdout` has what it is to print.
+//!
+//! # What is promised
+//!
+//! Nothing beyond safety. What it prints is compared with `stdout`.
 #![tactic(auto)]
 
 mod checks;

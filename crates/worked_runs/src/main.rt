@@ -1,7 +1,7 @@
 //! Runs a script of worked examples, and writes down what the drive and the disk do.
 //!
-//! The script comes on standard input. Each of its lines is repeated on standard output, with what it
-//! did below it, four spaces further in. `crates/worked_runs/README.md` describes the lines.
+//! The script comes on standard input. Each of its lines is repeated on standard output, with what it did below it,
+//! four spaces further in. `crates/worked_runs/README.md` describes the lines.
 //!
 //! ```text
 //! drive wide
@@ -10,6 +10,10 @@
 //!     sent Append of 3 blocks at 0
 //!     ok
 //! ```
+//!
+//! # What is promised
+//!
+//! Nothing beyond safety. What it prints is compared with `stdout`.
 #![tactic(auto)]
 
 mod calls;

@@ -9,16 +9,30 @@
 //! let text = size_advice(alloc, &geometry, blocks)?;  // Some where random writes to so many blocks are slow
 //! ```
 //!
-//! Nothing here sends a command. What is promised: each row is that of a number of blocks that the drive can
-//! serve, and says exactly how many bytes they are and how many Reads a mount sends at least (`IsRow` in
-//! specs/Rows). The numbers that were asked for are those of specs/Rows, too (`AreAimed`). The drive for a number of
-//! bytes is the least that holds them (`IsDriveFor` in specs/Drives).
+//! Nothing here sends a command.
 //!
-//! The write amplification and the Reads of a drive that is full are estimates. They are for random writes of
-//! 1, 8 and 64 blocks, long after the drive was filled. `docs/placement.md` says where they come from;
-//! `bench/plan` compares them with runs.
+//! # What is promised
 //!
-//! Tests: the rows of `tool_rows`; `bench/plan` compares the estimates with runs.
+//! * A plan has the rows that were asked for (`AreAimed` in specs/Rows). Each is of a number of blocks that the drive
+//!   can serve. It tells exactly their bytes, their percent of the greatest number, the memory of the tables, and the
+//!   Reads that a mount sends at least (`IsRow`).
+//! * Without a plan: the geometry is out of range, with its first fault; the drive cannot serve that many blocks, with
+//!   the greatest number; or the share is no percentage. `Amplification` comes only if it was asked for
+//!   (`IsPlanFault`).
+//! * For each number of bytes up to 2^42 there is a drive that holds them in 80 percent of its logical blocks. It is
+//!   the least one: of the drives that may be planned no other that holds them has smaller zones, or fewer of the same
+//!   size. These have zones of 2^8, 2^10 and so on to 2^20 blocks, 8 at least, and at most 1,024 unless they are the
+//!   largest (`IsDriveFor` in specs/Drives).
+//!
+//! # What is not proved
+//!
+//! * The write amplification and the Reads of a drive that is full. They are estimates, for random writes of 1, 8 and
+//!   64 blocks, long after the drive was filled. `docs/placement.md` says where they come from; `bench/plan` compares
+//!   them with runs.
+//! * That no greater number keeps a write amplification.
+//! * What the tables, the JSON, the plot and the advice on a size say is tested.
+//!
+//! Tests: the rows of `tool_rows`; the advice in `call_tests`.
 #![tactic(auto)]
 
 mod advice;

@@ -1,15 +1,16 @@
-//! Plain programs that compute definitions just as they stand: the log of a zone and its torn tail, the
-//! array that a drive encodes, whether a drive can be mounted, the quota of records.
-//!
-//! They are slow and copy all data, and are proved to compute what `batch_log` and `zone_choice`
-//! define, so that tests and worked runs can compare what a host does with what is defined. No host
-//! calls them.
+//! Plain programs that compute definitions just as they stand: the log of a zone and its torn tail, the array that a
+//! drive encodes, whether a drive can be mounted, the quota of records.
 //!
 //! ```text
 //! let zones = [ZoneImage { state: ZoneState::Closed, blocks }, ..];
 //! let array = spelled_array(alloc, &geometry, &zones, 8)?; // 8 blocks, if no header has a size
 //! let mountable = is_mountable(alloc, &geometry, &zones, 8)?;
 //! ```
+//!
+//! # What is promised
+//!
+//! They compute what `batch_log` and `drive_array` define, so that tests and worked runs can compare what a host does
+//! with what is defined. They are slow and copy all data. No host calls them.
 //!
 //! Tests: the rows of `worked_runs`, which compare it with what the disk does.
 #![tactic(auto)]

@@ -1,6 +1,6 @@
-//! The tables of a mounted disk, and how they follow its drive, batch by batch: where the newest record
-//! of each block is, what each zone is for, and which sequence is next. What a drive means, its array and
-//! whether it can be mounted, is defined in `drive_array`, whose reserve and laws are offered here too.
+//! The tables of a mounted disk, and how they follow its drive, batch by batch: where the newest record of each block
+//! is, what each zone is for, and which sequence is next. What a drive means, its array and whether it can be mounted,
+//! is defined in `drive_array`, whose reserve and laws are offered here too.
 //!
 //! ```text
 //! let tables = Tables::new(alloc, geometry.zones, geometry.size, 9, 9)?;
@@ -15,16 +15,23 @@
 //! append_batch(&mut disk, zone, &batch)?;
 //! ```
 //!
-//! What is promised, of any drive that obeys its rules: a batch that is appended changes the array by
-//! what it says and by nothing else, and the tables name the place of each block's newest record again
-//! (`Places` in specs/Changes); out of memory, the array is as before; where the drive stops, it encodes
-//! the old array or that with the batch, and can be mounted (`BatchLeaves`). The drive refuses no such
-//! Append (`CanPlace` says what it needs). At an open limit of 1, the other zone that is being filled is
-//! closed before it (`ClosesBeside`), if it may be open. The tables know the sealed zone with the fewest
-//! live records (`least_sealed`), and take note of what a clean makes of the zones. A mount places the
-//! records that it finds (`place`), and says what the zones are for (`begin`). While tables and drive
-//! agree (`Agrees` in specs/Agreement) and a zone is kept empty, the drive can be mounted (`IsMountable`
-//! of `drive_array`). `a_zone_can_be_cleaned` is what the reserve gives a cleaner.
+//! # What is promised
+//!
+//! Of any drive that obeys its rules:
+//!
+//! * A batch that is appended, of either kind, changes the array by what it says and by nothing else, its size
+//!   included. The tables name the place of each block's newest record again (`Places` in specs/Changes).
+//! * Out of memory, tables and drive agree, and the array is as before. Where the drive stops, it encodes the old
+//!   array or that with the batch, and can be mounted if a zone is spare (`BatchLeaves`).
+//! * The drive refuses no such Append (`CanPlace` says what it needs). At an open limit of 1, the other zone that is
+//!   being filled is closed before it (`ClosesBeside`), and no Close is sent unless that zone may be open.
+//! * The tables know the sealed zone with the fewest live records (`least_sealed`), and take note of what a clean
+//!   makes of the zones. A mount places the records that it finds (`place`), and says what the zones are for
+//!   (`begin`).
+//! * While tables and drive agree (`Agrees` in specs/Agreement) and a zone is kept empty, the drive can be mounted
+//!   (`IsMountable` of `drive_array`).
+//! * If one zone is empty and all others are sealed, a zone has so few live records that they fit in the empty one
+//!   (`a_zone_can_be_cleaned`): that is what the reserve gives a cleaner.
 //!
 //! Tests: the rows of `worked_runs`.
 #![tactic(auto)]

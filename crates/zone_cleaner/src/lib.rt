@@ -1,8 +1,8 @@
 //! The cleaner: it makes room on a drive whose zones are all in use.
 //!
-//! A zone can be written again only after a Reset, and some of what an old zone holds is dead: its blocks were
-//! written again elsewhere. So the cleaner takes the zone with the fewest live records, the victim, repeats
-//! these records in Moves to an empty zone, the destination, and then resets the victim.
+//! A zone can be written again only after a Reset, and some of what an old zone holds is dead: its blocks were written
+//! again elsewhere. So the cleaner takes the zone with the fewest live records, the victim, repeats these records in
+//! Moves to an empty zone, the destination, and then resets the victim.
 //!
 //! ```text
 //! let mut cleaner = Cleaner::new(alloc);
@@ -12,11 +12,26 @@
 //! cleaner.run_to_end(&mut disk)?;                     // all turns that are left
 //! ```
 //!
-//! What is promised, of any drive that obeys its rules: a turn does exactly the next step of the clean
-//! (`TurnLeaves` in specs/Start), with two commands at most; the array stays, and the drive can be mounted at each
-//! moment (`KeepsByCleaning`); each turn that is done leaves fewer turns, so the clean ends (`TurnsFewer`), and a batch
-//! of the host never adds one (`HostLeaves` in specs/Host); and the destination keeps two free blocks (`HasRoomFor` in
-//! specs/Clean).
+//! # What is promised
+//!
+//! Of any drive that obeys its rules:
+//!
+//! * A turn starts the clean that is due, of the sealed zone with the fewest live records. Or it does exactly the next
+//!   step of the running clean: it gathers a record, appends a Move, or resets the victim (`TurnLeaves` in
+//!   specs/Start). Each Move repeats what the array has; only the victim loses its records.
+//! * Whatever a turn answers, the drive can be mounted, encodes the same array and refuses no command
+//!   (`KeepsByCleaning`). The next sequence rises by the Appends.
+//! * Each turn that is done leaves fewer turns, so the clean ends; a refused one leaves as many (`TurnsFewer`). A turn
+//!   completes two commands at most. A clean that starts has at most `capacity` - 1 turns.
+//! * A batch of the host never adds a turn. Once it is appended, the clean forgets the blocks that the batch names.
+//!   After a failed allocation the clean is unchanged; after a stop the drive can be mounted (`HostLeaves` in
+//!   specs/Host).
+//! * `run_to_end` runs a clean to its end, by turns only. A disk without a host zone and a next zone, and with at most
+//!   one empty zone, cleans by `clean_zone`. It then has a next zone, after at most 2 * `capacity` - 2 commands
+//!   (`HasNextZone`). There is always a zone to clean then.
+//! * The last turn empties the victim. The destination keeps two free blocks (`HasRoomFor` in specs/Clean).
+//!
+//! Nothing promises that anyone takes turns while no room is needed.
 //!
 //! Tests: the rows of `worked_runs`.
 #![tactic(auto)]

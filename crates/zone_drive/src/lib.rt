@@ -15,17 +15,28 @@
 //! * A `ZoneDrive` is a `Device` over whatever holds its zones (`HeldZones`): each command does what the step of
 //!   `drive_port` says, and nothing else. It asks of what holds the zones only what its rules admit. Where that has
 //!   stopped, the drive has stopped inside the command, and the zones are as before it.
-//! * Where the step leaves a choice, the drive makes it by its habit (`specs/Choice.antt`). A drive is
-//!   made `Lazy`: it closes the lowest implicitly opened zone where a command needs an open resource and
-//!   none is left, and no other zone ever. It stops once it has completed 2^63 commands.
+//! * Where the step leaves a choice, the drive makes it by its habit: lazy, closing or strict (`specs/Choice.antt`). A
+//!   drive is made `Lazy`: it closes the lowest implicitly opened zone where a command needs an open resource and none
+//!   is left, and no other zone ever. It stops once it has completed 2^63 commands.
 //! * What holds the zones says which of them are durable: what an open may find after a loss of power. Only a Flush
-//!   changes that. After one that succeeded these are just the zones that are there. One inside which the drive stopped
-//!   leaves what was durable before, or these zones (`Gives` and `Keeps` in `specs/Choice.antt`, `specs/Held.antt`).
-//! * Only a Read, a Write, an Append and a Receive may be out of memory (`specs/Memory.antt`), and then
-//!   nothing changed.
-//! * `Drive` is the drive over zones in memory, which never stop. It says nothing of a loss of power. It can be made of
-//!   any zones that a drive of its geometry can have (`AreZones` in `specs/Stored.antt`), and shows its zones at any
-//!   time.
+//!   changes that. After one that succeeded these are just the zones that are there. One inside which the drive
+//!   stopped leaves what was durable before, or these zones (`Gives` and `Keeps` in `specs/Choice.antt`,
+//!   `specs/Held.antt`).
+//! * Whatever an open may find after a loss of power, a drive can have: whole blocks, as many as the states allow,
+//!   within the limits (`left` of `into_zones`).
+//! * Only a Read, a Write, an Append and a Receive may be out of memory (`specs/Memory.antt`), and then nothing
+//!   changed.
+//! * With which status a command will end, and what it gives, is told before it is done (`foresee`, `answer`).
+//!   `reserve` takes the memory for it.
+//! * `Drive` is the drive over zones in memory, which never stop. It can be made of any zones that a drive of its
+//!   geometry can have (`AreZones` in `specs/Stored.antt`), or the fault is named. It shows its zones at any time.
+//!   `restart` closes the open zones, and changes nothing else.
+//!
+//! # What is not proved
+//!
+//! * Of zones in memory nothing is said of a loss of power; of zones in a file see `file_drive`.
+//! * No contract carries the habit of a drive through the calls of a disk: the trait `Device` does not say that a
+//!   command keeps it. The rows of `worked_runs` and `call_tests` show that it acts.
 //!
 //! Each command has a file of its own.
 //!

@@ -1,5 +1,5 @@
-//! Zone reports: what a Report Zones command returns, in bytes, and such bytes as text (Zoned Namespace
-//! Command Set 1.1, section 3.4.2).
+//! Zone reports: what a Report Zones command returns, in bytes, and such bytes as text (Zoned Namespace Command Set
+//! 1.1, section 3.4.2).
 //!
 //! # Example
 //!
@@ -14,10 +14,10 @@
 //!
 //! # What is promised
 //!
-//! * `report_bytes` gives the one report of the zones that a drive shows (`specs/Report.antt`), or says
-//!   what was wrong with the request.
-//! * `report_text` accepts reports and nothing else; its lines are those of the report's head and
-//!   descriptors (`specs/ReportText.antt`).
+//! * `report_bytes` gives the one report of the zones that a drive shows: exactly the selected zones, their number,
+//!   whole descriptors, and zeros after them (`specs/Report.antt`). Or it says what was wrong with the request.
+//! * `report_text` gives the lines of a report's head and descriptors (`specs/ReportText.antt`). It answers `Field`
+//!   exactly where the bytes are no report.
 //!
 //! Tests: the rows of `worked_runs`.
 #![tactic(auto)]

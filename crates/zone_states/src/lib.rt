@@ -1,5 +1,5 @@
-//! The shape of a zoned drive, the states of its zones, and one zone with its written blocks (Zoned
-//! Namespace Command Set 1.1, section 2.1.1).
+//! The shape of a zoned drive, the states of its zones, and one zone with its written blocks (Zoned Namespace Command
+//! Set 1.1, section 2.1.1).
 //!
 //! # Example
 //!
@@ -16,11 +16,12 @@
 //!
 //! # What is promised
 //!
-//! * `Geometry::check` accepts the geometries that are in range, and no others (`specs/Geometry.antt`).
+//! * `Geometry::check` names the first field out of range, and none exactly if all are in range
+//!   (`specs/Geometry.antt`).
 //! * `next_state` is the standard's table of states and actions (`specs/Transition.antt`).
-//! * A Write or an Append is refused by the first check that fails, in a fixed order
-//!   (`specs/Writing.antt`); else its blocks are after the zone's, which is Full where they reach
-//!   its capacity (`specs/Zone.antt`). A refused call changes nothing.
+//! * A Write or an Append is refused by the first check that fails, in a fixed order (`specs/Writing.antt`); else its
+//!   blocks are after the zone's, which is Full where they reach its capacity (`specs/Zone.antt`). An action has the
+//!   table's effect, or is refused. A refused call changes nothing.
 //! * The limits on active and open zones concern all zones of a drive, and are not looked at here.
 //!
 //! Tests: the rows of `worked_runs`.

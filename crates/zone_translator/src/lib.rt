@@ -18,11 +18,67 @@
 //! let drive = disk.into_device();
 //! ```
 //!
-//! What is promised, whatever the drive does that obeys its rules: each call answers as a flat array of
-//! blocks would (`FlatCall` and `FlatRemount` in specs/Flat); the drive can be mounted again, its newest records hold
-//! that array, at the exit of every call; no command that the disk sends is refused by the drive
-//! (`KeepsDisk` in specs/View). A refused write has written a front of its blocks, and nothing else. Only a `flush`
-//! changes what a loss of power leaves (`HardensBy` in specs/Answers).
+//! # What is promised
+//!
+//! Over every device, for every list of calls on a disk mounted on any drive, with stops and failed allocations at any
+//! point. A stop may fall between two commands or inside one: what holds at an exit with `Stopped` holds then.
+//!
+//! * Each answer is a flat array's answer (`FlatCall` in specs/Flat), by these cases in order: a call of no block is
+//!   done; one past the end is `OutOfRange`; a disk that refused a remount answers `Unmounted`; one that has answered
+//!   `Stopped` answers it again; any other call is done or refused midway.
+//! * Done, a read shows the array's blocks, and a write, a fill or a trim has replaced them. A growth is refused as
+//!   `Smaller` below the disk's size, then as `Reserve` above what the drive allows. Done, its new blocks are zeros.
+//! * A read or a report is refused midway only by `OutOfMemory` or `Stopped`, and shows nothing. A refused write, fill
+//!   or trim has written a front of its blocks, and nothing else. A refused growth leaves the array the same, or after
+//!   a stop the array before or after the growth.
+//! * No call is refused for lack of room: once it was begun, only by `OutOfMemory` or `Stopped`; all but reads and
+//!   reports also by `Spent`. A read of a disk that serves answers `Stopped` only if one of its blocks has data
+//!   (`HasData`).
+//! * `Stopped` comes only if the drive has stopped, `Spent` only if the next sequence is 2^63 - `capacity` or more
+//!   (`cause`). A call whose answer is known before it begins leaves disk and drive untouched.
+//! * The drive refuses no command. At each exit, whatever the answer, the drive can be mounted and encodes the array
+//!   (`KeepsDisk` in specs/View, `IsMountable` of `drive_array`): a zone is vacant or half clean, and one torn zone at
+//!   most can be repaired.
+//! * A drive that can be mounted is mounted as the array that it encodes; any other is refused by the first fault that
+//!   a mount meets, and is unchanged up to closings (`IsMounted`, `GivesBack`). A remount is refused only by `Halted`
+//!   or `OutOfMemory`. Done, the disk serves the same array, and no clean runs; refused, it is unmounted (`Remounts`).
+//! * A completed trim leaves on the drive a record of each of its blocks, newer than all others, also for blocks that
+//!   were never written. A write or a fill leaves one with data (`names` of `Stores`). All other blocks have records
+//!   as before.
+//! * After a write, a fill or a trim of some blocks the greatest size in the drive's headers is the disk's. A
+//!   completed growth appended at least one batch that says the new one (`says`).
+//! * After these calls the next sequence is at most 2^63 - `capacity`: the sequences kept for repairs are left
+//!   (`early`). It rises by one with each Append, and falls only by a remount. While the disk serves, it is above
+//!   every sequence on the drive.
+//! * Every new host batch is full, unless it is the last of the call or ends its zone, whatever the call answers.
+//!   Moves are the only other new batches (`cut`, `LogsAreCut`).
+//! * Completed commands are at most, with c for 2 * `capacity` + 1: `n` for a read of `n` blocks; `n` * c for a write
+//!   or a fill; ceil(`n` / `batch_most`) * c for a trim; c for a growth; 2 for a turn; 1 for a report or a flush
+//!   (`completed`).
+//! * An `idle` of a serving disk is exactly one turn of cleaning (`IsTurn`). Each completed turn leaves fewer turns, a
+//!   refused one as many, and no other completed call adds any. A clean that a turn starts has at most `capacity` - 1.
+//! * A refused write, fill, trim or growth does not set back a clean that ran before it: it still runs, of the same
+//!   zone, or its zone was emptied (`KeepsClean`).
+//! * While the disk serves, `place_of` tells where the newest record of a block is, `live` how many blocks have theirs
+//!   in a zone, and `is_cleaning` whether a clean runs. If none runs, a zone is kept empty.
+//! * A report shows all zones, whole, at one moment of the call, up to closings (`ReportsAll`).
+//! * Blocks that are written read back, and a write changes no other block (`laws`). `into_device` gives the drive
+//!   back as it is.
+//! * Only a `flush` changes what a loss of power leaves (`HardensBy` in specs/Answers). Done, that is this array.
+//! * A batch finds a host zone with two free blocks. A new one is the next zone or, without one, the lowest empty
+//!   zone, never the last. Only a host zone with fewer than two free blocks is given up. Only a disk without a host
+//!   zone, a next zone and a second empty zone cleans for a batch (`make_room`).
+//! * What was answered is found again: a disk that was mounted can be mounted again after any calls, whatever they
+//!   answer and whatever ended it. Its drive, restarted, can be mounted, and each disk that is mounted on it has the
+//!   array that was left. Only a stop or a failed allocation refuses such a mount (`laws::answered_is_found`).
+//! * The same holds of whole lists of calls and remounts (`laws::lists_are_found`). After a loss of power the array of
+//!   the last flush that was done is found, or that of one after it that was refused (`laws::flushed_is_found`).
+//!
+//! # What is not proved
+//!
+//! * Where batches go is a contract only in part: the choice of a host zone and of a victim. The stored runs show the
+//!   rest.
+//! * The room for a batch is a contract of its parts, and not of the disk's own calls.
 //!
 //! Tests: the rows of `worked_runs`, with a stop at every place.
 #![tactic(auto)]

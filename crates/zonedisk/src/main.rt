@@ -15,6 +15,14 @@
 //! `zonedisk_program` has all that the program does, and what is promised of it. Here it is run with [`NoDevices`]:
 //! each job on a device or on a drive that stays in its file is refused, and standard error says which program has a
 //! way.
+//!
+//! # What is promised
+//!
+//! Nothing beyond safety.
+//!
+//! # What is not proved
+//!
+//! A stored run shows its output, and the exit status 0.
 #![tactic(auto)]
 
 use std::io;

@@ -8,22 +8,31 @@
 //! ```
 //!
 //! [`run_program`] is the whole program over any two ways: one to devices, and one to drives that stay in their files.
-//! So programs with different ways share all else.
-//! [`task_of`] reads the words of the command line, and each job is done by its crate: [`do_job`], [`do_nbd_job`],
-//! [`do_export`], [`do_import`] and [`do_tool_job`] on the drive whose image is in a file, and those of `device_jobs`
-//! on the drive of a device. What people are told goes to standard error: what a fault is, what a status means with
-//! `nvme --explain`, and what to know of the size of a disk.
+//! So programs with different ways share all else. [`task_of`] reads the words of the command line, and each job is
+//! done by its crate: [`do_job`], [`do_nbd_job`], [`do_export`], [`do_import`] and [`do_tool_job`] on the drive whose
+//! image is in a file, and those of `device_jobs` on the drive of a device. What people are told goes to standard
+//! error: what a fault is, what a status means with `nvme --explain`, and what to know of the size of a disk.
 //!
 //! A file that is named by `--image` may hold a drive that stays in it. The first bytes of the file say so. Then the
-//! task becomes a job on a device with that path ([`in_place`]), and the second way opens it. A drive is put into a file
-//! of the other kind by `convert`: the first bytes of its file say which.
+//! task becomes a job on a device with that path ([`in_place`]), and the second way opens it. A drive is put into a
+//! file of the other kind by `convert`: the first bytes of its file say which.
 //!
 //! # What is promised
 //!
-//! [`do_device`] ends each job on a device with the exit status 1 if there is no way to any. So does the program with
-//! each task that is such a job, or becomes one. [`in_place`] says which job a task becomes (`specs/InPlace.antt`). One
-//! that becomes none is refused with the exit status 1. What the replies are is promised by the crates of the jobs. The
-//! texts, the files and the exit status 0 are tested, and that a format is forced only where that was asked for.
+//! * [`do_device`] ends each job on a device with the exit status 1 if there is no way to any. So does the program
+//!   with each task that is such a job, or becomes one, and with a `convert` without a way to drives that stay in
+//!   their files.
+//! * [`in_place`] says which job on a drive that stays in its file a task on the image in that file stands for
+//!   (`specs/InPlace.antt`). One that stands for none is refused with the exit status 1.
+//!
+//! What the replies are is promised by the crates of the jobs.
+//!
+//! # What is not proved
+//!
+//! The texts, the files and the exit status 0 are tested; so is how a drive that stays in its file is known, and that
+//! a format is forced only where that was asked for (`device_rows`).
+//!
+//! Tests: the rows of `device_rows`.
 #![tactic(auto)]
 
 ghost use Rattle.std.specs.Prelude.{◌≡◌, false};
