@@ -1,7 +1,8 @@
 //! A disk that is served by the Network Block Device protocol: the fixed newstyle handshake, and simple replies.
 //!
 //! [`serve`] answers each message of one client, in order, until the client ends. What it serves is any [`Store`]; a
-//! [`ServedDisk`] is one, a disk and the medium that keeps its drive.
+//! [`ServedDisk`] is one, a disk and the medium that keeps its drive. A [`FailingStore`] is another store, whose medium
+//! fails by chance.
 //!
 //! ```text
 //! let mut store = ServedDisk::new(disk, medium);
@@ -29,6 +30,9 @@
 //! - The client is told whether a store is read only ([`ServedDisk::reading`]). If so, a WRITE, a TRIM and a
 //!   WRITE_ZEROES are refused by `EPERM`, and the array stays as it is (`laws::read_only_keeps_array`).
 //! - After the drive has stopped each request that needs it is answered by `ESHUTDOWN`, and the session continues.
+//! - Where the medium fails the request is answered by `EIO`. It is not done, and shows nothing, unless it was to be
+//!   durable: then its sync may have failed (`laws::failed_is_undone`). The medium of a [`ServedDisk`] fails only in a
+//!   sync.
 //! - After a fault all messages before are answered. Of the next one nothing is done, unless only its reply was cut.
 //! - Replies are passed on before the next request is waited for.
 //! - Whatever comes, the drive can be mounted again, and no command was refused.
@@ -40,6 +44,7 @@
 
 mod asked;
 mod client;
+mod failing;
 mod fault;
 pub mod laws;
 mod medium;
@@ -55,10 +60,11 @@ mod store;
 
 pub use asked::{Asked, MOST_BYTES};
 pub use client::Client;
+pub use failing::FailingStore;
 pub use fault::{MediumFault, SessionFault, StoreFault};
 pub use medium::{DriveFlush, Medium, SyncCount, WriteThrough};
 pub use option_answer::OptionAnswer;
 pub use phase::Phase;
 pub use served_disk::ServedDisk;
 pub use serving::serve;
-pub use store::Store;
+pub use store::{Store, is_known};
