@@ -14,6 +14,8 @@ mod chance;
 #[cfg(test)]
 mod counts;
 #[cfg(test)]
+mod failing;
+#[cfg(test)]
 mod fakes;
 #[cfg(test)]
 mod images;

@@ -34,7 +34,7 @@ pub record SyncsDone : Type 0 where
   pub flushes : Bool
 
 -- A disk that defers nothing, perhaps read only. If it is not, and the job says so, it cleans. Its medium has completed
--- that many syncs. Where they are no Flushes the drive keeps each write at once.
+-- that many syncs, and fails in nothing else. Where they are no Flushes the drive keeps each write at once.
 abbrev pub served_at : Bool → Bool → SyncsDone → DiskView → StoreView
 served_at read_only idle syncs disk = record {
   disk = disk;
@@ -45,6 +45,7 @@ served_at read_only idle syncs disk = record {
   cleans = idle && not read_only;
   flushes = syncs.flushes;
   defers = false;
+  fails = false;
 }
 
 -- A session is served by the disk of a drive, or by that disk read only, and each sync is one of its medium. What it

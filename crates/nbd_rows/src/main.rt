@@ -3,7 +3,8 @@
 //! Each session is served from a fresh drive in memory, as 9 logical blocks. The lines of standard input:
 //!
 //! - `session NAME ..` begins one. After the name may come `wide` (blocks of 4,096 bytes, else of 512), `stop K` (the
-//!   drive stops after `K` commands, with the commands of the mount) and `worn` (the medium fails).
+//!   drive stops after `K` commands, with the commands of the mount), `worn` (the medium fails in each sync), and
+//!   `seed S` and `odds P` (the medium fails in P of 100 calls, as the seed chooses).
 //! - A line of words is what the client sends: hexadecimal digits, or `BB*N` for a byte that is repeated.
 //! - `end` runs the session. `cuts` runs it cut after each of its bytes, and with an output that fails after each
 //!   byte.

@@ -4,7 +4,7 @@ use crate::fault::RowsFault;
 use crate::show::show_replies;
 use disk_files::FailAfter;
 use drive_port::{Geometry, StopAfter};
-use nbd_session::{Medium, MediumFault, ServedDisk, SessionFault, SyncCount, serve};
+use nbd_session::{FailingStore, Medium, MediumFault, ServedDisk, SessionFault, SyncCount, serve};
 use std::alloc::Global;
 use std::io::Write;
 use zone_drive::Drive;
@@ -20,8 +20,12 @@ pub struct Setting {
     pub block: u32,
     /// After how many commands the drive stops.
     pub stop_after: u64,
-    /// Whether the medium fails.
+    /// Whether the medium fails in each sync.
     pub is_worn: bool,
+    /// What chooses the calls in which the medium fails.
+    pub seed: u64,
+    /// In how many of 100 calls it fails.
+    pub odds: u32,
 }
 
 impl Setting {
@@ -31,6 +35,8 @@ impl Setting {
             block: 512,
             stop_after: u64::MAX,
             is_worn: false,
+            seed: 0,
+            odds: 0,
         }
     }
 
@@ -100,10 +106,11 @@ fn run_session<W: Write>(
         syncs: SyncCount::new(),
         is_worn: setting.is_worn,
     };
-    let mut store = ServedDisk::new(disk, medium);
+    let served = ServedDisk::new(disk, medium);
+    let mut store = FailingStore::new(served, setting.seed, setting.odds);
     let mut reader = input;
     let result = serve(alloc, &mut reader, output, &mut store);
-    let (_disk, medium) = store.into_parts();
+    let (_disk, medium) = store.into_store().into_parts();
     Ok(Ended {
         result,
         left: reader.len(),

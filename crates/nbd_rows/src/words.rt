@@ -7,16 +7,18 @@ use std::alloc::Global;
 /// The setting that the words after `session` give, of which the first is a name.
 pub fn setting_of(words: &str) -> Result<Setting, RowsFault> {
     let mut setting = Setting::plain();
-    let mut is_limit = false;
+    let mut before = "";
     for word in words.split(' ').skip(1) {
-        match word {
-            _ if is_limit => setting.stop_after = word.parse::<u64>().or(Err(RowsFault::Words))?,
-            "wide" => setting.block = 4096,
-            "worn" => setting.is_worn = true,
-            "stop" => {}
+        match (before, word) {
+            ("stop", _) => setting.stop_after = word.parse::<u64>().or(Err(RowsFault::Words))?,
+            ("seed", _) => setting.seed = word.parse::<u64>().or(Err(RowsFault::Words))?,
+            ("odds", _) => setting.odds = word.parse::<u32>().or(Err(RowsFault::Words))?,
+            (_, "wide") => setting.block = 4096,
+            (_, "worn") => setting.is_worn = true,
+            (_, "stop" | "seed" | "odds") => {}
             _ => return Err(RowsFault::Words),
         }
-        is_limit = word == "stop";
+        before = word;
     }
     Ok(setting)
 }

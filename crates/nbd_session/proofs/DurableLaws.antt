@@ -1,8 +1,7 @@
 -- What is answered by success was synced, where it had to be.
-use Rattle.std.proofs.Common.{◌≡◌, ℕ, ◌/◌, ◌<◌, List, ◌++◌, Ok, Err, true, refl, ap, sym, ◌∙◌, arith}
-use Rattle.std.specs.Prelude.{Contains, Result, slice_index}
-use Rattle.nbd_wire.specs.Transmission.{error_code, simple_reply_bytes}
-use Rattle.nbd_wire.specs.declared.error_code.ErrorCode.{ErrorCode}
+use Rattle.std.proofs.Common.{◌≡◌, ℕ, ◌/◌, ◌<◌, List, Ok, Err, true, ap, sym, ◌∙◌, arith}
+use Rattle.std.specs.Prelude.{Contains, Result}
+use Rattle.nbd_wire.specs.Transmission.{error_code}
 use Rattle.nbd_wire.specs.declared.error_code.ErrorCode.TheVariants as errors
 use Rattle.zone_states.specs.declared.geometry.Geometry.{Geometry}
 use Rattle.zone_translator.specs.View.{disk_array}
@@ -17,20 +16,10 @@ use Rattle.nbd_session.specs.Pending.{AreApart}
 use Rattle.nbd_session.specs.Requests.{Forces, Secures, code_of, data_length, error_of, error_past_end}
 use Rattle.nbd_session.specs.Store.{Hardens, StoreView, store_array}
 use Rattle.nbd_session.proofs.PendingLaws.{all-apart, none-some, some-apart}
+use Rattle.nbd_session.proofs.ReplyLaws.{same_code}
 use Rattle.nbd_session.proofs.SyncLaws.{any_sync}
 
--- the error of a reply is the eighth of its bytes
-is_success : (error : ErrorCode) (cookie : ℕ) (xs ys : List ℕ) → simple_reply_bytes error cookie ++ xs ≡ simple_reply_bytes errors.Success cookie ++ ys → error_code error ≡ 0
-is_success errors.Success cookie xs ys same = refl
-is_success errors.NotPermitted cookie xs ys same = ap (λ bytes. slice_index bytes 7) same
-is_success errors.Io cookie xs ys same = ap (λ bytes. slice_index bytes 7) same
-is_success errors.NoMemory cookie xs ys same = ap (λ bytes. slice_index bytes 7) same
-is_success errors.Invalid cookie xs ys same = ap (λ bytes. slice_index bytes 7) same
-is_success errors.NoSpace cookie xs ys same = ap (λ bytes. slice_index bytes 7) same
-is_success errors.Overflow cookie xs ys same = ap (λ bytes. slice_index bytes 7) same
-is_success errors.NotSupported cookie xs ys same = ap (λ bytes. slice_index bytes 7) same
-is_success errors.Shutdown cookie xs ys same = ap (λ bytes. slice_index bytes 7) same
-
+-- the error of a request past the end is one
 past_end-refused : (wanted : Asked) → error_code (error_past_end wanted) ≡ 0 → ⊥
 past_end-refused (Read first n) none = omega (arith, none)
 past_end-refused (Write first) none = omega (arith, none)
@@ -81,10 +70,11 @@ secured wanted count old new s =
       },
     )
 
-durable : (middle : StoreView) (first : Result (Unit {0}) DiskFault) (wanted : Asked) (count : ℕ) (result : Result (Unit {0}) StoreFault) (new : StoreView)
+durable : (middle : StoreView) (first : Result (Unit {0}) StoreFault) (wanted : Asked) (count : ℕ) (result : Result (Unit {0}) StoreFault) (new : StoreView)
     → Forces true wanted count middle first result new → error_code (code_of wanted result) ≡ 0
     → (middle.syncs < new.syncs) × ((left : List (List ℕ)) → Contains new.since left → IsLeft wanted count new left)
-durable middle (Err fault) wanted count result new f none = absurd (refused wanted fault (rw f.0 at none))
+durable middle (Err (Disk fault)) wanted count result new f none = absurd (refused wanted fault (rw f.0 at none))
+durable middle (Err Medium) wanted count result new f none = absurd (omega (arith, rw f.0 at none))
 durable middle (Ok done) wanted count (Ok d) new s none = secured wanted count middle new s
 durable middle (Ok done) wanted count (Err (Disk fault)) new s none = absurd (refused wanted fault none)
 durable middle (Ok done) wanted count (Err Medium) new s none = absurd (omega (arith, none))
@@ -92,4 +82,4 @@ durable middle (Ok done) wanted count (Err Medium) new s none = absurd (omega (a
 -- after a forced request that succeeded, one sync more was completed, and a loss of power leaves what was asked as it is
 pub forced-durable : ForcedIsDurable
 forced-durable old new request wanted bytes reply shown a forced said =
-    durable a.middle a.answer.result wanted (data_length request) a.result new (rw forced at a.forces) (is_success (code_of wanted a.result) request.cookie _ shown (sym a.reply_is ∙ said))
+    durable a.middle a.done wanted (data_length request) a.result new (rw forced at a.forces) (same_code (code_of wanted a.result) errors.Success request.cookie _ shown (sym a.reply_is ∙ said))

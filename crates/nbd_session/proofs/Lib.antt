@@ -1,5 +1,7 @@
 pub mod PendingLaws
 pub mod SyncLaws
+pub mod ReplyLaws
+pub mod SpareLaws
 pub mod TurnLaws
 pub mod RunLaws
 pub mod KeptLaws
@@ -9,3 +11,6 @@ pub mod DurableLaws
 pub mod ReadOnlyLaws
 pub mod ModeLaws
 pub mod SafeLaws
+pub mod FailureLaws
+pub mod FailingLaws
+pub mod DoneLaws

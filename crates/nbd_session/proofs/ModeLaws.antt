@@ -1,19 +1,19 @@
--- A session forgets no sync, and its store stays read only, and cleans, as before. If it does not defer, nothing is pending.
+-- A session forgets no sync, and its store stays read only, cleans and fails as before. If it does not defer, nothing is pending.
 use Rattle.std.proofs.Common.{◌≡◌, ℕ, ◌≤◌, List, [], Ok, Err, true, false, refl, inl, inr, ◌∙◌, arith}
 use Rattle.std.specs.Prelude.{Bool, ◌&&◌, not, Result}
 use Rattle.nbd_wire.specs.declared.error_code.ErrorCode.{ErrorCode}
 use Rattle.nbd_wire.specs.declared.request.Request.{Request}
 use Rattle.zone_translator.specs.Flat.{Answer, Call}
-use Rattle.zone_translator.specs.declared.fault.DiskFault.{DiskFault}
 use Rattle.nbd_session.specs.declared.asked.Asked.{Asked}
 use Rattle.nbd_session.specs.declared.asked.Asked.TheVariants.{Read, Write, Trim, WriteZeroes, Flush}
 use Rattle.nbd_session.specs.declared.fault.StoreFault.{StoreFault}
 use Rattle.nbd_session.specs.declared.fault.StoreFault.TheVariants.{Disk, Medium}
 use Rattle.nbd_session.specs.Laws.{SessionKeepsMode}
-use Rattle.nbd_session.specs.Requests.{AnswersAsked, Does, Forces, asked_of_store}
-use Rattle.nbd_session.specs.Store.{Calls, KeepsBySync, KeepsMode, RestsBy, StoreView}
+use Rattle.nbd_session.specs.Requests.{AnswersAsked, Does, DoesOrFails, Forces, asked_of_store}
+use Rattle.nbd_session.specs.Store.{Calls, KeepsBySync, KeepsMode, RestsBy, Spares, StoreView}
 use Rattle.nbd_session.proofs.KeptLaws.{IsKept, session_kept}
 use Rattle.nbd_session.proofs.PendingLaws.{none-more}
+use Rattle.nbd_session.proofs.SpareLaws.{some_spared}
 use Rattle.nbd_session.proofs.SyncLaws.{SyncsSome, any_sync}
 
 -- no sync is forgotten, the mode is the same, and nothing stays pending that is not deferred
@@ -21,7 +21,7 @@ abbrev Grows : StoreView → StoreView → Type 0
 Grows old new = (old.syncs ≤ new.syncs) × KeepsMode old new × (old.defers ≡ false → old.pending ≡ [] → new.pending ≡ [])
 
 self_grows : (store : StoreView) → Grows store store
-self_grows store = (omega arith, record { read_only = refl; cleans = refl; flushes = refl; defers = refl }, λ prompt none. none)
+self_grows store = (omega arith, record { read_only = refl; cleans = refl; flushes = refl; defers = refl; fails = refl }, λ prompt none. none)
 
 same_grows : (old new : StoreView) → new ≡ old → Grows old new
 same_grows old new same = rw same (self_grows old)
@@ -34,6 +34,7 @@ grows_again a b c x y = (
     cleans = y.1.cleans ∙ x.1.cleans;
     flushes = y.1.flushes ∙ x.1.flushes;
     defers = y.1.defers ∙ x.1.defers;
+    fails = y.1.fails ∙ x.1.fails;
   },
   λ prompt none. y.2 (x.1.defers ∙ prompt) (x.2 prompt none),
 )
@@ -53,13 +54,21 @@ does_grows old (WriteZeroes first n true) bytes answer new w = call_grows old _ 
 does_grows old (WriteZeroes first n false) bytes answer new w = call_grows old _ answer new w.calls
 does_grows old Flush bytes answer new c = same_grows old new c.1
 
+spare_grows : (old : StoreView) (first n : ℕ) (new : StoreView) → Spares old first n new → Grows old new
+spare_grows old first n new s = (omega (arith, s.syncs), s.mode, λ prompt none. none-more old.pending new.pending none s.pending)
+
+done_grows : (old : StoreView) (wanted : Asked) (bytes : List ℕ) (done : Result (Unit {0}) StoreFault) (shown : List (List ℕ)) (new : StoreView) → DoesOrFails old wanted bytes done shown new → Grows old new
+done_grows old wanted bytes (Ok done) shown new d = does_grows old wanted bytes (record { result = Ok tt; shown = shown }) new d
+done_grows old wanted bytes (Err (Disk fault)) shown new d = does_grows old wanted bytes (record { result = Err fault; shown = shown }) new d
+done_grows old wanted bytes (Err Medium) shown new d = let s = some_spared old wanted bytes new d.1 in spare_grows old s.0 s.1 new s.2
+
 sync_grows : (old : StoreView) (result : Result (Unit {0}) StoreFault) (new : StoreView) → SyncsSome old result new → Grows old new
 sync_grows old (Ok done) new s = keeps_grows old new s.1.keeps
 sync_grows old (Err (Disk fault)) new (inl s) = same_grows old new s.1
 sync_grows old (Err (Disk fault)) new (inr s) = keeps_grows old new s.1.keeps
 sync_grows old (Err Medium) new s = keeps_grows old new s.1
 
-force_grows : (forced : Bool) (wanted : Asked) (count : ℕ) (old : StoreView) (first : Result (Unit {0}) DiskFault) (result : Result (Unit {0}) StoreFault) (new : StoreView) → Forces forced wanted count old first result new → Grows old new
+force_grows : (forced : Bool) (wanted : Asked) (count : ℕ) (old : StoreView) (first : Result (Unit {0}) StoreFault) (result : Result (Unit {0}) StoreFault) (new : StoreView) → Forces forced wanted count old first result new → Grows old new
 force_grows forced wanted count old (Err fault) result new f = same_grows old new f.1
 force_grows true wanted count old (Ok done) result new f = sync_grows old result new (any_sync wanted count old result new f)
 force_grows false wanted count old (Ok done) result new f = same_grows old new f.1
@@ -67,7 +76,7 @@ force_grows false wanted count old (Ok done) result new f = same_grows old new f
 asked_grows : (old : StoreView) (request : Request) (wanted : Result Asked ErrorCode) (bytes reply : List ℕ) (new : StoreView) → AnswersAsked old request wanted bytes reply new → Grows old new
 asked_grows old request (Err error) bytes reply new a = same_grows old new a.1
 asked_grows old request (Ok wanted) bytes reply new a =
-    grows_again old a.middle new (does_grows old wanted bytes a.answer a.middle a.does) (force_grows _ wanted _ a.middle a.answer.result a.result new a.forces)
+    grows_again old a.middle new (done_grows old wanted bytes a.done a.shown a.middle a.does) (force_grows _ wanted _ a.middle a.done a.result new a.forces)
 
 rests_grows : (turn : Bool) (old new : StoreView) → RestsBy turn old new → Grows old new
 rests_grows true old new t = call_grows old _ _ new t.calls

@@ -1,20 +1,20 @@
 -- A session of a store that is read only leaves its array as it was.
-use Rattle.std.proofs.Common.{inl, inr, ◌≡◌, ℕ, List, Ok, Err, true, false, refl, sym, ◌∙◌}
+use Rattle.std.proofs.Common.{inl, inr, ◌≡◌, ℕ, List, Ok, Err, true, false, refl, ap, sym, ◌∙◌}
 use Rattle.std.specs.Prelude.{Bool, ◌&&◌, not, Result, if◌then◌else◌}
 use Rattle.nbd_wire.specs.declared.error_code.ErrorCode.{ErrorCode}
 use Rattle.nbd_wire.specs.declared.error_code.ErrorCode.TheVariants as errors
 use Rattle.nbd_wire.specs.declared.request.Request.{Request}
-use Rattle.zone_translator.specs.Flat.{Answer, known_answer, read}
-use Rattle.zone_translator.specs.declared.fault.DiskFault.{DiskFault}
+use Rattle.zone_translator.specs.Flat.{Answer, FlatDisk, known_answer, read}
 use Rattle.nbd_session.specs.declared.asked.Asked.{Asked}
 use Rattle.nbd_session.specs.declared.asked.Asked.TheVariants.{Read, Write, Trim, WriteZeroes, Flush}
 use Rattle.nbd_session.specs.declared.fault.StoreFault.{StoreFault}
 use Rattle.nbd_session.specs.declared.fault.StoreFault.TheVariants.{Disk, Medium}
 use Rattle.nbd_session.specs.Laws.{ReadOnlyKeepsArray}
-use Rattle.nbd_session.specs.Requests.{AnswersAsked, Does, Forces, asked_of, changes_disk, permitted}
+use Rattle.nbd_session.specs.Requests.{AnswersAsked, Does, DoesOrFails, Forces, asked_of, changes_disk, permitted}
 use Rattle.nbd_session.specs.Store.{Rests, RestsBy, StoreView, store_array, store_flat}
 use Rattle.nbd_session.proofs.KeptLaws.{IsKept, session_kept}
 use Rattle.nbd_session.proofs.ServedLaws.{read-kept}
+use Rattle.nbd_session.proofs.SpareLaws.{some_spared}
 use Rattle.nbd_session.proofs.SyncLaws.{SyncsSome, any_sync}
 
 -- the array of a store that is read only stays, and it is read only still
@@ -39,13 +39,18 @@ does_stays old (Trim first n) bytes answer new harmless c read_only = absurd (cc
 does_stays old (WriteZeroes first n true) bytes answer new harmless c read_only = absurd (cc harmless)
 does_stays old (WriteZeroes first n false) bytes answer new harmless c read_only = absurd (cc harmless)
 
+done_stays : (old : StoreView) (wanted : Asked) (bytes : List ℕ) (done : Result (Unit {0}) StoreFault) (shown : List (List ℕ)) (new : StoreView) → changes_disk wanted ≡ false → DoesOrFails old wanted bytes done shown new → Stays old new
+done_stays old wanted bytes (Ok done) shown new harmless d = does_stays old wanted bytes (record { result = Ok tt; shown = shown }) new harmless d
+done_stays old wanted bytes (Err (Disk fault)) shown new harmless d = does_stays old wanted bytes (record { result = Err fault; shown = shown }) new harmless d
+done_stays old wanted bytes (Err Medium) shown new harmless d = let s = some_spared old wanted bytes new d.1 in λ read_only. (ap (λ (d : FlatDisk). d.array) s.2.flat, s.2.mode.read_only ∙ read_only)
+
 sync_stays : (old : StoreView) (result : Result (Unit {0}) StoreFault) (new : StoreView) → SyncsSome old result new → Stays old new
 sync_stays old (Ok done) new s read_only = (s.1.keeps.array, s.1.keeps.mode.read_only ∙ read_only)
 sync_stays old (Err (Disk fault)) new (inl s) read_only = same_stays old new s.1 read_only
 sync_stays old (Err (Disk fault)) new (inr s) read_only = (s.1.keeps.array, s.1.keeps.mode.read_only ∙ read_only)
 sync_stays old (Err Medium) new s read_only = (s.1.array, s.1.mode.read_only ∙ read_only)
 
-force_stays : (forced : Bool) (wanted : Asked) (count : ℕ) (old : StoreView) (first : Result (Unit {0}) DiskFault) (result : Result (Unit {0}) StoreFault) (new : StoreView) → Forces forced wanted count old first result new → Stays old new
+force_stays : (forced : Bool) (wanted : Asked) (count : ℕ) (old : StoreView) (first : Result (Unit {0}) StoreFault) (result : Result (Unit {0}) StoreFault) (new : StoreView) → Forces forced wanted count old first result new → Stays old new
 force_stays forced wanted count old (Err fault) result new f = same_stays old new f.1
 force_stays true wanted count old (Ok done) result new f = sync_stays old result new (any_sync wanted count old result new f)
 force_stays false wanted count old (Ok done) result new f = same_stays old new f.1
@@ -55,7 +60,7 @@ chosen_stays : (old : StoreView) (request : Request) (wanted : Asked) (bytes rep
     → AnswersAsked old request (if changes then Err errors.NotPermitted else Ok wanted) bytes reply new → Stays old new
 chosen_stays old request wanted bytes reply new true e a = same_stays old new a.1
 chosen_stays old request wanted bytes reply new false e a =
-    stays_again old a.middle new (does_stays old wanted bytes a.answer a.middle e a.does) (force_stays _ wanted _ a.middle a.answer.result a.result new a.forces)
+    stays_again old a.middle new (done_stays old wanted bytes a.done a.shown a.middle e a.does) (force_stays _ wanted _ a.middle a.done a.result new a.forces)
 
 asked_stays : (old : StoreView) (request : Request) (read_only : Bool) (wanted : Result Asked ErrorCode) (bytes reply : List ℕ) (new : StoreView) → old.read_only ≡ read_only
     → AnswersAsked old request (permitted read_only wanted) bytes reply new → Stays old new

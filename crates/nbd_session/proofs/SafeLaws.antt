@@ -12,18 +12,18 @@ use Rattle.remount.specs.Mount.{IsToMount}
 use Rattle.zone_translator.specs.Flat.{Answer, Call}
 use Rattle.zone_translator.specs.Laws.{CanMountAgain}
 use Rattle.zone_translator.specs.View.{DiskView, KeepsDisk, disk_array, given_size}
-use Rattle.zone_translator.specs.declared.fault.DiskFault.{DiskFault}
 use Rattle.zone_translator.proofs.AgainLaws.{called-can}
 use Rattle.nbd_session.specs.declared.asked.Asked.{Asked}
 use Rattle.nbd_session.specs.declared.asked.Asked.TheVariants.{Read, Write, Trim, WriteZeroes, Flush}
 use Rattle.nbd_session.specs.declared.fault.StoreFault.{StoreFault}
 use Rattle.nbd_session.specs.declared.fault.StoreFault.TheVariants.{Disk, Medium}
 use Rattle.nbd_session.specs.Laws.{FlushIsSafe, IsSafe, LeftIsFound, SessionKeepsSafe}
-use Rattle.nbd_session.specs.Requests.{AnswersAsked, Does, Forces, asked_of_store}
+use Rattle.nbd_session.specs.Requests.{AnswersAsked, Does, DoesOrFails, Forces, asked_of_store}
 use Rattle.nbd_session.specs.Served.{array_with}
-use Rattle.nbd_session.specs.Store.{Calls, KeepsBySync, RestsBy, StoreView}
+use Rattle.nbd_session.specs.Store.{Calls, KeepsBySync, RestsBy, Spares, StoreView}
 use Rattle.nbd_session.proofs.KeptLaws.{IsKept, session_kept}
 use Rattle.nbd_session.proofs.ServedLaws.{map_contains}
+use Rattle.nbd_session.proofs.SpareLaws.{some_spared}
 use Rattle.nbd_session.proofs.SyncLaws.{SyncsSome, any_sync}
 
 -- ---- a disk
@@ -101,6 +101,14 @@ does-sound old (WriteZeroes first n true) bytes answer new w = call-sound old _ 
 does-sound old (WriteZeroes first n false) bytes answer new w = call-sound old _ answer new w.calls
 does-sound old Flush bytes answer new c = same-sound old new c.1
 
+spare-sound : (old : StoreView) (first n : ℕ) (new : StoreView) → Spares old first n new → StaysSound old new
+spare-sound old first n new s = λ sound. same-safe old.disk new.disk (s.kept.mounted sound.0.mountable) s.durable sound
+
+done-sound : (old : StoreView) (wanted : Asked) (bytes : List ℕ) (done : Result (Unit {0}) StoreFault) (shown : List (List ℕ)) (new : StoreView) → DoesOrFails old wanted bytes done shown new → StaysSound old new
+done-sound old wanted bytes (Ok done) shown new d = does-sound old wanted bytes (record { result = Ok tt; shown = shown }) new d
+done-sound old wanted bytes (Err (Disk fault)) shown new d = does-sound old wanted bytes (record { result = Err fault; shown = shown }) new d
+done-sound old wanted bytes (Err Medium) shown new d = let s = some_spared old wanted bytes new d.1 in spare-sound old s.0 s.1 new s.2
+
 keeps-sound : (old new : StoreView) → KeepsBySync old new → StaysSound old new
 keeps-sound old new k = λ sound. may-safe old.disk new.disk (k.kept.mounted sound.0.mountable) k.durable sound
 
@@ -110,7 +118,7 @@ sync-sound old (Err (Disk fault)) new (inl s) = same-sound old new s.1
 sync-sound old (Err (Disk fault)) new (inr s) = keeps-sound old new s.1.keeps
 sync-sound old (Err Medium) new s = keeps-sound old new s.1
 
-force-sound : (forced : Bool) (wanted : Asked) (count : ℕ) (old : StoreView) (first : Result (Unit {0}) DiskFault) (result : Result (Unit {0}) StoreFault) (new : StoreView) → Forces forced wanted count old first result new → StaysSound old new
+force-sound : (forced : Bool) (wanted : Asked) (count : ℕ) (old : StoreView) (first : Result (Unit {0}) StoreFault) (result : Result (Unit {0}) StoreFault) (new : StoreView) → Forces forced wanted count old first result new → StaysSound old new
 force-sound forced wanted count old (Err fault) result new f = same-sound old new f.1
 force-sound true wanted count old (Ok done) result new f = sync-sound old result new (any_sync wanted count old result new f)
 force-sound false wanted count old (Ok done) result new f = same-sound old new f.1
@@ -118,7 +126,7 @@ force-sound false wanted count old (Ok done) result new f = same-sound old new f
 asked-sound : (old : StoreView) (request : Request) (wanted : Result Asked ErrorCode) (bytes reply : List ℕ) (new : StoreView) → AnswersAsked old request wanted bytes reply new → StaysSound old new
 asked-sound old request (Err error) bytes reply new a = same-sound old new a.1
 asked-sound old request (Ok wanted) bytes reply new a =
-    λ sound. force-sound _ wanted _ a.middle a.answer.result a.result new a.forces (does-sound old wanted bytes a.answer a.middle a.does sound)
+    λ sound. force-sound _ wanted _ a.middle a.done a.result new a.forces (done-sound old wanted bytes a.done a.shown a.middle a.does sound)
 
 rests-sound : (turn : Bool) (old new : StoreView) → RestsBy turn old new → StaysSound old new
 rests-sound true old new t = call-sound old _ _ new t.calls

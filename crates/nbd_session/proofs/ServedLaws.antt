@@ -1,6 +1,6 @@
 -- What a disk that is served gives, as a store: its calls, its turns and its syncs.
 use Rattle.std.proofs.Common.{◌≡◌, ℕ, zero, suc, ◌<◌, ◌≤◌, List, [], ◌∷◌, length, map, None, Some, Ok, Err, true, false, refl, sym, ap, ◌∙◌, inl, inr, arith}
-use Rattle.std.specs.Prelude.{◌⊎◌, Bool, Contains, MatchOption, Option, Result}
+use Rattle.std.specs.Prelude.{◌⊎◌, Bool, Contains, IsErrAnd, MatchOption, Option, Result}
 use Rattle.std.specs.Int.{div_ceil}
 use Rattle.std.proofs.Math.Nat.{div-zero, mod-le}
 use Rattle.std.proofs.lemmas.List.{take_all}
@@ -18,9 +18,11 @@ use Rattle.zone_translator.specs.Changes.{batch_commands}
 use Rattle.zone_translator.specs.Flat.{Answer, Begun, Call, FlatDisk, IsFront, answer_while, flush, grow, idle, known_answer, may_refuse, read, replaced, report, status_after, with_nothing, write}
 use Rattle.zone_translator.specs.View.{CompletesAtMost, DiskView, KeepsDisk, disk_array, disk_turns, flat_of, given_size}
 use Rattle.zone_translator.specs.declared.fault.DiskFault.{DiskFault}
+use Rattle.nbd_session.specs.declared.fault.StoreFault.{StoreFault}
+use Rattle.nbd_session.specs.declared.fault.StoreFault.TheVariants.{Disk}
 use Rattle.nbd_session.specs.Served.{array_with, since_of}
 use Rattle.nbd_session.specs.Pending.{Pending}
-use Rattle.nbd_session.specs.Store.{CallsDisk, ComesFrom, FailsSync, Hardens, IsMoment, IsPart, IsTorn, KeepsBySync, Rests, Shows, StoreView, Writes}
+use Rattle.nbd_session.specs.Store.{CallsDisk, ComesFrom, FailsSync, Hardens, IsMoment, IsPart, IsTorn, KeepsBySync, OrFails, Rests, Shows, Spares, StoreView, Writes}
 use Rattle.nbd_session.proofs.PendingLaws.{front-torn, in-none, same-torn}
 
 -- the only element of a list
@@ -107,7 +109,7 @@ array-now disk zones is = rw (is, contents-restarted disk.drive.zones) refl
 -- a store that serves this disk
 abbrev pub served : DiskView → ℕ → Bool → Bool → Bool → StoreView
 served disk syncs read_only cleans flushes =
-    record { disk = disk; pending = []; since = since_of flushes disk; syncs = syncs; read_only = read_only; cleans = cleans; flushes = flushes; defers = false }
+    record { disk = disk; pending = []; since = since_of flushes disk; syncs = syncs; read_only = read_only; cleans = cleans; flushes = flushes; defers = false; fails = false }
 
 -- a call of the disk goes through
 through-disk : (old new : DiskView) (syncs : ℕ) (read_only cleans flushes : Bool) (call : Call) → KeepsDisk old new
@@ -142,13 +144,28 @@ write_called is_trim old new syncs read_only cleans flushes first blocks n resul
         pending = λ w found. absurd (in-none w found);
         none = λ prompt. refl;
         syncs = refl;
-        mode = record { read_only = refl; cleans = refl; flushes = refl; defers = refl };
+        mode = record { read_only = refl; cleans = refl; flushes = refl; defers = refl; fails = refl };
         through = λ none. through-disk old new syncs read_only cleans flushes (write first blocks) a.kept (since-call flushes old new (IsFront (disk_array old) first blocks) a.kept a.durable moment);
       };
       turns = costs.turns;
       due = omega (arith, costs.completed, few-commands is_trim old n);
       through = λ none. record { stores = stores; costs = costs };
     }
+
+-- a fault of the disk is told as it is
+refused_so : (A : Result (Unit {0}) DiskFault → Type 0) (F : Type 0) (result : Result (Unit {0}) StoreFault) (fault : DiskFault) → IsErrAnd result (λ e. e ≡ Disk fault) → A (Err fault) → OrFails A F result
+refused_so A F (Ok x) fault is a = absurd is
+refused_so A F (Err e) fault is a = rw is a
+
+-- a write that the disk refused, the store refuses
+pub write_refused : (is_trim : Bool) (old new : DiskView) (syncs : ℕ) (read_only cleans flushes : Bool) (first : ℕ) (blocks : List (List ℕ)) (n : ℕ) (result : Result (Unit {0}) StoreFault) (fault : DiskFault) → IsErrAnd result (λ e. e ≡ Disk fault)
+    → Answers old (write first blocks) (Err fault) new → Stores is_trim old first n (Err fault) new → CostsAtMost old (write_commands is_trim old n) (Err fault) new
+    → OrFails (λ answer. Writes is_trim (served old syncs read_only cleans flushes) (write first blocks) first n (with_nothing answer) (served new syncs read_only cleans flushes))
+    (Spares (served old syncs read_only cleans flushes) first n (served new syncs read_only cleans flushes)) result
+write_refused is_trim old new syncs read_only cleans flushes first blocks n result fault is a stores costs =
+    refused_so (λ answer. Writes is_trim (served old syncs read_only cleans flushes) (write first blocks) first n (with_nothing answer) (served new syncs read_only cleans flushes))
+    (Spares (served old syncs read_only cleans flushes) first n (served new syncs read_only cleans flushes)) result fault is
+    (write_called is_trim old new syncs read_only cleans flushes first blocks n (Err fault) a stores costs)
 
 -- the array after a turn of cleaning is the old one
 turn-kept : (known : Option (Result (Unit {0}) DiskFault)) (old : FlatDisk) (result : Result (Unit {0}) DiskFault) (new : FlatDisk)
@@ -173,7 +190,7 @@ turn_taken old new syncs flushes result a turn completed =
         pending = λ w found. absurd (in-none w found);
         none = λ prompt. refl;
         syncs = refl;
-        mode = record { read_only = refl; cleans = refl; flushes = refl; defers = refl };
+        mode = record { read_only = refl; cleans = refl; flushes = refl; defers = refl; fails = refl };
         through = λ none. through-disk old new syncs false true flushes idle a.kept (since-call flushes old new (λ array. array ≡ disk_array old) a.kept a.durable (inr same));
       };
       turn = turn;
@@ -205,7 +222,7 @@ read_called old new syncs read_only cleans flushes first n result bytes a turns 
           pending = λ w found. absurd (in-none w found);
           none = λ prompt. refl;
           syncs = refl;
-          mode = record { read_only = refl; cleans = refl; flushes = refl; defers = refl };
+          mode = record { read_only = refl; cleans = refl; flushes = refl; defers = refl; fails = refl };
           through = λ none. through-disk old new syncs read_only cleans flushes (read first n) a.kept (since-call flushes old new (λ array. array ≡ disk_array old) a.kept a.durable (inr same));
         };
         turns = turns;
@@ -214,6 +231,16 @@ read_called old new syncs read_only cleans flushes first n result bytes a turns 
       };
       bytes_are = a.flat.bytes_are;
     }
+
+-- a read that the disk refused, the store refuses
+pub read_refused : (old new : DiskView) (syncs : ℕ) (read_only cleans flushes : Bool) (first n : ℕ) (result : Result (Unit {0}) StoreFault) (fault : DiskFault) (bytes : List ℕ) → IsErrAnd result (λ e. e ≡ Disk fault)
+    → AnswersRead old first n (Err fault) bytes new → disk_turns new ≡ disk_turns old → CompletesAtMost old n new
+    → OrFails (λ answer. Shows (served old syncs read_only cleans flushes) first n answer bytes (served new syncs read_only cleans flushes))
+    ((bytes ≡ []) × Spares (served old syncs read_only cleans flushes) first n (served new syncs read_only cleans flushes)) result
+read_refused old new syncs read_only cleans flushes first n result fault bytes is a turns completed =
+    refused_so (λ answer. Shows (served old syncs read_only cleans flushes) first n answer bytes (served new syncs read_only cleans flushes))
+    ((bytes ≡ []) × Spares (served old syncs read_only cleans flushes) first n (served new syncs read_only cleans flushes)) result fault is
+    (read_called old new syncs read_only cleans flushes first n (Err fault) bytes a turns completed)
 
 -- ---- syncs of a disk that is not flushed
 
@@ -229,7 +256,7 @@ silent_keeps disk syncs more read_only cleans grows = record {
   pending = λ w found. found;
   since = λ array found. inl found;
   syncs = grows;
-  mode = record { read_only = refl; cleans = refl; flushes = refl; defers = refl };
+  mode = record { read_only = refl; cleans = refl; flushes = refl; defers = refl; fails = refl };
   silent = λ off none. record { disk = refl; since = λ array found. found };
 }
 
@@ -279,7 +306,7 @@ flush_keeps old new syncs more read_only cleans array kept durable turns complet
   pending = λ w found. found;
   since = since-flushed old new kept durable;
   syncs = grows;
-  mode = record { read_only = refl; cleans = refl; flushes = refl; defers = refl };
+  mode = record { read_only = refl; cleans = refl; flushes = refl; defers = refl; fails = refl };
   silent = λ off none. absurd (cc off);
 }
 

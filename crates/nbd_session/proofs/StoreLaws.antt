@@ -6,18 +6,18 @@ use Rattle.nbd_wire.specs.declared.request.Request.{Request}
 use Rattle.zone_translator.proofs.KeepingLaws.{keeps_again, keeps_same}
 use Rattle.zone_translator.specs.Flat.{Answer, Call}
 use Rattle.zone_translator.specs.Keeping.{KeepsServed}
-use Rattle.zone_translator.specs.declared.fault.DiskFault.{DiskFault}
 use Rattle.nbd_session.specs.declared.asked.Asked.{Asked}
 use Rattle.nbd_session.specs.declared.asked.Asked.TheVariants.{Read, Write, Trim, WriteZeroes, Flush}
 use Rattle.nbd_session.specs.declared.fault.SessionFault.{SessionFault}
 use Rattle.nbd_session.specs.declared.fault.StoreFault.{StoreFault}
 use Rattle.nbd_session.specs.declared.fault.StoreFault.TheVariants.{Disk, Medium}
-use Rattle.nbd_session.specs.Requests.{AnswersAsked, Does, Forces, asked_of_store}
+use Rattle.nbd_session.specs.Requests.{AnswersAsked, Does, DoesOrFails, Forces, asked_of_store}
 use Rattle.nbd_session.specs.Session.{Session}
 use Rattle.nbd_session.specs.Store.{Calls, RestsBy, StoreView, Writes}
 use Rattle.nbd_session.specs.Streams.{Streams}
 use Rattle.nbd_session.specs.Turns.{Serves}
 use Rattle.nbd_session.proofs.KeptLaws.{IsKept, session_kept}
+use Rattle.nbd_session.proofs.SpareLaws.{some_spared}
 use Rattle.nbd_session.proofs.SyncLaws.{SyncsSome, any_sync}
 
 abbrev KeepsStore : StoreView → StoreView → Type 0
@@ -42,13 +42,18 @@ does_keeps old (WriteZeroes first n true) bytes answer new w = write_keeps true 
 does_keeps old (WriteZeroes first n false) bytes answer new w = write_keeps false old _ first n answer new w
 does_keeps old Flush bytes answer new c = same_keeps old new c.1
 
+done_keeps : (old : StoreView) (wanted : Asked) (bytes : List ℕ) (done : Result (Unit {0}) StoreFault) (shown : List (List ℕ)) (new : StoreView) → DoesOrFails old wanted bytes done shown new → KeepsStore old new
+done_keeps old wanted bytes (Ok done) shown new d = does_keeps old wanted bytes (record { result = Ok tt; shown = shown }) new d
+done_keeps old wanted bytes (Err (Disk fault)) shown new d = does_keeps old wanted bytes (record { result = Err fault; shown = shown }) new d
+done_keeps old wanted bytes (Err Medium) shown new d = (some_spared old wanted bytes new d.1).2.kept
+
 sync_keeps : (old : StoreView) (result : Result (Unit {0}) StoreFault) (new : StoreView) → SyncsSome old result new → KeepsStore old new
 sync_keeps old (Ok done) new s = s.1.keeps.kept
 sync_keeps old (Err (Disk fault)) new (inl s) = same_keeps old new s.1
 sync_keeps old (Err (Disk fault)) new (inr s) = s.1.keeps.kept
 sync_keeps old (Err Medium) new s = s.1.kept
 
-force_keeps : (forced : Bool) (wanted : Asked) (count : ℕ) (old : StoreView) (first : Result (Unit {0}) DiskFault) (result : Result (Unit {0}) StoreFault) (new : StoreView) → Forces forced wanted count old first result new → KeepsStore old new
+force_keeps : (forced : Bool) (wanted : Asked) (count : ℕ) (old : StoreView) (first : Result (Unit {0}) StoreFault) (result : Result (Unit {0}) StoreFault) (new : StoreView) → Forces forced wanted count old first result new → KeepsStore old new
 force_keeps forced wanted count old (Err fault) result new f = same_keeps old new f.1
 force_keeps true wanted count old (Ok done) result new f = sync_keeps old result new (any_sync wanted count old result new f)
 force_keeps false wanted count old (Ok done) result new f = same_keeps old new f.1
@@ -56,7 +61,7 @@ force_keeps false wanted count old (Ok done) result new f = same_keeps old new f
 asked_keeps : (old : StoreView) (request : Request) (wanted : Result Asked ErrorCode) (bytes reply : List ℕ) (new : StoreView) → AnswersAsked old request wanted bytes reply new → KeepsStore old new
 asked_keeps old request (Err error) bytes reply new a = same_keeps old new a.1
 asked_keeps old request (Ok wanted) bytes reply new a =
-    keeps_again old.disk a.middle.disk new.disk (does_keeps old wanted bytes a.answer a.middle a.does) (force_keeps _ wanted _ a.middle a.answer.result a.result new a.forces)
+    keeps_again old.disk a.middle.disk new.disk (done_keeps old wanted bytes a.done a.shown a.middle a.does) (force_keeps _ wanted _ a.middle a.done a.result new a.forces)
 
 rests_keeps : (turn : Bool) (old new : StoreView) → RestsBy turn old new → KeepsStore old new
 rests_keeps true old new t = call_keeps old _ _ new t.calls

@@ -1,7 +1,7 @@
 -- What a client may rely on.
 use Rattle.std.specs.Prelude.{◌≡◌, ℕ, ◌+◌, ◌/◌, ◌<◌, ◌≤◌, true, false, List, [], ◌++◌, slice_index_or, Contains, Ok, Result}
 use Rattle.nbd_wire.specs.Transmission.{simple_reply_bytes}
-use Rattle.nbd_wire.specs.declared.error_code.ErrorCode.TheVariants.{Success}
+use Rattle.nbd_wire.specs.declared.error_code.ErrorCode.TheVariants.{Io, Success}
 use Rattle.nbd_wire.specs.declared.request.Request.{Request}
 use Rattle.zone_states.specs.Zone.{Zone}
 use Rattle.drive_port.specs.Run.{restarted}
@@ -14,10 +14,11 @@ use Rattle.zone_translator.specs.View.{DiskView, disk_array, given_size}
 use Rattle.nbd_session.specs.declared.asked.Asked.{Asked}
 use Rattle.nbd_session.specs.declared.asked.Asked.TheVariants.{Read, Write, Trim, WriteZeroes, Flush}
 use Rattle.nbd_session.specs.declared.fault.SessionFault.{SessionFault}
-use Rattle.nbd_session.specs.Requests.{DoesAndReplies, data_length, is_forced}
+use Rattle.nbd_session.specs.declared.fault.StoreFault.{StoreFault}
+use Rattle.nbd_session.specs.Requests.{Does, DoesAndReplies, DoesOrFails, data_length, is_forced}
 use Rattle.nbd_session.specs.Served.{since_of}
 use Rattle.nbd_session.specs.Session.{Session}
-use Rattle.nbd_session.specs.Store.{KeepsMode, StoreView, store_array}
+use Rattle.nbd_session.specs.Store.{KeepsMode, OrFails, StoreView, store_array, store_flat}
 use Rattle.nbd_session.specs.Streams.{Streams}
 use Rattle.nbd_session.specs.Turns.{Serves}
 
@@ -48,14 +49,29 @@ ForcedIsDurable =
     → is_forced wanted request ≡ true → reply ≡ simple_reply_bytes Success request.cookie ++ shown
     → (answered.middle.syncs < new.syncs) × ((left : List (List ℕ)) → Contains new.since left → IsLeft wanted (data_length request) new left)
 
+-- A request that had not to be durable has a reply that says EIO. Then the medium may fail in it, nothing is done, and
+-- nothing is shown.
+abbrev pub FailedIsUndone : Type 0
+FailedIsUndone =
+    (old new : StoreView) (request : Request) (wanted : Asked) (bytes reply shown : List ℕ) → DoesAndReplies old request wanted bytes reply new
+    → is_forced wanted request ≡ false → reply ≡ simple_reply_bytes Io request.cookie ++ shown
+    → (old.fails ≡ true) × (shown ≡ []) × (store_flat new ≡ store_flat old)
+
+-- What is asked of a store that does not fail is answered by its disk: it is done, or refused by a fault of the disk.
+abbrev pub AnsweredByDisk : Type 0
+AnsweredByDisk =
+    (old new : StoreView) (wanted : Asked) (bytes : List ℕ) (done : Result (Unit {0}) StoreFault) (shown : List (List ℕ))
+    → DoesOrFails old wanted bytes done shown new → old.fails ≡ false
+    → OrFails (λ answer. Does old wanted bytes (record { result = answer; shown = shown }) new) ⊥ done
+
 -- Whatever a client sends to a store that is read only, and whatever ends the session: the array is as it was, and the store still read only.
 abbrev pub ReadOnlyKeepsArray : Type 0
 ReadOnlyKeepsArray =
     (bytes : Streams) (old : Session) (ended : Result (Unit {0}) SessionFault) (new : StoreView) → Serves bytes old ended new
     → old.store.read_only ≡ true → (store_array new ≡ store_array old.store) × (new.read_only ≡ true)
 
--- Whatever a client sends, and whatever ends the session: no sync is forgotten, and the store is read only, and
--- cleans, as before. Nothing is pending above a store that does not defer.
+-- Whatever a client sends, and whatever ends the session: no sync is forgotten, and the store is read only, cleans
+-- and fails as before. Nothing is pending above a store that does not defer.
 abbrev pub SessionKeepsMode : Type 0
 SessionKeepsMode =
     (bytes : Streams) (old : Session) (ended : Result (Unit {0}) SessionFault) (new : StoreView) → Serves bytes old ended new

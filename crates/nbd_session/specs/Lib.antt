@@ -6,3 +6,4 @@ pub mod Session
 pub mod Turns
 pub mod Laws
 pub mod Served
+pub mod Failing

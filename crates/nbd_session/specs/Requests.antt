@@ -1,6 +1,6 @@
 -- What a request asks of a disk, and the reply to it.
 use Rattle.std.specs.Prelude.{◌≡◌, ◌⊎◌, ℕ, ◌*◌, ◌/◌, ◌%◌, ◌==◌, ◌&&◌, ◌||◌, nat_lt, not, if◌then◌else◌, Bool, true, false}
-use Rattle.std.specs.Prelude.{List, ◌++◌, length, Option, Some, Result, Ok, Err}
+use Rattle.std.specs.Prelude.{List, [], ◌++◌, length, Option, Some, Result, Ok, Err}
 use Rattle.std.specs.List.{concat}
 use Rattle.std.specs.Io.KnownBytes.{Consumes}
 use Rattle.disk_files.specs.Input.{DropsFewer}
@@ -10,6 +10,7 @@ use Rattle.nbd_wire.specs.declared.command.Command.TheVariants as commands
 use Rattle.nbd_wire.specs.declared.error_code.ErrorCode.{ErrorCode}
 use Rattle.nbd_wire.specs.declared.error_code.ErrorCode.TheVariants as errors
 use Rattle.nbd_wire.specs.declared.request.Request.{Request}
+use Rattle.zone_translator.specs.Answers.{count_of_blocks}
 use Rattle.zone_translator.specs.Flat.{Answer, with_nothing}
 use Rattle.zone_translator.specs.declared.fault.DiskFault.{DiskFault}
 use Rattle.zone_translator.specs.declared.fault.DiskFault.TheVariants as disk
@@ -20,7 +21,7 @@ use Rattle.nbd_session.specs.declared.fault.SessionFault.{SessionFault}
 use Rattle.nbd_session.specs.declared.fault.SessionFault.TheVariants.{Input}
 use Rattle.nbd_session.specs.declared.fault.StoreFault.{StoreFault}
 use Rattle.nbd_session.specs.declared.fault.StoreFault.TheVariants.{Disk, Medium}
-use Rattle.nbd_session.specs.Store.{ForcesBlocks, ReadsBlocks, StoreView, Syncs, Trims, WritesBytes, WritesZeros}
+use Rattle.nbd_session.specs.Store.{ForcesBlocks, ReadsBlocks, Spares, StoreView, Syncs, Trims, WritesBytes, WritesZeros}
 
 -- ---- what is asked
 
@@ -108,6 +109,20 @@ Does old (WriteZeroes first n true) bytes answer new = Trims old first n answer 
 Does old (WriteZeroes first n false) bytes answer new = WritesZeros old first n answer new
 Does old Flush bytes answer new = (answer ≡ with_nothing (Ok tt)) × (new ≡ old)
 
+-- The medium failed in what is asked, and nothing is done. A FLUSH names no block: its medium fails only in the sync.
+abbrev pub SparesAsked : StoreView → Asked → List ℕ → StoreView → Type 0
+SparesAsked old (Write first) bytes new = Spares old first (count_of_blocks old.disk bytes) new
+SparesAsked old (Read first n) bytes new = Spares old first n new
+SparesAsked old (Trim first n) bytes new = Spares old first n new
+SparesAsked old (WriteZeroes first n hole) bytes new = Spares old first n new
+SparesAsked old Flush bytes new = ⊥
+
+-- What is asked is done or refused or, if the medium failed, nothing is done and nothing shown.
+abbrev pub DoesOrFails : StoreView → Asked → List ℕ → Result (Unit {0}) StoreFault → List (List ℕ) → StoreView → Type 0
+DoesOrFails old wanted bytes (Ok done) shown new = Does old wanted bytes (record { result = Ok tt; shown = shown }) new
+DoesOrFails old wanted bytes (Err (Disk fault)) shown new = Does old wanted bytes (record { result = Err fault; shown = shown }) new
+DoesOrFails old wanted bytes (Err Medium) shown new = (shown ≡ []) × SparesAsked old wanted bytes new
+
 -- What is to be durable is synced: after a FLUSH the whole array, and after another request the blocks that it named.
 -- That many bytes of data came with it.
 abbrev pub Secures : Asked → ℕ → StoreView → Result (Unit {0}) StoreFault → StoreView → Type 0
@@ -117,25 +132,25 @@ Secures (Read first n) count old result new = ForcesBlocks first n old result ne
 Secures (Trim first n) count old result new = ForcesBlocks first n old result new
 Secures (WriteZeroes first n hole) count old result new = ForcesBlocks first n old result new
 
--- what was done is synced where it has to be durable, unless it was refused
-abbrev pub Forces : Bool → Asked → ℕ → StoreView → Result (Unit {0}) DiskFault → Result (Unit {0}) StoreFault → StoreView → Type 0
-Forces forced wanted count old (Err fault) result new = (result ≡ Err (Disk fault)) × (new ≡ old)
+-- What was done is synced where it has to be durable. A refusal stays, and so does a fault of the medium.
+abbrev pub Forces : Bool → Asked → ℕ → StoreView → Result (Unit {0}) StoreFault → Result (Unit {0}) StoreFault → StoreView → Type 0
+Forces forced wanted count old (Err fault) result new = (result ≡ Err fault) × (new ≡ old)
 Forces true wanted count old (Ok done) result new = Secures wanted count old result new
 Forces false wanted count old (Ok done) result new = (result ≡ Ok tt) × (new ≡ old)
 
 -- what is asked is done with the data that came with it, and these bytes are shown
 pub record DoesWith (left left' : Option (List ℕ)) (old : StoreView) (wanted : Asked) (count : ℕ) (shown : List ℕ)
-    (result : Result (Unit {0}) DiskFault) (new : StoreView) : Type 0 where
+    (result : Result (Unit {0}) StoreFault) (new : StoreView) : Type 0 where
   pub bytes : List ℕ
   pub count_is : length bytes ≡ count
   pub read : Consumes left left' bytes
   pub blocks : List (List ℕ)
-  pub does : Does old wanted bytes (record { result = result; shown = blocks }) new
+  pub does : DoesOrFails old wanted bytes result blocks new
   pub shown_is : shown ≡ concat blocks
 
 -- that, or the data are cut and nothing is done
 abbrev pub DoesOrNot : Option (List ℕ) → Option (List ℕ) → StoreView → Asked → ℕ → List ℕ
-    → Result (Result (Unit {0}) DiskFault) SessionFault → StoreView → Type 0
+    → Result (Result (Unit {0}) StoreFault) SessionFault → StoreView → Type 0
 DoesOrNot left left' old wanted count shown (Ok result) new = DoesWith left left' old wanted count shown result new
 DoesOrNot left left' old wanted count shown (Err fault) new = (fault ≡ Input) × DropsFewer left left' count × (new ≡ old)
 
@@ -157,7 +172,7 @@ error_of wanted disk.Spent = errors.NoSpace
 error_of wanted disk.Smaller = errors.Invalid
 error_of wanted disk.Reserve = errors.Invalid
 
--- the error of a reply; where the medium fails in a sync, it is EIO
+-- the error of a reply; where the medium fails, in a sync or before, it is EIO
 abbrev pub code_of : Asked → Result (Unit {0}) StoreFault → ErrorCode
 code_of wanted (Ok done) = errors.Success
 code_of wanted (Err (Disk fault)) = error_of wanted fault
@@ -165,12 +180,13 @@ code_of wanted (Err Medium) = errors.Io
 
 -- what is asked is done, and synced where it has to be, and this is the reply
 pub record DoesAndReplies (old : StoreView) (request : Request) (wanted : Asked) (bytes reply : List ℕ) (new : StoreView) : Type 0 where
-  pub answer : Answer
+  pub done : Result (Unit {0}) StoreFault
+  pub shown : List (List ℕ)
   pub middle : StoreView
-  pub does : Does old wanted bytes answer middle
+  pub does : DoesOrFails old wanted bytes done shown middle
   pub result : Result (Unit {0}) StoreFault
-  pub forces : Forces (is_forced wanted request) wanted (data_length request) middle answer.result result new
-  pub reply_is : reply ≡ simple_reply_bytes (code_of wanted result) request.cookie ++ concat answer.shown
+  pub forces : Forces (is_forced wanted request) wanted (data_length request) middle done result new
+  pub reply_is : reply ≡ simple_reply_bytes (code_of wanted result) request.cookie ++ concat shown
 
 -- a request is answered
 abbrev pub AnswersAsked : StoreView → Request → Result Asked ErrorCode → List ℕ → List ℕ → StoreView → Type 0

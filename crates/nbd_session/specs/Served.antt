@@ -21,7 +21,8 @@ abbrev pub since_of : Bool → DiskView → List (List (List ℕ))
 since_of true disk = map (array_with disk) disk.drive.durable
 since_of false disk = disk_array disk ∷ []
 
--- The store that a served disk is. It defers nothing, and the syncs are those of its medium.
+-- The store that a served disk is. It defers nothing, and the syncs are those of its medium, which fails in no other
+-- call.
 abbrev pub store_of : {M : Type 0} → (M → ℕ) → (M → Bool) → Served M → StoreView
 store_of syncs flushes s = record {
   disk = s.disk;
@@ -32,4 +33,5 @@ store_of syncs flushes s = record {
   cleans = s.cleans;
   flushes = flushes s.medium;
   defers = false;
+  fails = false;
 }

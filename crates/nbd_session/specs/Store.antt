@@ -3,7 +3,7 @@ use Rattle.std.specs.Prelude.{◌≡◌, ◌⊎◌, ℕ, ◌+◌, ◌<◌, ◌�
 use Rattle.std.specs.List.{concat}
 use Rattle.drive_port.specs.Durable.{MayBeDurable}
 use Rattle.zone_translator.specs.Answers.{CostsAtMost, Stores, TakesTurn, count_of_blocks, write_bytes, write_commands}
-use Rattle.zone_translator.specs.Flat.{Answer, Call, FlatCall, FlatDisk, IsFront, answer_while, flush, idle, may_refuse, read, replaced, status_after, trim, with_nothing, write}
+use Rattle.zone_translator.specs.Flat.{Answer, Call, FlatCall, FlatDisk, IsFront, answer_while, flush, idle, known_range, may_refuse, read, replaced, status_after, trim, with_nothing, write}
 use Rattle.zone_translator.specs.Keeping.{KeepsServed}
 use Rattle.zone_translator.specs.View.{CompletesAtMost, DiskCause, DiskView, KeepsDisk, disk_array, disk_turns, flat_of}
 use Rattle.zone_translator.specs.declared.fault.DiskFault.{DiskFault}
@@ -15,7 +15,7 @@ use Rattle.nbd_session.specs.declared.fault.StoreFault.TheVariants.{Disk, Medium
 -- the arrays of `since`. `syncs` is how many syncs were completed. If the store is read only, what would change the
 -- disk is refused. If it cleans, a turn of cleaning is taken after each request. If it flushes, a sync is a Flush of
 -- the drive; if not, only pending blocks are sent to it. If it defers, blocks may be pending after a call; if not,
--- none is.
+-- none is. If it fails, its medium may fail in any call that names blocks; if not, only in a sync.
 pub record StoreView : Type 0 where
   pub disk : DiskView
   pub pending : List Pending
@@ -25,6 +25,7 @@ pub record StoreView : Type 0 where
   pub cleans : Bool
   pub flushes : Bool
   pub defers : Bool
+  pub fails : Bool
 
 -- the array that a store serves: that of the disk, with the pending blocks
 abbrev pub store_array : StoreView → List (List ℕ)
@@ -39,12 +40,13 @@ store_flat store = record (flat_of store.disk) { array = store_array store }
 abbrev pub GoesThrough : StoreView → StoreView → Type 0
 GoesThrough old new = (old.pending ≡ []) × (new.pending ≡ [])
 
--- whether a store is read only, cleans, flushes and defers does not change
+-- whether a store is read only, cleans, flushes, defers and fails does not change
 pub record KeepsMode (old new : StoreView) : Type 0 where
   pub read_only : new.read_only ≡ old.read_only
   pub cleans : new.cleans ≡ old.cleans
   pub flushes : new.flushes ≡ old.flushes
   pub defers : new.defers ≡ old.defers
+  pub fails : new.fails ≡ old.fails
 
 -- ---- what a call makes of the arrays that a loss of power leaves
 
@@ -143,6 +145,32 @@ pub record Shows (old : StoreView) (first n : ℕ) (result : Result (Unit {0}) D
   pub shown : List (List ℕ)
   pub reads : ReadsBlocks old first n (record { result = result; shown = shown }) new
   pub bytes_are : bytes ≡ concat shown
+
+-- ---- a medium that fails
+
+-- The medium of a store that may fail failed in a call of n blocks from a given one on, whose answer was not known
+-- before. Nothing is done: the store serves the same array, and a loss of power leaves nothing that it could not have
+-- left before. What is pending was so before; if nothing was, nothing is written to the drive. At most the commands of
+-- a write of these blocks are completed, besides those that were due.
+pub record Spares (old : StoreView) (first n : ℕ) (new : StoreView) : Type 0 where
+  pub may : old.fails ≡ true
+  pub begun : known_range (store_flat old) first n ≡ None
+  pub flat : store_flat new ≡ store_flat old
+  pub kept : KeepsServed old.disk new.disk
+  pub durable : new.disk.drive.durable ≡ old.disk.drive.durable
+  pub written : old.pending ≡ [] → new.disk.drive.zones ≡ old.disk.drive.zones
+  pub turns : disk_turns new.disk ≤ disk_turns old.disk
+  pub due : commands_due new ≤ commands_due old + write_commands false old.disk n
+  pub since : (array : List (List ℕ)) → Contains new.since array → Contains old.since array
+  pub pending : (w : Pending) → Contains new.pending w → Contains old.pending w
+  pub syncs : new.syncs ≡ old.syncs
+  pub mode : KeepsMode old new
+
+-- the disk has answered a call in this way, or the medium failed in it
+abbrev pub OrFails : (Result (Unit {0}) DiskFault → Type 0) → Type 0 → Result (Unit {0}) StoreFault → Type 0
+OrFails Answers Fails (Ok done) = Answers (Ok tt)
+OrFails Answers Fails (Err (Disk fault)) = Answers (Err fault)
+OrFails Answers Fails (Err Medium) = Fails
 
 -- ---- syncs
 

@@ -34,15 +34,27 @@ impl From<WriteFault> for SessionFault {
     }
 }
 
-/// Why a store refused a request.
+/// Why a store did not do a request.
 #[derive(Clone, Copy, Debug, PartialEq, Eq, Error)]
 pub enum StoreFault {
     /// The disk refused it.
     #[error("the disk refused a request: {0}")]
     Disk(DiskFault),
-    /// It was done, but the medium failed to keep it.
-    #[error("what was written could not be made durable")]
+    /// The medium failed. After a sync, what was written before may not be durable. After any other call nothing was
+    /// done.
+    #[error("the medium failed")]
     Medium,
+}
+
+impl From<DiskFault> for StoreFault {
+    ghost use Rattle.std.specs.Prelude.{◌≡◌};
+    ghost use Rattle.nbd_session.specs.declared.fault.StoreFault.TheVariants.{Disk};
+
+    ghost from_gives = { λ error fault. fault ≡ Disk error };
+
+    fn from(error: DiskFault) -> StoreFault {
+        StoreFault::Disk(error)
+    }
 }
 
 /// A medium failed to keep what was written.

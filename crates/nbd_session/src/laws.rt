@@ -1,7 +1,7 @@
 //! What a client may rely on. Each function carries a law as its contract, and changes nothing.
 
-ghost use Rattle.nbd_session.specs.Laws.{FlushIsSafe, ForcedIsDurable, LeftIsFound, ReadOnlyKeepsArray};
-ghost use Rattle.nbd_session.specs.Laws.{SessionKeepsMode, SessionKeepsSafe};
+ghost use Rattle.nbd_session.specs.Laws.{AnsweredByDisk, FailedIsUndone, FlushIsSafe, ForcedIsDurable, LeftIsFound};
+ghost use Rattle.nbd_session.specs.Laws.{ReadOnlyKeepsArray, SessionKeepsMode, SessionKeepsSafe};
 
 /// After a FLUSH that is answered by success the array was synced, and is found again after a loss of power. After a
 /// write with FUA that is so of the blocks that it named and, if nothing is pending, of the whole array.
@@ -9,13 +9,20 @@ pub fn forced_is_durable()
     ensures { ForcedIsDurable }
 {}
 
+/// A request that is answered by EIO, and had not to be durable, was not done and shows nothing. Only a store that
+/// fails answers so: what is asked of any other store is answered by its disk.
+pub fn failed_is_undone()
+    ensures undone { FailedIsUndone }
+    ensures answered { AnsweredByDisk }
+{}
+
 /// A session of a store that is read only leaves its array as it was.
 pub fn read_only_keeps_array()
     ensures { ReadOnlyKeepsArray }
 {}
 
-/// A session forgets no sync, and its store stays read only, cleans, flushes and defers as it did before. One that
-/// does not defer has nothing pending afterwards.
+/// A session forgets no sync, and its store stays read only, cleans, flushes, defers and fails as it did before. One
+/// that does not defer has nothing pending afterwards.
 pub fn session_keeps_mode()
     ensures { SessionKeepsMode }
 {}

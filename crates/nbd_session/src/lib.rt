@@ -1,7 +1,8 @@
 //! A disk that is served by the Network Block Device protocol: the fixed newstyle handshake, and simple replies.
 //!
 //! [`serve`] answers each message of one client, in order, until the client ends. What it serves is any [`Store`]; a
-//! [`ServedDisk`] is one, a disk and the medium that keeps its drive.
+//! [`ServedDisk`] is one, a disk and the medium that keeps its drive. A [`FailingStore`] is another store, whose medium
+//! fails by chance.
 //!
 //! ```text
 //! let mut store = ServedDisk::new(disk, medium);
@@ -37,6 +38,9 @@
 //!   other medium's word stands for it.
 //! * After each request a store that cleans ([`ServedDisk::cleaning`]) takes one turn of cleaning. That changes no
 //!   block, and adds no array that a loss of power may leave. Any other store does nothing then.
+//! * Where the medium fails the request is answered by `EIO`. Nothing is done then, and nothing shown, unless the
+//!   request was to be durable: then its sync may have failed (`laws::failed_is_undone`). The medium of a
+//!   [`ServedDisk`] fails only in a sync. [`FailingStore`] is a store whose medium fails by chance, for tests.
 //! * The client is told whether a store is read only ([`ServedDisk::reading`]). If so, a WRITE, a TRIM and a
 //!   WRITE_ZEROES are refused by `EPERM`, no other request is refused for it, and no turn is taken. The array stays as
 //!   it is, whatever the client sends (`laws::read_only_keeps_array`).
@@ -61,6 +65,7 @@
 
 mod asked;
 mod client;
+mod failing;
 mod fault;
 pub mod laws;
 mod medium;
@@ -76,10 +81,11 @@ mod store;
 
 pub use asked::{Asked, MOST_BYTES};
 pub use client::Client;
+pub use failing::FailingStore;
 pub use fault::{MediumFault, SessionFault, StoreFault};
 pub use medium::{DriveFlush, Medium, SyncCount, WriteThrough};
 pub use option_answer::OptionAnswer;
 pub use phase::Phase;
 pub use served_disk::ServedDisk;
 pub use serving::serve;
-pub use store::Store;
+pub use store::{Store, is_known};

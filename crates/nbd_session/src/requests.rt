@@ -53,18 +53,18 @@ fn secure<S: Store>(store: &mut S, wanted: Asked, count: u32) -> Result<(), Stor
     }
 }
 
-/// Syncs what was done, where it has to be durable before the reply.
+/// Syncs what was done, where it has to be durable before the reply. A fault stays.
 fn force<S: Store>(
     store: &mut S,
     forced: bool,
     wanted: Asked,
     count: u32,
-    done: Result<(), DiskFault>,
+    done: Result<(), StoreFault>,
 ) -> Result<(), StoreFault>
     ensures { Forces forced wanted count (S.view store.old) done result (S.view store.new) }
 {
     match done {
-        Err(fault) => Err(StoreFault::Disk(fault)),
+        Err(fault) => Err(fault),
         Ok(()) if forced => secure(store, wanted, count),
         Ok(()) => Ok(()),
     }
@@ -77,7 +77,7 @@ fn write_data<R: Read, S: Store>(
     held: &mut Vec<u8>,
     first: u64,
     count: usize,
-) -> Result<Result<(), DiskFault>, SessionFault>
+) -> Result<Result<(), StoreFault>, SessionFault>
     requires { Carries (S.view store.old).disk.drive.geometry.block (Asked.Write first) count }
     ensures { DoesOrNot (R.remaining reader.old) (R.remaining reader.new)
         (S.view store.old) (Asked.Write first) count [] result (S.view store.new) }
@@ -85,7 +85,7 @@ fn write_data<R: Read, S: Store>(
     if take_data(reader, held, count)? {
         return Ok(store.write(first, &held[..count]));
     }
-    Ok(Err(DiskFault::OutOfMemory))
+    Ok(Err(StoreFault::Disk(DiskFault::OutOfMemory)))
 }
 
 /// Does what a request asks for. `shown` holds the blocks of a READ that is done, and nothing else.
@@ -95,7 +95,7 @@ fn obey<R: Read, S: Store>(
     buffers: &mut Buffers,
     wanted: Asked,
     count: u32,
-) -> Result<Result<(), DiskFault>, SessionFault>
+) -> Result<Result<(), StoreFault>, SessionFault>
     requires { Carries (S.view store.old).disk.drive.geometry.block wanted count }
     ensures { DoesOrNot (R.remaining reader.old) (R.remaining reader.new)
         (S.view store.old) wanted count buffers.new.shown.items result (S.view store.new) }

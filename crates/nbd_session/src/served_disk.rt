@@ -120,7 +120,7 @@ impl<D: Device + Drop, M: Medium + Drop> ServedDisk<D, M> {
 }
 
 impl<D: Device + Drop, M: Medium + Drop> Store for ServedDisk<D, M> {
-    // Nothing is pending, and the syncs are those of its medium.
+    // Nothing is pending, and the syncs are those of its medium, which fails in no other call.
     ghost view = { λ s. store_of M.syncs M.flushes s };
 
     fn block_bytes(&self) -> u32 {
@@ -143,20 +143,24 @@ impl<D: Device + Drop, M: Medium + Drop> Store for ServedDisk<D, M> {
         self.read_only
     }
 
-    fn read(&mut self, first: u64, blocks: u64, into: &mut Vec<u8>) -> Result<(), DiskFault> {
-        self.disk.read(first, blocks, into)
+    fn read(&mut self, first: u64, blocks: u64, into: &mut Vec<u8>) -> Result<(), StoreFault> {
+        self.disk.read(first, blocks, into)?;
+        Ok(())
     }
 
-    fn write(&mut self, first: u64, bytes: &[u8]) -> Result<(), DiskFault> {
-        self.disk.write(first, bytes)
+    fn write(&mut self, first: u64, bytes: &[u8]) -> Result<(), StoreFault> {
+        self.disk.write(first, bytes)?;
+        Ok(())
     }
 
-    fn trim(&mut self, first: u64, blocks: u64) -> Result<(), DiskFault> {
-        self.disk.trim(first, blocks)
+    fn trim(&mut self, first: u64, blocks: u64) -> Result<(), StoreFault> {
+        self.disk.trim(first, blocks)?;
+        Ok(())
     }
 
-    fn write_zeroes(&mut self, first: u64, blocks: u64) -> Result<(), DiskFault> {
-        self.disk.fill(first, blocks, 0)
+    fn write_zeroes(&mut self, first: u64, blocks: u64) -> Result<(), StoreFault> {
+        self.disk.fill(first, blocks, 0)?;
+        Ok(())
     }
 
     fn sync(&mut self) -> Result<(), StoreFault> {

@@ -1,14 +1,15 @@
-ghost use Rattle.std.specs.Prelude.{◌≡◌, ◌*◌, ◌<◌, ◌^◌};
-ghost use Rattle.zone_translator.specs.Answers.{AreBlocksOf};
-ghost use Rattle.zone_translator.specs.Flat.{with_nothing};
+ghost use Rattle.std.specs.Prelude.{◌≡◌, ◌*◌, ◌<◌, ◌^◌, [], is_some, length};
+ghost use Rattle.zone_translator.specs.Answers.{AreBlocksOf, count_of_blocks};
+ghost use Rattle.zone_translator.specs.Flat.{known_range, with_nothing};
 ghost use Rattle.zone_translator.specs.View.{disk_size};
-ghost use Rattle.nbd_session.specs.Store.{ForcesBlocks, Rests, Shows, StoreView, Syncs, Trims, WritesBytes};
-ghost use Rattle.nbd_session.specs.Store.{WritesZeros};
+ghost use Rattle.nbd_session.specs.Store.{ForcesBlocks, OrFails, Rests, Shows, Spares, StoreView, Syncs, Trims};
+ghost use Rattle.nbd_session.specs.Store.{WritesBytes, WritesZeros, store_array, store_flat};
 
 use crate::fault::StoreFault;
-use zone_translator::{DiskFault, DiskStatus};
+use zone_translator::DiskStatus;
 
-/// A disk that can be synced. Blocks that were written may be pending above it until they are.
+/// A disk that can be synced. Blocks that were written may be pending above it until they are. If the medium failed in
+/// a read, a write or a trim, nothing was done.
 pub trait Store {
     /// The disk, the blocks that are pending above it, the arrays that a loss of power may leave, and how many syncs
     /// were completed.
@@ -19,10 +20,11 @@ pub trait Store {
         ensures size { result ≡ (view self.now).disk.drive.geometry.block }
         ensures some { 0 < result };
 
-    /// How many blocks there are. Their bytes can be counted in 64 bits.
+    /// How many blocks there are. Their bytes can be counted in 64 bits. So many has the array of a disk that serves.
     fn blocks(&self) -> u64
         ensures size { result ≡ disk_size (view self.now).disk }
-        ensures few { result * (view self.now).disk.drive.geometry.block < 2 ^ 64 };
+        ensures few { result * (view self.now).disk.drive.geometry.block < 2 ^ 64 }
+        ensures array { (view self.now).disk.status ≡ DiskStatus.Serving → length (store_array (view self.now)) ≡ result };
 
     /// Whether the disk serves calls, has answered `Stopped`, or has refused a remount.
     fn status(&self) -> DiskStatus
@@ -32,22 +34,30 @@ pub trait Store {
     fn is_read_only(&self) -> bool
         ensures { result ≡ (view self.now).read_only };
 
-    /// Shows `blocks` blocks from `first` on. `into` is empty after a refusal.
-    fn read(&mut self, first: u64, blocks: u64, into: &mut Vec<u8>) -> Result<(), DiskFault>
-        ensures { Shows (view self.old) first blocks result into.new.items (view self.new) };
+    /// Shows `blocks` blocks from `first` on. `into` is empty after a fault.
+    fn read(&mut self, first: u64, blocks: u64, into: &mut Vec<u8>) -> Result<(), StoreFault>
+        ensures { OrFails
+            (λ answer. Shows (view self.old) first blocks answer into.new.items (view self.new))
+            ((into.new.items ≡ []) × Spares (view self.old) first blocks (view self.new)) result };
 
-    /// Writes whole blocks from `first` on. After a refusal a front of them may be written.
-    fn write(&mut self, first: u64, bytes: &[u8]) -> Result<(), DiskFault>
+    /// Writes whole blocks from `first` on. After a refusal of the disk a front of them may be written.
+    fn write(&mut self, first: u64, bytes: &[u8]) -> Result<(), StoreFault>
         requires { AreBlocksOf (view self.old).disk bytes.now }
-        ensures { WritesBytes (view self.old) first bytes.now (with_nothing result) (view self.new) };
+        ensures { OrFails
+            (λ answer. WritesBytes (view self.old) first bytes.now (with_nothing answer) (view self.new))
+            (Spares (view self.old) first (count_of_blocks (view self.old).disk bytes.now) (view self.new)) result };
 
     /// Makes `blocks` blocks from `first` on zeros. That is recorded, and their data take no room.
-    fn trim(&mut self, first: u64, blocks: u64) -> Result<(), DiskFault>
-        ensures { Trims (view self.old) first blocks (with_nothing result) (view self.new) };
+    fn trim(&mut self, first: u64, blocks: u64) -> Result<(), StoreFault>
+        ensures { OrFails
+            (λ answer. Trims (view self.old) first blocks (with_nothing answer) (view self.new))
+            (Spares (view self.old) first blocks (view self.new)) result };
 
     /// Writes `blocks` blocks of zeros from `first` on. They take room, as other data do.
-    fn write_zeroes(&mut self, first: u64, blocks: u64) -> Result<(), DiskFault>
-        ensures { WritesZeros (view self.old) first blocks (with_nothing result) (view self.new) };
+    fn write_zeroes(&mut self, first: u64, blocks: u64) -> Result<(), StoreFault>
+        ensures { OrFails
+            (λ answer. WritesZeros (view self.old) first blocks (with_nothing answer) (view self.new))
+            (Spares (view self.old) first blocks (view self.new)) result };
 
     /// Makes the array durable: after a loss of power it is found again. Then nothing is pending.
     fn sync(&mut self) -> Result<(), StoreFault>
@@ -62,4 +72,16 @@ pub trait Store {
     /// and is not read only. The array stays.
     fn rest(&mut self)
         ensures { Rests (view self.old) (view self.new) };
+}
+
+/// Whether the answer to a call of these blocks is known before anything is done: it names no block or one past the
+/// end, or the disk does not serve.
+pub fn is_known<S: Store>(store: &S, first: u64, blocks: u64) -> bool
+    ensures { result ≡ is_some (known_range (store_flat (S.view store.now)) first blocks) }
+{
+    let size = store.blocks();
+    if blocks == 0 || blocks > size || first > size - blocks {
+        return true;
+    }
+    !matches!(store.status(), DiskStatus::Serving)
 }

@@ -29,6 +29,7 @@ returns-clause-serves g c =
         cleans = store.cleans;
         flushes = g.M.Medium.flushes store.medium;
         defers = false;
+        fails = false;
       };
       serves = served;
       pending = refl;

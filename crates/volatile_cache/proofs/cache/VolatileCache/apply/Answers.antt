@@ -1,0 +1,62 @@
+use Rattle.std.proofs.Common.{◌≡◌, ◌∙◌, ◌∷◌, [], ap, arith, refl, subst, sym, Some, None, Err}
+use Rattle.std.specs.Option.{option_copied}
+use Rattle.volatile_cache.proofs.ApplyLaws.{apply_done, apply_outcomes, apply_failed, failed_outcomes, oldest_is_of, others_are_of, wrote_are_of}
+use Rattle.volatile_cache.proofs.KeptLaws.{without-less, without-same}
+use Rattle.volatile_cache.specs.Cache.{Applies, Cache}
+use Rattle.volatile_cache.specs.Queue.{bytes_of, is_trim, oldest_of, without_oldest}
+use Rattle.volatile_cache.proofs.cache.VolatileCache.apply.Goals as goal
+
+pub returns-in_default-clause-ok : goal.returns-in_default-clause-ok
+returns-in_default-clause-ok g c =
+    let none : oldest_of c.args.place c.self.inside.queue ≡ None = sym c.oldest_of.ensures ∙ ap option_copied c.in_default.is in
+    rw (← c.self.view_is) (without-same c.args.place c.self.inside.queue none)
+
+pub put-requires : goal.put-requires
+put-requires g c =
+    let found : oldest_of c.args.place c.self.inside.queue ≡ Some c.in-Some.kept.now = sym c.oldest_of.ensures ∙ ap option_copied c.in-Some.is in
+    (oldest_is_of (g.S.Store.view c.self.inside.store) c.args.place c.self.inside.queue c.in-Some.kept.now found c.self.invariant.0).1
+
+pub invariant_of-self : goal.invariant_of-self
+invariant_of-self g c = (
+  wrote_are_of (is_trim c.in-Some.kept.now.content) (g.S.Store.view c.self.inside.store) (g.S.Store.view c.put.new.store) c.in-Some.kept.now.place c.in-Some.kept.now.place 1 (bytes_of c.in-Some.kept.now.content ∷ []) c.put.result c.self.inside.queue c.put.ensures c.self.invariant.0,
+  c.self.invariant.1,
+)
+
+pub returns-in-Err-clause-applies : goal.returns-in-Err-clause-applies
+returns-in-Err-clause-applies g c =
+    let found : oldest_of c.args.place c.self.inside.queue ≡ Some c.in-Some.kept.now = sym c.oldest_of.ensures ∙ ap option_copied c.in-Some.is in
+    let old : Cache g.row.S.Denot = record { store = c.self.inside.store; kept = c.self.inside.queue; most = c.self.inside.most } in
+    let new : Cache g.row.S.Denot = record { store = c.put.new.store; kept = c.self.inside.queue; most = c.self.inside.most } in
+    subst (λ (before : Cache g.row.S.Denot). Applies g.S.Store.view before (Err c.in-Err.fault) new) c.self.view_is
+    (apply_failed g.S.Store.view old new c.args.place c.in-Some.kept.now c.in-Err.fault found c.self.invariant.0 (rw c.in-Err.is at c.put.ensures) refl)
+
+pub returns-in-Err-clause-outcomes : goal.returns-in-Err-clause-outcomes
+returns-in-Err-clause-outcomes g c =
+    let found : oldest_of c.args.place c.self.inside.queue ≡ Some c.in-Some.kept.now = sym c.oldest_of.ensures ∙ ap option_copied c.in-Some.is in
+    rw (← c.self.view_is)
+    (failed_outcomes g.S.Store.view (record { store = c.self.inside.store; kept = c.self.inside.queue; most = c.self.inside.most }) (record { store = c.put.new.store; kept = c.self.inside.queue; most = c.self.inside.most })
+    c.args.place c.in-Some.kept.now c.in-Err.fault found c.self.invariant.0 (rw c.in-Err.is at c.put.ensures) refl)
+
+pub invariant_of-self-2 : goal.invariant_of-self-2
+invariant_of-self-2 g c =
+    let found : oldest_of c.args.place c.self.inside.queue ≡ Some c.in-Some.kept.now = sym c.oldest_of.ensures ∙ ap option_copied c.in-Some.is in
+    let less = without-less c.args.place c.self.inside.queue in
+    rw c.pop_oldest_of.ensures (
+      wrote_are_of (is_trim c.in-Some.kept.now.content) (g.S.Store.view c.self.inside.store) (g.S.Store.view c.put.new.store) c.in-Some.kept.now.place c.in-Some.kept.now.place 1 (bytes_of c.in-Some.kept.now.content ∷ []) c.put.result (without_oldest c.args.place c.self.inside.queue) c.put.ensures
+          (others_are_of (g.S.Store.view c.self.inside.store) c.args.place c.self.inside.queue c.in-Some.kept.now found c.self.invariant.0),
+      omega (arith, less, c.self.invariant.1),
+    )
+
+pub returns-clause-applies : goal.returns-clause-applies
+returns-clause-applies g c =
+    let found : oldest_of c.args.place c.self.inside.queue ≡ Some c.in-Some.kept.now = sym c.oldest_of.ensures ∙ ap option_copied c.in-Some.is in
+    rw (← c.self.view_is)
+    (apply_done g.S.Store.view (record { store = c.self.inside.store; kept = c.self.inside.queue; most = c.self.inside.most }) (record { store = c.put.new.store; kept = c.pop_oldest_of.new.self; most = c.self.inside.most })
+    c.args.place c.in-Some.kept.now found c.self.invariant.0 (rw c.in_default-put.is at c.put.ensures) c.pop_oldest_of.ensures)
+
+pub returns-clause-outcomes : goal.returns-clause-outcomes
+returns-clause-outcomes g c =
+    let found : oldest_of c.args.place c.self.inside.queue ≡ Some c.in-Some.kept.now = sym c.oldest_of.ensures ∙ ap option_copied c.in-Some.is in
+    rw (← c.self.view_is)
+    (apply_outcomes g.S.Store.view (record { store = c.self.inside.store; kept = c.self.inside.queue; most = c.self.inside.most }) (record { store = c.put.new.store; kept = c.pop_oldest_of.new.self; most = c.self.inside.most })
+    c.args.place c.in-Some.kept.now found c.self.invariant.0 (rw c.in_default-put.is at c.put.ensures) c.pop_oldest_of.ensures)

@@ -1,0 +1,38 @@
+use Rattle.std.proofs.Common.{ap, length, rules, Some, Ok, Err}
+use Rattle.volatile_cache.proofs.ApplyLaws.{applies_again, applies_same}
+use Rattle.volatile_cache.proofs.KeptLaws.{apart-all, apart-before, without-length}
+use Rattle.volatile_cache.specs.Queue.{IsFirstPlace}
+use Rattle.volatile_cache.proofs.cache.VolatileCache.apply_within.Goals as goal
+
+pub loop-place-init : goal.loop-place-init
+loop-place-init g c = applies_same g.S.Store.view c.args.self.now
+
+pub returns-then-place-first-clause-applies : goal.returns-then-place-first-clause-applies
+returns-then-place-first-clause-applies g c = c.loop-place.invariant
+
+pub returns-then-place-first-clause-apart : goal.returns-then-place-first-clause-apart
+returns-then-place-first-clause-apart g c =
+    rw (← c.self.view_is) (apart-before c.args.first c.args.blocks c.in-Some.place c.self.inside.queue (rw c.in-Some.is at c.place_from.ensures) c.if-place-first.true)
+
+pub returns-in-Err-clause-applies : goal.returns-in-Err-clause-applies
+returns-in-Err-clause-applies g c =
+    applies_again g.S.Store.view c.args.self.now c.loop-place.self c.apply.new.self (Err c.in-Err.fault) c.loop-place.invariant (rw c.in-Err.is at c.apply.ensures.applies)
+
+pub loop-place-smaller : goal.loop-place-smaller
+loop-place-smaller g c =
+    let found : IsFirstPlace c.args.first c.self.inside.queue (Some c.in-Some.place) = rw c.in-Some.is at c.place_from.ensures in
+    let fewer = without-length c.in-Some.place c.self.inside.queue found.1 in
+    let left = ap length (rw c.in_default-apply.is at c.apply.ensures.ok) in
+    let before = ap (λ k. length k.kept) c.self.view_is in
+    search rules
+
+pub loop-place-preserved : goal.loop-place-preserved
+loop-place-preserved g c =
+    applies_again g.S.Store.view c.args.self.now c.loop-place.self c.apply.new.self (Ok tt) c.loop-place.invariant (rw c.in_default-apply.is at c.apply.ensures.applies)
+
+pub returns-clause-applies : goal.returns-clause-applies
+returns-clause-applies g c = c.loop-place.invariant
+
+pub returns-clause-apart : goal.returns-clause-apart
+returns-clause-apart g c =
+    rw (← c.self.view_is) (apart-all c.args.first c.args.blocks c.self.inside.queue (rw c.in_default.is at c.place_from.ensures))

@@ -1,0 +1,12 @@
+use Rattle.std.proofs.Common.{rules}
+use Rattle.volatile_cache.proofs.IndexLaws.{is-least, none-least, other-least}
+use Rattle.volatile_cache.proofs.queue.oldest_number.Goals as goal
+
+pub returns-in_err-found-clause-none : goal.returns-in_err-found-clause-none
+returns-in_err-found-clause-none c = rw c.from_residual.ensures (none-least c.args.places.now c.args.place c.range.result c.in_err-found.ensures.steps.0 (c.range.ensures.in_range tt))
+
+pub returns-then-found-place-clause-none : goal.returns-then-found-place-clause-none
+returns-then-found-place-clause-none c = other-least c.args.places.now c.args.place c.in_ok-found.field-0.now c.next.new.self c.range.result c.in_ok-found.ensures.steps (search rules) (c.range.ensures.in_range tt)
+
+pub returns-clause-some : goal.returns-clause-some
+returns-clause-some c = is-least c.args.places.now c.args.place c.in_ok-found.field-0.now c.next.new.self c.range.result c.in_ok-found.ensures.steps c.if-found-place.false (c.range.ensures.in_range tt)

@@ -1,0 +1,4 @@
+pub mod Outcomes
+pub mod Queue
+pub mod Cache
+pub mod Laws
