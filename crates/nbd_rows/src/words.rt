@@ -4,21 +4,42 @@ use crate::fault::RowsFault;
 use crate::run::Setting;
 use std::alloc::Global;
 
+/// Which number of a setting a word is.
+#[derive(Clone, Copy)]
+enum Number {
+    Stop,
+    Seed,
+    Odds,
+}
+
+/// Puts a number into a setting.
+fn put_number(setting: &mut Setting, number: Number, word: &str) -> Result<(), RowsFault> {
+    match number {
+        Number::Stop => setting.stop_after = word.parse::<u64>().or(Err(RowsFault::Words))?,
+        Number::Seed => setting.seed = word.parse::<u64>().or(Err(RowsFault::Words))?,
+        Number::Odds => setting.odds = word.parse::<u32>().or(Err(RowsFault::Words))?,
+    }
+    Ok(())
+}
+
 /// The setting that the words after `session` give, of which the first is a name.
 pub fn setting_of(words: &str) -> Result<Setting, RowsFault> {
     let mut setting = Setting::plain();
-    let mut before = "";
+    let mut number = None;
     for word in words.split(' ').skip(1) {
-        match (before, word) {
-            ("stop", _) => setting.stop_after = word.parse::<u64>().or(Err(RowsFault::Words))?,
-            ("seed", _) => setting.seed = word.parse::<u64>().or(Err(RowsFault::Words))?,
-            ("odds", _) => setting.odds = word.parse::<u32>().or(Err(RowsFault::Words))?,
-            (_, "wide") => setting.block = 4096,
-            (_, "worn") => setting.is_worn = true,
-            (_, "stop" | "seed" | "odds") => {}
+        if let Some(which) = number {
+            put_number(&mut setting, which, word)?;
+            number = None;
+            continue;
+        }
+        match word {
+            "wide" => setting.block = 4096,
+            "worn" => setting.is_worn = true,
+            "stop" => number = Some(Number::Stop),
+            "seed" => number = Some(Number::Seed),
+            "odds" => number = Some(Number::Odds),
             _ => return Err(RowsFault::Words),
         }
-        before = word;
     }
     Ok(setting)
 }
