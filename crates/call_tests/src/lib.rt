@@ -14,8 +14,6 @@ mod chance;
 #[cfg(test)]
 mod counts;
 #[cfg(test)]
-mod failing;
-#[cfg(test)]
 mod fakes;
 #[cfg(test)]
 mod images;
