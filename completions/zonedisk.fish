@@ -47,6 +47,9 @@ complete -c zonedisk -n '__fish_seen_subcommand_from nvme' -l explain -d 'Says w
 complete -c zonedisk -n '__fish_seen_subcommand_from run nbd nvme fresh fresh-raw' -l habit -x -a 'lazy closing strict' -d 'Which zones the drive closes by itself'
 complete -c zonedisk -n '__fish_seen_subcommand_from run nbd fresh' -l stop-after -x -d 'Stops the drive after so many commands'
 complete -c zonedisk -n '__fish_seen_subcommand_from run nbd fresh' -l tear -x -d 'Writes so many blocks of the Append at the stop'
+complete -c zonedisk -n '__fish_seen_subcommand_from nbd' -l forget -x -d 'Lets the disk forget what is not synced, by this seed'
+complete -c zonedisk -n '__fish_seen_subcommand_from nbd' -l odds -x -d 'Percent of the pending blocks that a power cut loses'
+complete -c zonedisk -n '__fish_seen_subcommand_from nbd' -l cut-after -x -d 'Cuts the power after so many requests'
 
 # What is shown.
 complete -c zonedisk -n '__fish_seen_subcommand_from report entry' -l state -x -a 'Empty ImplicitlyOpened ExplicitlyOpened Closed ReadOnly Full Offline' -d 'Zones in this state'

@@ -140,7 +140,7 @@ fn reads_the_words(rt: HostRuntime) -> Result<(), Fail> {
 }
 
 // Which other words are refused, and how.
-const OTHER_WORDS: [(&str, Option<ErrorKind>); 22] = [
+const OTHER_WORDS: [(&str, Option<ErrorKind>); 28] = [
     ("zonedisk run --zones --blocks=9 --image=a/b", None),
     (
         "zonedisk run --image b --blocks 9 --statistics --zones",
@@ -155,6 +155,27 @@ const OTHER_WORDS: [(&str, Option<ErrorKind>); 22] = [
     (
         "zonedisk nbd --image b --blocks +9",
         Some(ErrorKind::ValueValidation),
+    ),
+    ("zonedisk nbd --image b --forget 7", None),
+    (
+        "zonedisk nbd --image b --cut-after 120 --odds 100 --forget 7 --stop-after 9",
+        None,
+    ),
+    (
+        "zonedisk nbd --image b --forget 7 --odds 101",
+        Some(ErrorKind::ValueValidation),
+    ),
+    (
+        "zonedisk nbd --image b --forget 7 --read-only",
+        Some(ErrorKind::ArgumentConflict),
+    ),
+    (
+        "zonedisk nbd --image b --odds 30",
+        Some(ErrorKind::MissingRequiredArgument),
+    ),
+    (
+        "zonedisk nbd --image b --cut-after 120",
+        Some(ErrorKind::MissingRequiredArgument),
     ),
     ("zonedisk nvme --habit=closing --image b --explain", None),
     ("zonedisk", Some(ErrorKind::MissingSubcommand)),

@@ -1,17 +1,31 @@
 -- The jobs whose drive is in a file, or behind a device.
-use Rattle.std.specs.Prelude.{◌≡◌, List, Some, codes, string_bytes}
+use Rattle.std.specs.Prelude.{◌≡◌, ℕ, true, false, List, [], ◌∷◌, Option, Some, None, codes, min, string_bytes}
 use Rattle.clap.specs.Words.{Row, Text, first_of}
 use Rattle.copy_jobs.specs.declared.job.CopyJob.{CopyJob}
 use Rattle.copy_jobs.specs.declared.job.CopyJob.TheVariants as copies
 use Rattle.device_jobs.specs.declared.job.ConvertJob.{ConvertJob}
+use Rattle.nbd_jobs.specs.declared.job.Forget.{Forget}
 use Rattle.nbd_jobs.specs.declared.job.NbdJob.{NbdJob}
 use Rattle.command_line.specs.declared.place.Place.{Place}
-use Rattle.command_line.specs.Values.{HasDrive, HasFlag, HasHabit, HasImage, HasNumberIf, HasNumberOr, HasStop}
+use Rattle.command_line.specs.Values.{HasDrive, HasFlag, HasHabit, HasImage, HasNumber, HasNumberIf, HasNumberOr, HasStop, is_set, lacks_all}
+
+-- How a disk forgets that is not read only. More than 100 of 100 blocks are not lost.
+pub record HasForgetting (rows : List Row) (forget : Forget) : Type 0 where
+  pub written : is_set rows (codes "read-only") ≡ false
+  pub seed : HasNumber 64 rows (codes "forget") forget.seed
+  pub odds : (n : ℕ) × HasNumberOr 50 rows (codes "odds") n × (forget.odds ≡ min n 100)
+  pub cut_after : HasNumberIf rows (codes "cut-after") forget.cut_after
+
+-- whether a disk forgets: not, if none of these options was given
+abbrev pub HasForget : List Row → Option Forget → Type 0
+HasForget rows (Some forget) = HasForgetting rows forget
+HasForget rows None = lacks_all rows (codes "forget" ∷ codes "odds" ∷ codes "cut-after" ∷ []) ≡ true
 
 pub record AsksForNbd (place : Place) (rows : List Row) (job : NbdJob) : Type 0 where
   pub path : HasDrive place rows (string_bytes job.image)
   pub blocks : HasNumberIf rows (codes "blocks") job.blocks
   pub stop : HasStop rows job.stop
+  pub forget : HasForget rows job.forget
   pub habit : HasHabit rows job.habit
   pub statistics : HasFlag rows (codes "statistics") job.statistics
   pub idle : HasFlag rows (codes "idle") job.idle

@@ -63,6 +63,15 @@ parts needed = shape needed ++ limits needed
 abbrev pub stops : List Rule
 stops = optional (number (codes "stop-after") below_2_63) ∷ optional (number (codes "tear") below_2_63) ∷ []
 
+-- a percentage
+abbrev pub percent : ValueParser
+percent = parsers.Unsigned 0 100
+
+-- how a disk forgets
+abbrev pub forgets : List Rule
+forgets =
+    optional (number (codes "forget") below_2_63) ∷ optional (number (codes "odds") percent) ∷ optional (number (codes "cut-after") below_2_63) ∷ []
+
 -- what a plan is for
 abbrev pub aims : List Rule
 aims = optional blocks ∷ optional (number (codes "share") below_2_63) ∷ optional (number (codes "amplification") below_2_63) ∷ []
@@ -118,7 +127,7 @@ nvme names = with_options (codes "nvme") (image ∷ device ∷ flag (codes "expl
 
 abbrev pub nbd : Bor (List (Bor Text)) → Shape
 nbd names = with_options (codes "nbd")
-    (image ∷ device ∷ optional blocks ∷ flag (codes "statistics") ∷ flag (codes "idle") ∷ flag (codes "read-only") ∷ habit names ∷ stops)
+    (image ∷ device ∷ optional blocks ∷ flag (codes "statistics") ∷ flag (codes "idle") ∷ flag (codes "read-only") ∷ habit names ∷ stops ++ forgets)
 
 abbrev pub export_words : Shape
 export_words = with_options (codes "export")

@@ -2,9 +2,9 @@ ghost use Rattle.std.specs.Prelude.{◌≡◌, [], ◌∷◌, ◌++◌, false, I
 ghost use Rattle.clap.specs.Words.{Shape, app_of, rule_of};
 ghost use Rattle.command_line.specs.Program.{AddsOptions, AddsSubcommand, IsCommand, aims, below_2_63};
 ghost use Rattle.command_line.specs.Program.{blocks, check_words, convert_words, device, entry, entry_numbers, export_words, flag};
-ghost use Rattle.command_line.specs.Program.{format, fresh_raw, fresh_words, given_first, habit, image};
+ghost use Rattle.command_line.specs.Program.{forgets, format, fresh_raw, fresh_words, given_first, habit, image};
 ghost use Rattle.command_line.specs.Program.{import_words, info_words, limits, nbd, number, nvme, optional};
-ghost use Rattle.command_line.specs.Program.{part, parts, plan_words, program, report_words, run, shape, stops};
+ghost use Rattle.command_line.specs.Program.{part, parts, percent, plan_words, program, report_words, run, shape, stops};
 ghost use Rattle.command_line.specs.Program.{valued};
 
 use clap::builder::ValueParser;
@@ -28,7 +28,11 @@ const RUN_EXAMPLE: &str = "Examples:
 
 const NBD_EXAMPLE: &str = "Examples:
   nbdfuse disk --command zonedisk nbd --image my.drive --blocks 9
-  nbdfuse disk --command zonedisk nbd --device /dev/ng0n1 --blocks 196608";
+  nbdfuse disk --command zonedisk nbd --device /dev/ng0n1 --blocks 196608
+  nbdfuse disk --command zonedisk nbd --image my.drive --forget 7 --cut-after 120
+
+A drive that stops, by --stop-after, keeps each write that was answered. A disk that forgets, by --forget, keeps what
+was synced, and loses some of the rest at a power cut.";
 
 const EXPORT_EXAMPLE: &str = "Example:
   zonedisk export --image my.drive > my.blocks";
@@ -253,6 +257,36 @@ fn stop_options<'a>(alloc: Global, command: Command<'a>) -> Result<Command<'a>, 
         .arg(count_option(alloc, "tear", "J", tear))
 }
 
+/// An option that takes a percentage, and may be left out.
+fn percent_option<'a>(alloc: Global, name: &'a str, help: &'a str) -> Arg<'a>
+    ensures rule { rule_of result ≡ optional (number name.entry.now percent) }
+    ensures local { result.global ≡ false }
+{
+    number_option(alloc, name, "PERCENT", help, percent_parser()).required(false)
+}
+
+/// What takes a percentage.
+fn percent_parser<'a>() -> ValueParser<'a>
+    ensures { result ≡ percent }
+{
+    value_parser!(u64).range(0..=100)
+}
+
+/// How a disk forgets.
+fn forget_options<'a>(alloc: Global, command: Command<'a>) -> Result<Command<'a>, AllocError>
+    ensures { IfOk result (λ new. AddsOptions forgets command.entry new) }
+{
+    let forget =
+        "Keeps what is not synced in a cache, and loses some of it at a power cut, as the seed chooses";
+    let odds = "Of 100 such blocks about so many are lost: 0 to 100; 50 without it";
+    let cut_after =
+        "Cuts the power after K requests, and else where the client is gone without a disconnect";
+    command
+        .arg(count_option(alloc, "forget", "SEED", forget))?
+        .arg(percent_option(alloc, "odds", odds))?
+        .arg(count_option(alloc, "cut-after", "K", cut_after))
+}
+
 /// The names of the habits of a drive.
 pub const HABITS: [&str; 3] = ["lazy", "closing", "strict"];
 
@@ -322,7 +356,8 @@ fn nbd_command<'a>(alloc: Global, habits: &'a [&'a str]) -> Result<Command<'a>, 
         .arg(flag(alloc, "idle", idle))?
         .arg(flag(alloc, "read-only", READ_ONLY_HELP))?
         .arg(habit_option(alloc, habits))?;
-    stop_options(alloc, command)
+    let command = stop_options(alloc, command)?;
+    forget_options(alloc, command)
 }
 
 const PROGRESS_HELP: &str = "Shows on standard error how far it is";

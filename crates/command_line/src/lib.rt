@@ -34,6 +34,7 @@
 mod command;
 mod devices;
 mod entries;
+mod forgetting;
 mod place;
 mod refusal;
 mod task;

@@ -87,6 +87,14 @@ impl Asked<'_, '_> {
         let text = format!(in self.alloc; "the option '--{one}' cannot be used with '--{other}'")?;
         self.refused(ErrorKind::ArgumentConflict, &text)
     }
+
+    /// That an option was given without another, which it belongs to.
+    fn needs(self, one: &str, other: &str) -> Result<Error, AllocError> {
+        let text = format!(in self.alloc;
+            "the option '--{one}' belongs to '--{other}', which is not given"
+        )?;
+        self.refused(ErrorKind::MissingRequiredArgument, &text)
+    }
 }
 
 /// What was asked by these words.
@@ -117,6 +125,7 @@ pub fn refusal(
         WordFault::Command => asked.other_value("command", "<COMMAND>", COMMANDS),
         WordFault::Bytes => asked.wrong_value("data", PAIRS),
         WordFault::Both(one, other) => asked.has_both(one, other),
+        WordFault::Needs(one, other) => asked.needs(one, other),
         WordFault::Memory => Err(AllocError),
     }
 }

@@ -1,11 +1,12 @@
 -- What makes durable what a drive has completed.
-use Rattle.std.specs.Prelude.{◌≡◌, ℕ, ◌<◌, ◌≤◌, Bool, true, false, Result, Ok, Err}
+use Rattle.std.specs.Prelude.{◌≡◌, ℕ, ◌<◌, ◌≤◌, Bool, true, false, Option, Result, Ok, Err}
 use Rattle.drive_port.specs.Answering.{FlushAnswers}
 use Rattle.drive_port.specs.Drive.{DriveState}
 use Rattle.drive_port.specs.declared.calls.PortFault.{PortFault}
 use Rattle.mounted_disks.specs.Stop.{stopping}
 use Rattle.nbd_jobs.specs.Serving.{ServesStopping, SyncsDone}
 use Rattle.nbd_jobs.specs.declared.fault.NbdFault.{NbdFault}
+use Rattle.nbd_jobs.specs.declared.forgetting.Forgotten.{Forgotten}
 use Rattle.nbd_jobs.specs.declared.job.NbdJob.{NbdJob}
 use Rattle.nbd_session.specs.Streams.{Streams}
 use Rattle.device_jobs.specs.declared.hardening.HardenFault.{HardenFault}
@@ -28,9 +29,10 @@ Hardens flushes syncs old (Ok done) new = FlushesBy flushes old (Ok tt) new × (
 Hardens flushes syncs old (Err (faults.Drive fault)) new = FlushesBy flushes old (Err fault) new × (syncs.after ≡ syncs.before)
 Hardens flushes syncs old (Err faults.Medium) new = FlushesBy flushes old (Ok tt) new × (syncs.before ≤ syncs.after)
 
--- A session is served over a device, read only if the job says so. Then the drive is flushed where a sync of its medium is that.
+-- A session is served over a device, read only if the job says so, and what was forgotten is told. Then the drive is flushed where a sync of its
+-- medium is that.
 pub record ServesAndFlushes (job : NbdJob) (bytes : Streams) (syncs : SyncsDone) (old : DriveState)
-    (ended : Result (Unit {0}) NbdFault) (flushed : Result (Unit {0}) PortFault) (new : DriveState) : Type 0 where
+    (ended : Result (Unit {0}) NbdFault) (told : Option Forgotten) (flushed : Result (Unit {0}) PortFault) (new : DriveState) : Type 0 where
   pub left : DriveState
-  pub serves : ServesStopping job.read_only job bytes syncs (stopping job.stop old) ended left
+  pub serves : ServesStopping job.read_only job bytes syncs (stopping job.stop old) ended told left
   pub flushes : FlushesBy syncs.flushes left flushed new

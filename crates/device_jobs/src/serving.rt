@@ -11,7 +11,9 @@ use crate::hardening::flush_if;
 use drive_port::{Device, PortFault};
 use kept_drives::KeepFault;
 use mounted_disks::DiskSize;
-use nbd_jobs::{BUFFER, Ended, Kept, NbdFault, NbdJob, are_sent, sent_end, serve_stopping};
+use nbd_jobs::{
+    BUFFER, Ended, Forgotten, Kept, NbdFault, NbdJob, are_sent, sent_end, serve_stopping,
+};
 use nbd_session::{Client, Medium};
 use std::alloc::Global;
 use std::io::{BufReader, BufWriter, Read, Write};
@@ -25,6 +27,8 @@ pub struct Served {
     pub statistics: Option<String>,
     /// The disk that was served, if it was mounted.
     pub disk: Option<DiskSize>,
+    /// What was forgotten, if the disk forgets and was served.
+    pub forgotten: Option<Forgotten>,
     /// Whether the drive was flushed at the end, if that is what a sync of its medium is.
     pub flushed: Result<(), PortFault>,
 }
@@ -46,7 +50,7 @@ pub fn serve_device<D: Device + Drop, M: Medium + Drop, R: Client, W: Write>(
           after = M.syncs result.medium;
           flushes = M.flushes medium;
         })
-        (stopping job.now.stop (D.drive device)) result.result (D.drive result.device) }
+        (stopping job.now.stop (D.drive device)) result.result result.forgotten (D.drive result.device) }
     ensures tells { TellsSession job.now (drive_of (stopping job.now.stop (D.drive device))) result.result
         (is_some result.statistics) result.disk }
 {
@@ -82,7 +86,7 @@ pub fn serve_flushed<D: Device + Drop, M: Medium + Drop, R: Client, W: Write>(
           after = M.syncs result.ended.medium;
           flushes = M.flushes medium;
         })
-        (D.drive device) result.ended.result result.flushed (D.drive result.ended.device) }
+        (D.drive device) result.ended.result result.ended.forgotten result.flushed (D.drive result.ended.device) }
     ensures tells { TellsSession job.now (drive_of (stopping job.now.stop (D.drive device))) result.ended.result
         (is_some result.ended.statistics) result.ended.disk }
 {
@@ -109,6 +113,7 @@ pub fn serve_client<D: Device + Drop, M: Medium + Drop, R: Read + Drop, W: Write
             session: Err(NbdFault::File(KeepFault::Memory)),
             statistics: None,
             disk: None,
+            forgotten: None,
             flushed: Ok(()),
         };
     };
@@ -125,6 +130,7 @@ pub fn serve_client<D: Device + Drop, M: Medium + Drop, R: Read + Drop, W: Write
         session: sent_end(ended.result, sent),
         statistics: ended.statistics,
         disk: ended.disk,
+        forgotten: ended.forgotten,
         flushed,
     }
 }

@@ -22,14 +22,12 @@
 //!
 //! That `load` fails only where a call on the file failed: a body that always fails meets any contract.
 //!
-//! Tests: a drive with zones in six states, stored and loaded again; a file whose blocks cannot be read.
+//! Tests: in `call_tests`.
 #![tactic(auto)]
 
 mod copying;
 mod laws;
 mod loading;
-#[cfg(test)]
-mod tests;
 
 pub use copying::copy_zones;
 pub use laws::store_and_load;

@@ -34,7 +34,7 @@
 //! * That a `ReadAheadFile` makes few calls of the file within. A test counts them.
 //! * That a file of the system keeps this contract: `ports/linux` says what it rests on.
 //!
-//! Tests: in this crate.
+//! Tests: in `call_tests`.
 #![tactic(auto)]
 
 mod file;
@@ -44,8 +44,6 @@ mod read_ahead;
 mod read_only;
 mod run;
 mod stopping;
-#[cfg(test)]
-mod tests;
 
 pub use file::FileBytes;
 pub use memory::MemoryFile;

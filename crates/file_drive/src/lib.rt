@@ -62,7 +62,7 @@
 //! The head names the boot of the system that served the file last. An open in the same boot takes the live table. In
 //! another boot it takes the flushed one. Then it writes the live one anew before it names its own boot.
 //!
-//! Tests: in this crate.
+//! Tests: in `call_tests`.
 #![tactic(auto)]
 
 mod all;
@@ -84,8 +84,6 @@ mod releasing;
 mod serving;
 mod storing;
 mod tables;
-#[cfg(test)]
-mod tests;
 mod words;
 mod zones;
 

@@ -1,2 +1,3 @@
 mod SessionLaws
+mod ForgetLaws
 pub mod LossLaws

@@ -2,7 +2,10 @@
 use Rattle.std.proofs.Common.{◌≡◌, ℕ, true, false, List, [], Option, Some, None, Result, Ok, Err, refl, ap, ◌∙◌}
 use Rattle.std.specs.Prelude.{Bool, MatchOption}
 use Rattle.drive_port.specs.Drive.{DriveState}
+use Rattle.nbd_session.specs.Served.{since_of}
+use Rattle.nbd_session.specs.Store.{StoreView}
 use Rattle.nbd_session.specs.Streams.{Streams}
+use Rattle.nbd_session.proofs.ModeLaws.{session-grows}
 use Rattle.nbd_session.specs.declared.fault.SessionFault.{SessionFault}
 use Rattle.drive_array.specs.Mountable.{IsMountable}
 use Rattle.zone_translator.specs.Answers.{Answers}
@@ -13,32 +16,13 @@ use Rattle.mounted_disks.specs.DiskSize.{size_of}
 use Rattle.mounted_disks.specs.Mounted.{IsServed}
 use Rattle.mounted_disks.specs.declared.disk_size.DiskSize.{DiskSize}
 use Rattle.nbd_jobs.specs.Begun.{BeginsBy, IsBegun, IsNotBegun}
-use Rattle.nbd_jobs.specs.Serving.{IsUnserved, ReadsDrive, ReadsFile, ServesDrive, ServesNothing, ServesSession, SyncsDone, TellsSession, session_end}
+use Rattle.nbd_jobs.specs.Forgetting.{ServesStore}
+use Rattle.nbd_jobs.specs.Serving.{IsUnserved, ReadsDrive, ReadsFile, ServesBy, ServesDrive, ServesNothing, SyncsDone, TellsSession, served_at, session_end}
 use Rattle.nbd_jobs.specs.declared.fault.NbdFault.{NbdFault}
 use Rattle.nbd_jobs.specs.declared.fault.NbdFault.TheVariants.{File, Mount, Session, Unflushed}
+use Rattle.nbd_jobs.specs.declared.forgetting.Forgotten.{Forgotten}
+use Rattle.nbd_jobs.specs.declared.job.Forget.{Forget}
 use Rattle.nbd_jobs.specs.declared.job.NbdJob.{NbdJob}
-
--- a session that was served is one of the drive, whatever ended it
-pub session-served : (read_only : Bool) (job : NbdJob) (bytes : Streams) (syncs : SyncsDone) (old : DriveState) (ended : Result (Unit {0}) SessionFault) (new : DriveState)
-    → ServesSession read_only job bytes syncs old ended new → ServesDrive read_only job bytes syncs old (session_end ended) new
-session-served read_only job bytes syncs old (Ok done) new s = s
-session-served read_only job bytes syncs old (Err fault) new s = s
-
--- where no session begins, no message is read
-pub none-served : (read_only : Bool) (job : NbdJob) (bytes : Streams) (syncs : SyncsDone) (old back : DriveState) (fault : NbdFault) → IsNotBegun syncs.flushes old job.blocks fault back → ServesNothing bytes syncs
-    → ServesDrive read_only job bytes syncs old (Err fault) back
-none-served read_only job bytes syncs old back (Mount fault) refused nothing = (refused, nothing)
-none-served read_only job bytes syncs old back (Unflushed fault) refused nothing = (refused, nothing)
-none-served read_only job bytes syncs old back (Session fault) refused nothing = absurd refused
-none-served read_only job bytes syncs old back (File fault) refused nothing = (refused, nothing)
-
--- a drive that was read in the file has no fault of its image
-pub file-read : (job : NbdJob) (file : Option (List ℕ)) (bytes : Streams) (ended : Result (Unit {0}) NbdFault) → ReadsDrive job file bytes ended → ReadsFile job file bytes ended
-file-read job file bytes (Ok done) r = r
-file-read job file bytes (Err (Mount fault)) r = r
-file-read job file bytes (Err (Unflushed fault)) r = r
-file-read job file bytes (Err (Session fault)) r = r
-file-read job file bytes (Err (File fault)) r = absurd r.serves.serves.0
 
 -- ---- the disk with which a session begins
 
@@ -67,6 +51,79 @@ begins-flushed old blocks mounted first served a = record { mounted = mounted; s
 
 pub begins-plain : (old : DriveState) (blocks : Option ℕ) (mounted : DiskView) → IsServed old blocks mounted → IsBegun false old blocks mounted
 begins-plain old blocks mounted served = record { mounted = mounted; served = served; begins = refl }
+
+-- ---- a session
+
+-- what a session over a disk that defers nothing leaves
+pub record Ends (syncs : SyncsDone) (last : StoreView) (new : DriveState) : Type 0 where
+  pub pending : last.pending ≡ []
+  pub synced : syncs.after ≡ last.syncs
+  pub since : last.since ≡ since_of last.flushes last.disk
+  pub drive : new ≡ last.disk.drive
+
+since-flushed : (flushes flushed : Bool) (disk : DiskView) (since : List (List (List ℕ))) → flushed ≡ flushes → since ≡ since_of flushed disk → since ≡ since_of flushes disk
+since-flushed flushes flushed disk since same is = is ∙ ap (λ (flushes : Bool). since_of flushes disk) same
+
+by-told : (forget : Forget) (read_only : Bool) (job : NbdJob) (bytes : Streams) (syncs : SyncsDone) (old : DriveState) (first : DiskView) (ended : Result (Unit {0}) SessionFault) (told : Option Forgotten) (last : StoreView) (new : DriveState)
+    → IsBegun syncs.flushes old job.blocks first → ServesStore (Some forget) bytes (served_at read_only job.idle syncs first) ended told last → Ends syncs last new
+    → ServesBy (Some forget) read_only job bytes syncs old ended told new
+by-told forget read_only job bytes syncs old first ended None last new begun s ends = absurd s
+by-told forget read_only job bytes syncs old first ended (Some told) last new begun s ends = (
+  record {
+    first = first;
+    disk = begun;
+    last = last;
+    forgets = s.0;
+    pending = ends.pending;
+    synced = ends.synced;
+    since = since-flushed syncs.flushes last.flushes last.disk last.since s.0.mode.flushes ends.since;
+    keeps = s.0.kept.mounted (begun-mountable syncs.flushes old job.blocks first begun);
+    drive = ends.drive;
+  },
+  s.1,
+)
+
+-- a store that was served is a session of the drive
+pub store-served : (forget : Option Forget) (read_only : Bool) (job : NbdJob) (bytes : Streams) (syncs : SyncsDone) (old : DriveState) (first : DiskView) (ended : Result (Unit {0}) SessionFault) (told : Option Forgotten) (last : StoreView) (new : DriveState)
+    → IsBegun syncs.flushes old job.blocks first → ServesStore forget bytes (served_at read_only job.idle syncs first) ended told last → Ends syncs last new
+    → ServesBy forget read_only job bytes syncs old ended told new
+store-served None read_only job bytes syncs old first ended told last new begun s ends = (
+  record {
+    first = first;
+    disk = begun;
+    last = last;
+    serves = s.0;
+    pending = ends.pending;
+    synced = ends.synced;
+    since = since-flushed syncs.flushes last.flushes last.disk last.since (session-grows bytes _ ended last s.0).1.flushes ends.since;
+    keeps = s.1.mounted (begun-mountable syncs.flushes old job.blocks first begun);
+    drive = ends.drive;
+  },
+  s.2,
+)
+store-served (Some forget) read_only job bytes syncs old first ended told last new begun s ends = by-told forget read_only job bytes syncs old first ended told last new begun s ends
+
+-- a session that was served is one of the drive, whatever ended it
+pub session-served : (read_only : Bool) (job : NbdJob) (bytes : Streams) (syncs : SyncsDone) (old : DriveState) (ended : Result (Unit {0}) SessionFault) (told : Option Forgotten) (new : DriveState)
+    → ServesBy job.forget read_only job bytes syncs old ended told new → ServesDrive read_only job bytes syncs old (session_end ended) told new
+session-served read_only job bytes syncs old (Ok done) told new s = s
+session-served read_only job bytes syncs old (Err fault) told new s = s
+
+-- where no session begins, no message is read
+pub none-served : (read_only : Bool) (job : NbdJob) (bytes : Streams) (syncs : SyncsDone) (old back : DriveState) (fault : NbdFault) → IsNotBegun syncs.flushes old job.blocks fault back → ServesNothing bytes syncs
+    → ServesDrive read_only job bytes syncs old (Err fault) None back
+none-served read_only job bytes syncs old back (Mount fault) refused nothing = (refused, nothing, refl)
+none-served read_only job bytes syncs old back (Unflushed fault) refused nothing = (refused, nothing, refl)
+none-served read_only job bytes syncs old back (Session fault) refused nothing = absurd refused
+none-served read_only job bytes syncs old back (File fault) refused nothing = (refused, nothing, refl)
+
+-- a drive that was read in the file has no fault of its image
+pub file-read : (job : NbdJob) (file : Option (List ℕ)) (bytes : Streams) (ended : Result (Unit {0}) NbdFault) (told : Option Forgotten) → ReadsDrive job file bytes ended told → ReadsFile job file bytes ended told
+file-read job file bytes (Ok done) told r = r
+file-read job file bytes (Err (Mount fault)) told r = r
+file-read job file bytes (Err (Unflushed fault)) told r = r
+file-read job file bytes (Err (Session fault)) told r = r
+file-read job file bytes (Err (File fault)) told r = absurd r.serves.serves.0
 
 -- ---- what is told besides
 

@@ -1,14 +1,23 @@
--- What a loss of power leaves of a drive that is served and flushed.
-use Rattle.std.specs.Prelude.{◌≡◌, Bool, true, List, Contains, Result}
+-- What a loss of power leaves of a drive that is served and flushed, and what is left of a disk that forgets.
+use Rattle.std.specs.Prelude.{◌≡◌, ℕ, Bool, true, List, [], Contains, IfOk, Result, slice_index_or}
 use Rattle.zone_states.specs.Zone.{Zone}
 use Rattle.drive_port.specs.Drive.{DriveState}
 use Rattle.drive_port.specs.Run.{restarted}
 use Rattle.remount.specs.Mount.{IsToMount}
 use Rattle.zone_translator.specs.Mount.{MountsDisk}
 use Rattle.zone_translator.specs.View.{DiskView, disk_array, given_size}
+use Rattle.nbd_session.specs.Requests.{asked_of_store, data_length}
+use Rattle.nbd_session.specs.Session.{AnswersIn, AnswersMessage, Session}
+use Rattle.nbd_session.specs.Store.{StoreView}
 use Rattle.nbd_session.specs.Streams.{Streams}
 use Rattle.nbd_session.specs.declared.fault.SessionFault.{SessionFault}
-use Rattle.nbd_jobs.specs.Serving.{ServesSession, SyncsDone}
+use Rattle.nbd_session.specs.declared.phase.Phase.{Phase}
+use Rattle.nbd_session.specs.declared.phase.Phase.TheVariants as phases
+use Rattle.volatile_cache.specs.Laws.{IsSettled, LeavesOut}
+use Rattle.volatile_cache.specs.Outcomes.{cached}
+use Rattle.nbd_jobs.specs.Serving.{ServesForgetting, ServesSession, SyncsDone}
+use Rattle.nbd_jobs.specs.declared.forgetting.Forgotten.{Forgotten}
+use Rattle.nbd_jobs.specs.declared.job.Forget.{Forget}
 use Rattle.nbd_jobs.specs.declared.job.NbdJob.{NbdJob}
 
 -- A loss of power leaves these zones of a drive on which a session was served. They can be mounted, and a mount finds
@@ -25,3 +34,25 @@ LossIsFound =
     (job : NbdJob) (read_only : Bool) (bytes : Streams) (syncs : SyncsDone) (old : DriveState) (ended : Result (Unit {0}) SessionFault)
     (new : DriveState) (session : ServesSession read_only job bytes syncs old ended new) → syncs.flushes ≡ true
     → (zones : List Zone) → Contains new.durable zones → IsFoundAfter job read_only bytes syncs old ended new session zones
+
+-- ---- a disk that forgets
+
+-- A message does not change a block: no request that the store takes names it to be written.
+abbrev pub LeavesBlock : ℕ → (passes : Bool) → (phase : Phase) → (old : StoreView) → (message reply : List ℕ) → (new : Session) → AnswersIn passes phase old message reply new → Type 0
+LeavesBlock place passes phases.Transmission old message reply new answers =
+    IfOk (asked_of_store old answers.request) (LeavesOut old.disk.drive.geometry.block (data_length answers.request) place)
+LeavesBlock place passes phase old message reply new answers = Unit {0}
+
+-- A message that does not change a settled block leaves it settled. A FLUSH, or a write with FUA, that is answered by
+-- success settles what it names (`volatile_cache`).
+abbrev pub MessageKeepsSettled : Type 0
+MessageKeepsSettled =
+    (passes : Bool) (old : Session) (message reply : List ℕ) (new : Session) (answers : AnswersMessage passes old message reply new) (place : ℕ) (block : List ℕ)
+    → LeavesBlock place passes old.phase old.store message reply new answers → IsSettled place block old.store → IsSettled place block new.store
+
+-- A block that is settled when a session ends is in what is left, however it ended, and whatever was lost.
+abbrev pub SettledIsLeft : Type 0
+SettledIsLeft =
+    (forget : Forget) (read_only : Bool) (job : NbdJob) (bytes : Streams) (syncs : SyncsDone) (old : DriveState) (told : Forgotten) (new : DriveState)
+    (session : ServesForgetting forget read_only job bytes syncs old told new) (place : ℕ) (block : List ℕ)
+    → IsSettled place block (cached session.forgets.below session.forgets.mine) → slice_index_or (disk_array session.last.disk) place [] ≡ block

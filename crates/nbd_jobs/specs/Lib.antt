@@ -1,3 +1,4 @@
 pub mod Begun
+pub mod Forgetting
 pub mod Serving
 pub mod Laws

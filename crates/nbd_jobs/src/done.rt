@@ -1,6 +1,7 @@
-ghost use Rattle.std.specs.Prelude.{◌≡◌, Err, Ok, false};
+ghost use Rattle.std.specs.Prelude.{◌≡◌, Err, None, Ok, false};
 
 use crate::fault::NbdFault;
+use crate::forgetting::Forgotten;
 use drive_store::Saved;
 use mounted_disks::DiskSize;
 
@@ -15,6 +16,8 @@ pub struct Done {
     pub statistics: Option<String>,
     /// The disk that was served, if it was mounted.
     pub disk: Option<DiskSize>,
+    /// What was forgotten, if the disk forgets and was served.
+    pub forgotten: Option<Forgotten>,
 }
 
 impl Done {
@@ -22,12 +25,14 @@ impl Done {
     pub(crate) fn unserved(fault: NbdFault) -> Done
         ensures session { result.session ≡ Err fault }
         ensures saved { result.saved ≡ Ok (record { is_restored = false }) }
+        ensures forgotten { result.forgotten ≡ None }
     {
         Done {
             session: Err(fault),
             saved: Ok(Saved::IN_PLACE),
             statistics: None,
             disk: None,
+            forgotten: None,
         }
     }
 }

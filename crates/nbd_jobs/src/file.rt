@@ -86,6 +86,7 @@ fn serve_file<F: Files<File = File>, R: Read + Drop, W: Write>(
         saved: Ok(Saved::IN_PLACE),
         statistics: after.statistics,
         disk: after.disk,
+        forgotten: after.forgotten,
     };
     (after.left, done)
 }

@@ -1,6 +1,17 @@
 use mounted_disks::Stop;
 use zone_drive::Habit;
 
+/// That a disk forgets: what is written to it stays in a cache until it is synced, and may be lost before.
+#[derive(Clone, Copy, Debug, PartialEq, Eq)]
+pub struct Forget {
+    /// What chooses the blocks that are lost.
+    pub seed: u64,
+    /// About how many of 100 pending blocks are lost: 0 loses none, and 100 all.
+    pub odds: u32,
+    /// After how many requests the power is cut, if the session goes on so long.
+    pub cut_after: Option<u64>,
+}
+
 /// A drive in a file that is served to one client by the Network Block Device protocol.
 #[derive(Debug, PartialEq, Eq, Drop)]
 pub struct NbdJob {
@@ -10,6 +21,8 @@ pub struct NbdJob {
     pub blocks: Option<u64>,
     /// When the drive stops.
     pub stop: Stop,
+    /// Whether the disk forgets. Then its drive has what was applied, and stops by itself.
+    pub forget: Option<Forget>,
     /// Which zones the drive closes by itself.
     pub habit: Habit,
     /// Whether what was written and moved is shown at the end.

@@ -1,9 +1,16 @@
-//! What a client may rely on. The function carries the law as its contract, and changes nothing.
+//! What a client may rely on. Each function carries laws as its contract, and changes nothing.
 
-ghost use Rattle.nbd_jobs.specs.Laws.{LossIsFound};
+ghost use Rattle.nbd_jobs.specs.Laws.{LossIsFound, MessageKeepsSettled, SettledIsLeft};
 
 /// Whatever a loss of power leaves of a drive that was served, and flushed at each sync, is found again: a mount of the
 /// restarted drive finds an array that the session says may be left.
 pub fn loss_is_found()
     ensures { LossIsFound }
+{}
+
+/// What was synced, and not written since, is in what is left of a disk that forgets. A message that does not change a
+/// settled block leaves it settled. A block that is settled when the session ends is left, whatever was lost.
+pub fn synced_is_left()
+    ensures message { MessageKeepsSettled }
+    ensures left { SettledIsLeft }
 {}

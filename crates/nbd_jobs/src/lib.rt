@@ -20,6 +20,10 @@
 //!   that is a Flush of the drive, the drive is flushed before the first message, too, and what a loss of power leaves
 //!   is found again (`laws::loss_is_found`).
 //! * A turn of cleaning is taken after each request if the job says so.
+//! * A disk that forgets ([`Forget`]) is served with a cache above it, and what was forgotten is told. When its client
+//!   has said that it ends, all that is pending is applied and synced. Else the power is cut, at the greatest number of
+//!   requests too: some of the pending blocks are applied, none, any or all, and the drive is synced. What is left can
+//!   be mounted again. A block that was synced, and not written since, is in it (`laws::synced_is_left`).
 //! * [`serve_read_only`], over every reader and writer: the same of a disk that is read only. No store is handed in,
 //!   so nothing but the replies is written.
 //! * If no number of blocks was given, the disk has the size that a header on the drive says, also if that is one
@@ -47,6 +51,7 @@ mod done;
 mod explanation;
 mod fault;
 mod file;
+mod forgetting;
 mod job;
 pub mod laws;
 mod mounted;
@@ -54,10 +59,11 @@ mod saving;
 mod serving;
 
 pub use done::Done;
-pub use explanation::explain;
+pub use explanation::{explain, forgotten_note};
 pub use fault::NbdFault;
 pub use file::{BUFFER, are_sent, do_nbd_job};
-pub use job::NbdJob;
+pub use forgetting::{CACHE_BYTES, Forgotten};
+pub use job::{Forget, NbdJob};
 pub use saving::sent_end;
 pub use serving::{
     AfterSession, Ended, Kept, ServedFile, serve_drive, serve_read_only, serve_stopping,

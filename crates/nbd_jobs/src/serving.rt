@@ -11,6 +11,7 @@ ghost use Rattle.nbd_jobs.specs.Serving.{TellsSession, session_end};
 
 use crate::done::Done;
 use crate::fault::NbdFault;
+use crate::forgetting::{Forgotten, serve_store};
 use crate::job::NbdJob;
 use crate::mounted::mount_flushed;
 use drive_counter::Counter;
@@ -19,7 +20,7 @@ use drive_port::Device;
 use drive_store::Saved;
 use kept_drives::{DriveFile, KeepFault, Left, keep_restarted, leave, restarted_drive};
 use mounted_disks::{DiskSize, statistics_of, stopping};
-use nbd_session::{Client, Medium, ServedDisk, SessionFault, WriteThrough, serve};
+use nbd_session::{Client, Medium, ServedDisk, SessionFault, WriteThrough};
 use std::alloc::Global;
 use std::io::{Read, Write};
 use zone_drive::Drive;
@@ -33,13 +34,15 @@ pub struct ServedFile<I: Read + Drop, S: Store<Drive> + Drop, M: Medium + Drop> 
     pub medium: M,
 }
 
-/// What is left of a device and its medium once its session has ended, what was counted, and what was mounted.
+/// What is left of a device and its medium once its session has ended, what was counted, what was mounted, and what
+/// was forgotten.
 #[derive(Drop)]
 pub struct Ended<D: Device + Drop, M: Medium + Drop> {
     pub device: D,
     pub medium: M,
     pub statistics: Option<String>,
     pub disk: Option<DiskSize>,
+    pub forgotten: Option<Forgotten>,
     pub result: Result<(), NbdFault>,
 }
 
@@ -54,6 +57,8 @@ pub struct AfterSession<S: Store<Drive> + Drop, M: Medium + Drop> {
     pub statistics: Option<String>,
     /// The disk that was served, if it was mounted.
     pub disk: Option<DiskSize>,
+    /// What was forgotten, if the disk forgets and was served.
+    pub forgotten: Option<Forgotten>,
     /// How the session ended.
     pub result: Result<(), NbdFault>,
 }
@@ -126,7 +131,7 @@ fn serve_counted<D: Device + Drop, M: Medium + Drop, R: Client, W: Write>(
           after = M.syncs result.medium;
           flushes = M.flushes kept.medium;
         })
-        (D.drive kept.device) result.result (D.drive result.device) }
+        (D.drive kept.device) result.result result.forgotten (D.drive result.device) }
     ensures tells { TellsSession job.now (D.drive kept.device) result.result
         (is_some result.statistics) result.disk }
 {
@@ -139,21 +144,23 @@ fn serve_counted<D: Device + Drop, M: Medium + Drop, R: Client, W: Write>(
                 medium: kept.medium,
                 statistics: None,
                 disk: None,
+                forgotten: None,
                 result: Err(fault),
             };
         }
     };
     let size = DiskSize::of(&disk);
-    let mut store = served(disk, kept.medium, kept.read_only, job.idle);
-    let result = serve(alloc, reader, writer, &mut store);
-    let (disk, medium) = store.into_parts();
+    let store = served(disk, kept.medium, kept.read_only, job.idle);
+    let after = serve_store(alloc, job.forget, store, reader, writer);
+    let (disk, medium) = after.store.into_parts();
     let statistics = shown_statistics(alloc, job, &disk);
     Ended {
         device: disk.into_device().into_inner(),
         medium,
         statistics,
         disk: Some(size),
-        result: session_end(result),
+        forgotten: after.forgotten,
+        result: session_end(after.result),
     }
 }
 
@@ -172,7 +179,7 @@ pub fn serve_stopping<D: Device + Drop, M: Medium + Drop, R: Client, W: Write>(
           after = M.syncs result.medium;
           flushes = M.flushes kept.medium;
         })
-        (stopping job.now.stop (D.drive kept.device)) result.result (D.drive result.device) }
+        (stopping job.now.stop (D.drive kept.device)) result.result result.forgotten (D.drive result.device) }
     ensures tells { TellsSession job.now (drive_of (stopping job.now.stop (D.drive kept.device))) result.result
         (is_some result.statistics) result.disk }
 {
@@ -187,6 +194,7 @@ pub fn serve_stopping<D: Device + Drop, M: Medium + Drop, R: Client, W: Write>(
         medium: ended.medium,
         statistics: ended.statistics,
         disk: ended.disk,
+        forgotten: ended.forgotten,
         result: ended.result,
     }
 }
@@ -212,7 +220,7 @@ pub fn serve_drive<I: Read + Drop, S: Store<Drive> + Drop, M: Medium + Drop, R: 
           after = M.syncs result.medium;
           flushes = M.flushes file.medium;
         })
-        result.result (is_some result.statistics) result.disk)
+        result.result (is_some result.statistics) result.disk result.forgotten)
         (I.remaining file.bytes) job.now.habit left (S.held result.store) (S.failed result.store)) }
     // Without a drive nothing is read of the client, and nothing is written.
     ensures none { IfNone result.left (HoldsNoDrive (I.remaining file.bytes)
@@ -222,7 +230,7 @@ pub fn serve_drive<I: Read + Drop, S: Store<Drive> + Drop, M: Medium + Drop, R: 
           after = M.syncs result.medium;
           flushes = M.flushes file.medium;
         })
-        result.result) }
+        result.result result.forgotten) }
     ensures unused { IfNone result.left (S.held result.store ≡ S.held file.store) }
 {
     let ServedFile {
@@ -239,6 +247,7 @@ pub fn serve_drive<I: Read + Drop, S: Store<Drive> + Drop, M: Medium + Drop, R: 
                 medium,
                 statistics: None,
                 disk: None,
+                forgotten: None,
                 result: Err(NbdFault::File(KeepFault::Image(fault))),
             };
         }
@@ -256,6 +265,7 @@ pub fn serve_drive<I: Read + Drop, S: Store<Drive> + Drop, M: Medium + Drop, R: 
         medium: ended.medium,
         statistics: ended.statistics,
         disk: ended.disk,
+        forgotten: ended.forgotten,
         result: ended.result,
     }
 }
@@ -273,7 +283,7 @@ pub fn serve_read_only<I: Read, R: Client, W: Write>(
     // What the client sent is answered by the disk of the drive in the file, which is read only.
     ensures reads { ReadsFile job.now (I.remaining bytes.old)
         (streams (R.remaining reader.old) (R.remaining reader.new) (W.contents writer.old) (W.contents writer.new))
-        result.session }
+        result.session result.forgotten }
     // There is no drive to save.
     ensures saved { result.saved ≡ Ok (record { is_restored = false }) }
 {
@@ -292,5 +302,6 @@ pub fn serve_read_only<I: Read, R: Client, W: Write>(
         saved: Ok(Saved::IN_PLACE),
         statistics: ended.statistics,
         disk: ended.disk,
+        forgotten: ended.forgotten,
     }
 }

@@ -6,7 +6,9 @@ use crate::show::show_replies;
 use disk_jobs::{Habit, Stop};
 use drive_images::write_image;
 use drive_journal::Held;
-use nbd_jobs::{NbdFault, NbdJob, ServedFile, serve_drive, serve_read_only};
+use nbd_jobs::{
+    Forgotten, NbdFault, NbdJob, ServedFile, forgotten_note, serve_drive, serve_read_only,
+};
 use nbd_session::WriteThrough;
 use std::alloc::Global;
 use zone_drive::Drive;
@@ -30,6 +32,7 @@ pub fn job_of(alloc: Global, blocks: Option<u64>, statistics: bool) -> NbdJob {
         image: String::new(alloc),
         blocks,
         stop: Stop::NEVER,
+        forget: None,
         habit: Habit::Lazy,
         statistics,
         idle: true,
@@ -45,6 +48,20 @@ fn show_counts(counts: &Option<String>, out: &mut String) -> Result<(), RowsFaul
     Ok(())
 }
 
+/// Shows what a disk forgot, if it does forget.
+fn show_forgotten(
+    alloc: Global,
+    job: &NbdJob,
+    forgotten: Option<Forgotten>,
+    out: &mut String,
+) -> Result<(), RowsFault> {
+    if let Some(forgotten) = forgotten {
+        let note = forgotten_note(alloc, job, &forgotten)?;
+        writeln!(out, "{note}")?;
+    }
+    Ok(())
+}
+
 /// Shows how a session ended.
 fn show_end(ended: Result<(), NbdFault>, out: &mut String) -> Result<(), RowsFault> {
     match ended {
@@ -54,8 +71,8 @@ fn show_end(ended: Result<(), NbdFault>, out: &mut String) -> Result<(), RowsFau
     Ok(())
 }
 
-/// Serves the drive in a file. Shows what the server sent, what was counted if the job asks for it, and how the session
-/// ended. The file has all changes then.
+/// Serves the drive in a file. Shows what the server sent, what was counted if the job asks for it, what was forgotten if
+/// the disk forgets, and how the session ended. The file has all changes then.
 pub fn show_kept(
     alloc: Global,
     job: &NbdJob,
@@ -73,6 +90,7 @@ pub fn show_kept(
     *file = Vec::from_slice(alloc, ended.store.bytes())?;
     show_replies(&sent, out)?;
     show_counts(&ended.statistics, out)?;
+    show_forgotten(alloc, job, ended.forgotten, out)?;
     show_end(ended.result, out)
 }
 

@@ -12,6 +12,8 @@
 //!   keeps what it wrote. `again` runs it over the same file, and says no number. The first file has a fresh drive.
 //!   `reading` does what `again` does, read only. `counted N` runs it over a new file, and shows what was written,
 //!   moved and cleaned.
+//! - `forgets N SEED ODDS` runs the session over the same file, with N logical blocks and a disk that forgets. With one
+//!   number more the power is cut after so many requests.
 //! - `fresh` makes a new file. `old N` makes one whose drive has a header of version 1, which says no size: block N
 //!   was written.
 //! - An empty line, and one that begins with `#`, says nothing.
@@ -34,7 +36,8 @@ use crate::fault::RowsFault;
 use crate::kept::{fresh_file, job_of, show_kept, show_read_only};
 use crate::old::old_file;
 use crate::run::{Setting, show_cuts, show_session};
-use crate::words::{number_of, put_bytes, setting_of};
+use crate::words::{forget_of, number_of, put_bytes, setting_of};
+use nbd_jobs::NbdJob;
 use std::alloc::Global;
 use std::io;
 use std::process::ExitCode;
@@ -70,6 +73,7 @@ impl Recorded {
                 self.file = old_file(alloc, self.setting, number_of(line)?)?;
                 Ok(())
             }
+            _ if line.starts_with("forgets ") => self.serve_forgetting(alloc, line, out),
             _ if line.starts_with("kept ") => self.serve(alloc, Some(number_of(line)?), false, out),
             _ if line.starts_with("counted ") => {
                 self.file = fresh_file(alloc, self.setting)?;
@@ -88,6 +92,21 @@ impl Recorded {
         out: &mut String,
     ) -> Result<(), RowsFault> {
         let job = job_of(alloc, blocks, counted);
+        show_kept(alloc, &job, &self.input, &mut self.file, out)
+    }
+
+    /// Serves the drive in the file, by a disk that forgets.
+    fn serve_forgetting(
+        &mut self,
+        alloc: Global,
+        line: &str,
+        out: &mut String,
+    ) -> Result<(), RowsFault> {
+        let (blocks, forget) = forget_of(alloc, line)?;
+        let job = NbdJob {
+            forget: Some(forget),
+            ..job_of(alloc, Some(blocks), false)
+        };
         show_kept(alloc, &job, &self.input, &mut self.file, out)
     }
 

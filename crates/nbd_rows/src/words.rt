@@ -2,6 +2,7 @@
 
 use crate::fault::RowsFault;
 use crate::run::Setting;
+use nbd_jobs::Forget;
 use std::alloc::Global;
 
 /// Which number of a setting a word is.
@@ -50,6 +51,26 @@ pub fn number_of(line: &str) -> Result<u64, RowsFault> {
         return Err(RowsFault::Words);
     };
     number.parse::<u64>().or(Err(RowsFault::Words))
+}
+
+/// How many blocks a disk has, and how it forgets: the numbers after the first word of a line. The last one may be
+/// left out.
+pub fn forget_of(alloc: Global, line: &str) -> Result<(u64, Forget), RowsFault> {
+    let mut numbers = Vec::new(alloc);
+    for word in line.split(' ').skip(1) {
+        let number = word.parse::<u64>().or(Err(RowsFault::Words))?;
+        numbers.push(number).or(Err(RowsFault::Memory))?;
+    }
+    let (blocks, seed, odds) = match numbers.as_slice() {
+        [blocks, seed, odds] | [blocks, seed, odds, _] => (*blocks, *seed, *odds),
+        _ => return Err(RowsFault::Words),
+    };
+    let forget = Forget {
+        seed,
+        odds: u32::try_from(odds).or(Err(RowsFault::Words))?,
+        cut_after: numbers.get(3).copied(),
+    };
+    Ok((blocks, forget))
 }
 
 /// Puts a byte that is repeated after `out`.

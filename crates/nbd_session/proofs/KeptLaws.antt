@@ -1,7 +1,9 @@
 -- What each answer to a request keeps of a store, a whole session keeps.
-use Rattle.std.proofs.Common.{◌≡◌, ℕ, List, [], ◌∷◌, Ok, Err, true, false}
+use Rattle.std.proofs.Common.{◌≡◌, ℕ, List, [], ◌∷◌, Option, Some, None, Ok, Err, true, false}
 use Rattle.std.specs.Prelude.{Bool, Result}
 use Rattle.nbd_wire.specs.declared.request.Request.{Request}
+use Rattle.nbd_session.specs.declared.ending.SessionEnd.{SessionEnd}
+use Rattle.nbd_session.specs.declared.ending.SessionEnd.TheVariants.{Disconnected, InputEnded, LimitReached}
 use Rattle.nbd_session.specs.declared.fault.SessionFault.{SessionFault}
 use Rattle.nbd_session.specs.declared.fault.SessionFault.TheVariants.{Input, Magic, Output, TooMany, Unsent}
 use Rattle.nbd_session.specs.declared.phase.Phase.{Phase}
@@ -10,7 +12,7 @@ use Rattle.nbd_session.specs.Requests.{AnswersAsked, asked_of_store}
 use Rattle.nbd_session.specs.Session.{AnswersBy, AnswersEach, AnswersIn, Dialogue, Follows, Session}
 use Rattle.nbd_session.specs.Store.{Rests, StoreView}
 use Rattle.nbd_session.specs.Streams.{Streams}
-use Rattle.nbd_session.specs.Turns.{Serves, StopsAfter}
+use Rattle.nbd_session.specs.Turns.{Serves, ServesAtMost, StopsAfter}
 
 -- a relation of an old store and a new one that each answer keeps
 pub record IsKept (Holds : StoreView → StoreView → Type 0) : Type 0 where
@@ -55,3 +57,12 @@ pub session_kept : (Holds : StoreView → StoreView → Type 0) → IsKept Holds
 session_kept Holds k bytes old (Ok done) new s = each_kept Holds k s.served.dialogues old _ s.served.answered
 session_kept Holds k bytes old (Err fault) new s =
     k.again old.store s.middle.store new (each_kept Holds k s.served.dialogues old s.middle s.served.answered) (stops_kept Holds k _ fault _ s.middle new s.stops)
+
+-- and so does one of at most so many requests
+pub at_most-kept : (Holds : StoreView → StoreView → Type 0) → IsKept Holds → (most : Option ℕ) (bytes : Streams) (old : Session) (result : Result SessionEnd SessionFault) (new : StoreView)
+    → ServesAtMost most bytes old result new → Holds old.store new
+at_most-kept Holds k most bytes old (Ok Disconnected) new s = each_kept Holds k s.served.dialogues old _ s.served.answered
+at_most-kept Holds k most bytes old (Ok InputEnded) new s = each_kept Holds k s.runs.served.dialogues old _ s.runs.served.answered
+at_most-kept Holds k (Some most) bytes old (Ok LimitReached) new s = each_kept Holds k s.served.dialogues old _ s.served.answered
+at_most-kept Holds k None bytes old (Ok LimitReached) new s = absurd s
+at_most-kept Holds k most bytes old (Err fault) new s = session_kept Holds k bytes old (Err fault) new s.stops

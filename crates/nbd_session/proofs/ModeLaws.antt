@@ -1,23 +1,28 @@
 -- A session forgets no sync, and its store stays read only, cleans and fails as before. If it does not defer, nothing is pending.
-use Rattle.std.proofs.Common.{◌≡◌, ℕ, ◌≤◌, List, [], Ok, Err, true, false, refl, inl, inr, ◌∙◌, arith}
+use Rattle.std.proofs.Common.{◌≡◌, ℕ, ◌≤◌, List, [], Option, Ok, Err, true, false, refl, inl, inr, ◌∙◌, arith}
 use Rattle.std.specs.Prelude.{Bool, ◌&&◌, not, Result}
 use Rattle.nbd_wire.specs.declared.error_code.ErrorCode.{ErrorCode}
 use Rattle.nbd_wire.specs.declared.request.Request.{Request}
 use Rattle.zone_translator.specs.Flat.{Answer, Call}
 use Rattle.nbd_session.specs.declared.asked.Asked.{Asked}
 use Rattle.nbd_session.specs.declared.asked.Asked.TheVariants.{Read, Write, Trim, WriteZeroes, Flush}
+use Rattle.nbd_session.specs.declared.ending.SessionEnd.{SessionEnd}
+use Rattle.nbd_session.specs.declared.fault.SessionFault.{SessionFault}
 use Rattle.nbd_session.specs.declared.fault.StoreFault.{StoreFault}
 use Rattle.nbd_session.specs.declared.fault.StoreFault.TheVariants.{Disk, Medium}
 use Rattle.nbd_session.specs.Laws.{SessionKeepsMode}
 use Rattle.nbd_session.specs.Requests.{AnswersAsked, Does, DoesOrFails, Forces, asked_of_store}
 use Rattle.nbd_session.specs.Store.{Calls, KeepsBySync, KeepsMode, RestsBy, Spares, StoreView}
-use Rattle.nbd_session.proofs.KeptLaws.{IsKept, session_kept}
+use Rattle.nbd_session.specs.Session.{Session}
+use Rattle.nbd_session.specs.Streams.{Streams}
+use Rattle.nbd_session.specs.Turns.{ServesAtMost}
+use Rattle.nbd_session.proofs.KeptLaws.{IsKept, at_most-kept, session_kept}
 use Rattle.nbd_session.proofs.PendingLaws.{none-more}
 use Rattle.nbd_session.proofs.SpareLaws.{some_spared}
 use Rattle.nbd_session.proofs.SyncLaws.{SyncsSome, any_sync}
 
 -- no sync is forgotten, the mode is the same, and nothing stays pending that is not deferred
-abbrev Grows : StoreView → StoreView → Type 0
+abbrev pub Grows : StoreView → StoreView → Type 0
 Grows old new = (old.syncs ≤ new.syncs) × KeepsMode old new × (old.defers ≡ false → old.pending ≡ [] → new.pending ≡ [])
 
 self_grows : (store : StoreView) → Grows store store
@@ -93,3 +98,7 @@ mode_kept = record {
 -- a session forgets no sync, and keeps its mode
 pub session-grows : SessionKeepsMode
 session-grows = session_kept Grows mode_kept
+
+-- and so does one of at most so many requests
+pub at_most-grows : (most : Option ℕ) (bytes : Streams) (old : Session) (result : Result SessionEnd SessionFault) (new : StoreView) → ServesAtMost most bytes old result new → Grows old.store new
+at_most-grows = at_most-kept Grows mode_kept

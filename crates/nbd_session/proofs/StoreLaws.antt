@@ -1,5 +1,5 @@
 -- A session keeps the drive of its disk.
-use Rattle.std.proofs.Common.{◌≡◌, ℕ, List, Ok, Err, true, false, inl, inr}
+use Rattle.std.proofs.Common.{◌≡◌, ℕ, List, Option, Ok, Err, true, false, inl, inr}
 use Rattle.std.specs.Prelude.{Bool, ◌&&◌, not, Result}
 use Rattle.nbd_wire.specs.declared.error_code.ErrorCode.{ErrorCode}
 use Rattle.nbd_wire.specs.declared.request.Request.{Request}
@@ -8,6 +8,7 @@ use Rattle.zone_translator.specs.Flat.{Answer, Call}
 use Rattle.zone_translator.specs.Keeping.{KeepsServed}
 use Rattle.nbd_session.specs.declared.asked.Asked.{Asked}
 use Rattle.nbd_session.specs.declared.asked.Asked.TheVariants.{Read, Write, Trim, WriteZeroes, Flush}
+use Rattle.nbd_session.specs.declared.ending.SessionEnd.{SessionEnd}
 use Rattle.nbd_session.specs.declared.fault.SessionFault.{SessionFault}
 use Rattle.nbd_session.specs.declared.fault.StoreFault.{StoreFault}
 use Rattle.nbd_session.specs.declared.fault.StoreFault.TheVariants.{Disk, Medium}
@@ -15,8 +16,8 @@ use Rattle.nbd_session.specs.Requests.{AnswersAsked, Does, DoesOrFails, Forces, 
 use Rattle.nbd_session.specs.Session.{Session}
 use Rattle.nbd_session.specs.Store.{Calls, RestsBy, StoreView, Writes}
 use Rattle.nbd_session.specs.Streams.{Streams}
-use Rattle.nbd_session.specs.Turns.{Serves}
-use Rattle.nbd_session.proofs.KeptLaws.{IsKept, session_kept}
+use Rattle.nbd_session.specs.Turns.{ServesAtMost}
+use Rattle.nbd_session.proofs.KeptLaws.{IsKept, at_most-kept}
 use Rattle.nbd_session.proofs.SpareLaws.{some_spared}
 use Rattle.nbd_session.proofs.SyncLaws.{SyncsSome, any_sync}
 
@@ -76,5 +77,5 @@ drive_kept = record {
 }
 
 -- a session keeps the drive of its disk, however it ends
-pub session_keeps : (bytes : Streams) (old : Session) (result : Result (Unit {0}) SessionFault) (new : StoreView) → Serves bytes old result new → KeepsServed old.store.disk new.disk
-session_keeps = session_kept KeepsStore drive_kept
+pub session_keeps : (most : Option ℕ) (bytes : Streams) (old : Session) (result : Result SessionEnd SessionFault) (new : StoreView) → ServesAtMost most bytes old result new → KeepsServed old.store.disk new.disk
+session_keeps = at_most-kept KeepsStore drive_kept

@@ -1,5 +1,5 @@
 -- What comes of one message, and how a session ends.
-use Rattle.std.specs.Prelude.{◌≡◌, ◌≢◌, ◌⊎◌, ℕ, ◌-◌, ◌<◌, ◌^◌, Bool, true, false, List, ◌++◌, length, Option, Some, None, Result, Ok, Err}
+use Rattle.std.specs.Prelude.{◌≡◌, ◌≢◌, ◌⊎◌, ℕ, ◌+◌, ◌-◌, ◌<◌, ◌≤◌, ◌^◌, Bool, true, false, List, [], ◌∷◌, ◌++◌, length, Option, Some, None, IfSome, IsSomeAnd, Result, Ok, Err}
 use Rattle.std.specs.Io.KnownBytes.{Appends, Consumes, IsAtEnd, Keeps}
 use Rattle.disk_files.specs.Input.{DropsFewer}
 use Rattle.disk_files.specs.Output.{AppendsFront}
@@ -8,12 +8,14 @@ use Rattle.nbd_wire.specs.Transmission.{FitsRequest, request_bytes}
 use Rattle.nbd_wire.specs.declared.client_flags.ClientFlags.{ClientFlags}
 use Rattle.nbd_wire.specs.declared.option_head.OptionHead.{OptionHead}
 use Rattle.nbd_wire.specs.declared.request.Request.{Request}
+use Rattle.nbd_session.specs.declared.ending.SessionEnd.{SessionEnd}
+use Rattle.nbd_session.specs.declared.ending.SessionEnd.TheVariants.{Disconnected, InputEnded, LimitReached}
 use Rattle.nbd_session.specs.declared.fault.SessionFault.{SessionFault}
 use Rattle.nbd_session.specs.declared.fault.SessionFault.TheVariants.{Input, Magic, Output, TooMany, Unsent}
 use Rattle.nbd_session.specs.declared.phase.Phase.{Phase}
 use Rattle.nbd_session.specs.declared.phase.Phase.TheVariants as phases
 use Rattle.nbd_session.specs.Requests.{data_length}
-use Rattle.nbd_session.specs.Session.{AnswersMessage, Served, Session, session}
+use Rattle.nbd_session.specs.Session.{AnswersEach, AnswersMessage, Dialogue, Served, Session, session}
 use Rattle.nbd_session.specs.Store.{StoreView}
 use Rattle.nbd_session.specs.Streams.{Streams, streams}
 
@@ -159,3 +161,55 @@ pub record StopsEarly (bytes : Streams) (old : Session) (fault : SessionFault) (
 abbrev pub Serves : Streams → Session → Result (Unit {0}) SessionFault → StoreView → Type 0
 Serves bytes old (Ok done) new = RunsToEnd bytes old new
 Serves bytes old (Err fault) new = StopsEarly bytes old fault new
+
+-- ---- a session of at most so many requests
+
+-- how many requests a message of this phase is: those of the transmission are requests, and DISC is one
+abbrev pub requests_at : Phase → ℕ
+requests_at phases.Transmission = 1
+requests_at phase = 0
+
+-- how many of the messages that were answered are requests
+abbrev pub requests_in : (old : Session) → (dialogues : List Dialogue) → (new : Session) → AnswersEach old dialogues new → ℕ
+requests_in old [] new answered = 0
+requests_in old (d ∷ ds) new answered = requests_at old.phase + requests_in answered.0 ds new answered.2
+
+-- Messages are answered, up to a session that would read one more. With that one there are at most so many requests.
+pub record RunsWithin (most : Option ℕ) (bytes : Streams) (old new : Session) : Type 0 where
+  pub served : Served bytes old new
+  pub within : IfSome most (λ most. requests_in old served.dialogues new served.answered + requests_at new.phase ≤ most)
+
+-- the client has gone between two messages, and has not said that it ends
+pub record RunsOut (most : Option ℕ) (bytes : Streams) (old : Session) (new : StoreView) : Type 0 where
+  pub phase : Phase
+  pub unsaid : phase ≢ phases.Ended
+  pub runs : RunsWithin most bytes old (session phase new)
+  pub at_end : IsAtEnd bytes.rest
+
+-- so many requests are answered, and no more is read
+pub record RunsToLimit (most : ℕ) (bytes : Streams) (old : Session) (new : StoreView) : Type 0 where
+  pub served : Served bytes old (session phases.Transmission new)
+  pub count_is : requests_in old served.dialogues (session phases.Transmission new) served.answered ≡ most
+
+-- how many requests are read by the message at which a session stops: none, if it only has answered as many as it counts
+abbrev pub requests_stopped : SessionFault → Phase → ℕ
+requests_stopped TooMany phase = 0
+requests_stopped fault phase = requests_at phase
+
+-- a session stops, and has read at most so many requests
+pub record StopsWithin (most : Option ℕ) (bytes : Streams) (old : Session) (fault : SessionFault) (new : StoreView) : Type 0 where
+  pub stops : StopsEarly bytes old fault new
+  pub within : IfSome most (λ most.
+      requests_in old stops.served.dialogues stops.middle stops.served.answered + requests_stopped fault stops.middle.phase ≤ most)
+
+-- how a session ends in a phase, where no message follows
+abbrev pub end_in : Phase → SessionEnd
+end_in phases.Ended = Disconnected
+end_in phase = InputEnded
+
+-- how a session ends that reads at most so many requests, if a greatest number is given
+abbrev pub ServesAtMost : Option ℕ → Streams → Session → Result SessionEnd SessionFault → StoreView → Type 0
+ServesAtMost most bytes old (Ok Disconnected) new = RunsWithin most bytes old (session phases.Ended new)
+ServesAtMost most bytes old (Ok InputEnded) new = RunsOut most bytes old new
+ServesAtMost most bytes old (Ok LimitReached) new = IsSomeAnd most (λ most. RunsToLimit most bytes old new)
+ServesAtMost most bytes old (Err fault) new = StopsWithin most bytes old fault new

@@ -44,6 +44,7 @@
 //! * The client is told whether a store is read only ([`ServedDisk::reading`]). If so, a WRITE, a TRIM and a
 //!   WRITE_ZEROES are refused by `EPERM`, no other request is refused for it, and no turn is taken. The array stays as
 //!   it is, whatever the client sends (`laws::read_only_keeps_array`).
+//! * [`serve_at_most`] ends after so many requests, and does not read the next one. It tells how a session ended.
 //! * `Ok` only if the client has said that it ends, or the input ended between two messages. After a fault all
 //!   messages before are answered. Of the next one nothing is done, unless only its reply was cut.
 //! * The faults: `Input`, fewer bytes than a message has were read; `Magic`, a head with which no message begins;
@@ -65,6 +66,7 @@
 
 mod asked;
 mod client;
+mod ending;
 mod failing;
 mod fault;
 pub mod laws;
@@ -81,11 +83,12 @@ mod store;
 
 pub use asked::{Asked, MOST_BYTES};
 pub use client::Client;
+pub use ending::SessionEnd;
 pub use failing::FailingStore;
 pub use fault::{MediumFault, SessionFault, StoreFault};
 pub use medium::{DriveFlush, Medium, SyncCount, WriteThrough};
 pub use option_answer::OptionAnswer;
 pub use phase::Phase;
 pub use served_disk::ServedDisk;
-pub use serving::serve;
+pub use serving::{serve, serve_at_most};
 pub use store::{Store, is_known};

@@ -1,9 +1,11 @@
+ghost use Rattle.std.specs.Prelude.{◌≡◌, ◌+◌, ◌<◌, ◌≤◌, ◌-◌, ◌^◌, IfNone, IfSome, Some};
 ghost use Rattle.zone_translator.specs.Keeping.{KeepsServed};
 ghost use Rattle.nbd_session.specs.Session.{session};
 ghost use Rattle.nbd_session.specs.Streams.{streams};
-ghost use Rattle.nbd_session.specs.Turns.{Serves, TurnGives};
+ghost use Rattle.nbd_session.specs.Turns.{Serves, ServesAtMost, TurnGives, requests_at};
 
 use crate::client::Client;
+use crate::ending::SessionEnd;
 use crate::fault::SessionFault;
 use crate::options::{answer_option, greet, take_flags};
 use crate::phase::Phase;
@@ -33,6 +35,54 @@ fn take_turn<R: Client, W: Write, S: Store>(
     }
 }
 
+/// How many requests there are once a message of this phase is read, after `requests`. None where there may be no more.
+fn with_next(most: Option<u64>, requests: u64, phase: Phase) -> Option<u64>
+    requires few { requests < 2 ^ 64 - 1 }
+    requires within { IfSome most (λ most. requests ≤ most) }
+    ensures some { IfSome result (λ n. (n ≡ requests + requests_at phase) × IfSome most (λ most. n ≤ most)) }
+    ensures none { IfNone result ((phase ≡ Phase.Transmission) × (most ≡ Some requests)) }
+{
+    match (phase, most) {
+        (Phase::Transmission, Some(most)) if requests >= most => None,
+        (Phase::Transmission, _) => Some(requests + 1),
+        _ => Some(requests),
+    }
+}
+
+/// Serves a disk to one client, and answers at most so many requests, if a greatest number is given. The next one is
+/// not read then.
+///
+/// A message is a request once the options are done; DISC is one, too. After a fault it is as with [`serve`].
+pub fn serve_at_most<R: Client, W: Write, S: Store>(
+    alloc: Global,
+    reader: &mut R,
+    writer: &mut W,
+    store: &mut S,
+    most: Option<u64>,
+) -> Result<SessionEnd, SessionFault>
+    // The bytes that are read are messages, and those that are written are the replies of this disk.
+    ensures serves { ServesAtMost most
+        (streams (R.remaining reader.old) (R.remaining reader.new) (W.contents writer.old) (W.contents writer.new))
+        (session Phase.Greeting (S.view store.old)) result (S.view store.new) }
+    // The drive can be mounted again, and no command was refused.
+    ensures keeps { KeepsServed (S.view store.old).disk (S.view store.new).disk }
+{
+    let mut buffers = Buffers::new(alloc);
+    let mut phase = Phase::Greeting;
+    let mut requests: u64 = 0;
+    for _turn in 0..u64::MAX {
+        let Some(counted) = with_next(most, requests, phase) else {
+            return Ok(SessionEnd::LimitReached);
+        };
+        match take_turn(reader, writer, store, &mut buffers, phase)? {
+            Some(next) => phase = next,
+            None => return Ok(SessionEnd::in_phase(phase)),
+        }
+        requests = counted;
+    }
+    Err(SessionFault::TooMany)
+}
+
 /// Serves a disk to one client: the reader gives what the client sends, and the writer takes what the client gets.
 ///
 /// A session ends with `Ok` where the client has said so, or has gone between two messages. After a fault all messages
@@ -50,13 +100,8 @@ pub fn serve<R: Client, W: Write, S: Store>(
     // The drive can be mounted again, and no command was refused.
     ensures keeps { KeepsServed (S.view store.old).disk (S.view store.new).disk }
 {
-    let mut buffers = Buffers::new(alloc);
-    let mut phase = Phase::Greeting;
-    for _turn in 0..u64::MAX {
-        match take_turn(reader, writer, store, &mut buffers, phase)? {
-            Some(next) => phase = next,
-            None => return Ok(()),
-        }
+    match serve_at_most(alloc, reader, writer, store, None) {
+        Ok(_) => Ok(()),
+        Err(fault) => Err(fault),
     }
-    Err(SessionFault::TooMany)
 }

@@ -2,15 +2,16 @@
 use Rattle.std.specs.Prelude.{◌≡◌, ◌<◌, ◌≤◌, ◌+◌, ◌-◌, ℕ, Bool, List, [], ◌∷◌, ◌++◌, length, take, Contains, Result, Ok, Err}
 use Rattle.std.specs.List.{AllByRecursion, concat}
 use Rattle.zone_translator.specs.Flat.{with_nothing, write}
+use Rattle.zone_translator.specs.Keeping.{KeepsServed}
 use Rattle.zone_translator.specs.View.{disk_size}
 use Rattle.zone_translator.specs.declared.fault.DiskFault.{DiskFault}
 use Rattle.nbd_session.specs.Pending.{AreApart, Pending}
-use Rattle.nbd_session.specs.Store.{OrFails, ReadsBlocks, Spares, StoreView, Writes, store_array}
+use Rattle.nbd_session.specs.Store.{KeepsMode, OrFails, ReadsBlocks, Spares, StoreView, Writes, store_array}
 use Rattle.nbd_session.specs.declared.fault.StoreFault.{StoreFault}
 use Rattle.nbd_session.specs.declared.fault.StoreFault.TheVariants.{Disk, Medium}
 use Rattle.volatile_cache.specs.declared.cut.Lost.{Lost}
 use Rattle.volatile_cache.specs.declared.kept.Kept.{Kept}
-use Rattle.volatile_cache.specs.Outcomes.{IsDurable, Settles, cached, outcomes}
+use Rattle.volatile_cache.specs.Outcomes.{IsDurable, Settles, cached, deferring, outcomes}
 use Rattle.volatile_cache.specs.Queue.{all_pending, bytes_of}
 
 -- the store below, the blocks that are pending in the cache, oldest first, and how many may be
@@ -124,10 +125,15 @@ ReadsPiece old at end (Err Medium) into into' new = SparesWithin old at (end - a
 
 -- ---- a cut
 
--- What a cut leaves, done or not: one of the outcomes, and nothing pending.
+-- what a cut keeps of the store below: its drive, and whether it is read only, cleans, flushes and fails
+abbrev pub KeepsBelow : StoreView → StoreView → Type 0
+KeepsBelow below below' = KeepsServed below.disk below'.disk × KeepsMode (deferring below) (deferring below')
+
+-- What a cut leaves, done or not: one of the outcomes, and nothing pending. The drive can be mounted again.
 pub record Falls (below : StoreView) (mine : List Pending) (below' : StoreView) (left : List Kept) : Type 0 where
   pub none : left ≡ []
   pub outcome : Contains (outcomes mine (store_array below)) (store_array below')
+  pub keeps : KeepsBelow below below'
 
 -- Done, it is durable too, and is told how many blocks of how many were lost.
 abbrev pub IfDone : List Pending → StoreView → Result Lost StoreFault → Type 0

@@ -5,7 +5,7 @@ use disk_jobs::{
     Counted, DiskSize, Done, Explained, Gate, Job, JobInput, LineCount, ProgramFault, Saved,
     Watched, do_job, explain, restored_note, size_notes, write_program_fault,
 };
-use nbd_jobs::{NbdJob, do_nbd_job};
+use nbd_jobs::{Forgotten, NbdJob, do_nbd_job, forgotten_note};
 use std::alloc::Global;
 use std::io::{Read, Write};
 use std::process::ExitCode;
@@ -90,6 +90,26 @@ pub(crate) fn do_lines<R: Eprint + Files<File = fs::File> + Input, W: Write>(
     code
 }
 
+/// Says on standard error what a disk forgot. It ends as a fault if the disk did not apply blocks, and had not stopped.
+pub(crate) fn tell_forgotten<R: Eprint>(
+    rt: &R,
+    alloc: Global,
+    job: &NbdJob,
+    forgotten: Option<Forgotten>,
+) -> ExitCode {
+    let Some(forgotten) = forgotten else {
+        return ExitCode::SUCCESS;
+    };
+    if let Ok(note) = forgotten_note(alloc, job, &forgotten) {
+        let path = job.image.as_str();
+        let _ = eprintln!(rt; "zonedisk: {path}: {note}");
+    }
+    match forgotten.fault() {
+        None => ExitCode::SUCCESS,
+        Some(_) => ExitCode::FAILURE,
+    }
+}
+
 /// Serves a drive on the standard streams. What people are told goes to standard error.
 pub(crate) fn do_nbd<R: Eprint + Files<File = fs::File> + Input, W: Write>(
     rt: &R,
@@ -103,7 +123,7 @@ pub(crate) fn do_nbd<R: Eprint + Files<File = fs::File> + Input, W: Write>(
     if let Some(text) = &done.statistics {
         let _ = eprint!(rt; "{text}");
     }
-    let mut code = ExitCode::SUCCESS;
+    let mut code = tell_forgotten(rt, alloc, job, done.forgotten);
     for ended in [done.session, done.saved.map(|_| ())] {
         if let Err(fault) = ended {
             code = ExitCode::FAILURE;

@@ -1,6 +1,6 @@
 use Rattle.std.proofs.Common.{◌≡◌, ◌==◌, ◌∙◌, [], ap, arith, length, refl, sym, false}
 use Rattle.volatile_cache.specs.Cache.{Cache}
-use Rattle.volatile_cache.proofs.FallLaws.{empty_is, falls, later_outcomes, lost_outcomes, one_fewer, sync_array, sync_durable}
+use Rattle.volatile_cache.proofs.FallLaws.{applied_below, below_again, empty_is, falls, later_outcomes, lost_outcomes, one_fewer, sync_array, sync_below, sync_durable}
 use Rattle.volatile_cache.proofs.KeepLaws.{length_map}
 use Rattle.volatile_cache.proofs.cache.VolatileCache.cut.Goals as goal
 
@@ -13,6 +13,7 @@ loop-coins-preserved-then-random_ratio g c =
     let some : (length kept == 0) ≡ false = sym c.is_empty.ensures ∙ c.loop-coins-test.true in (
       later_outcomes g.S.Store.view c.args.self.now now next before.0 (lost_outcomes g.S.Store.view now next refl c.pop_oldest.ensures),
       rw c.pop_oldest.ensures (one_fewer kept c.loop-coins.lost c.saturating_add-lost.result (length c.args.self.now.kept) 18446744073709551615 some c.saturating_add-lost.ensures before.1),
+      before.2,
     )
 
 pub returns-in-Err : goal.returns-in-Err
@@ -20,7 +21,9 @@ returns-in-Err g c =
     let middle : Cache g.row.S.Denot = record { store = c.self-else-random_ratio.inside.store; kept = c.self-else-random_ratio.inside.queue; most = c.self-else-random_ratio.inside.most } in
     let last : Cache g.row.S.Denot = record { store = c.self-else-random_ratio.inside.store; kept = c.truncate.new.self; most = c.self-else-random_ratio.inside.most } in (
       falls g.S.Store.view c.args.self.now middle last
-          (later_outcomes g.S.Store.view c.args.self.now c.loop-coins.self middle c.loop-coins.invariant.0 (rw (← c.self-else-random_ratio.view_is) at c.apply_oldest.ensures.outcomes)) refl c.truncate.ensures,
+          (later_outcomes g.S.Store.view c.args.self.now c.loop-coins.self middle c.loop-coins.invariant.0 (rw (← c.self-else-random_ratio.view_is) at c.apply_oldest.ensures.outcomes)) refl c.truncate.ensures
+          (below_again (g.S.Store.view c.args.self.now.store) (g.S.Store.view c.loop-coins.self.store) (g.S.Store.view last.store) c.loop-coins.invariant.2
+          (applied_below g.S.Store.view c.loop-coins.self middle c.apply_oldest.result (rw (← c.self-else-random_ratio.view_is) at c.apply_oldest.ensures.applies))),
       tt,
     )
 
@@ -28,8 +31,11 @@ pub returns-in-Err-sync : goal.returns-in-Err-sync
 returns-in-Err-sync g c =
     let middle : Cache g.row.S.Denot = record { store = c.self-2.inside.store; kept = c.self-2.inside.queue; most = c.self-2.inside.most } in
     let last : Cache g.row.S.Denot = record { store = c.sync.new.self; kept = c.self-2.inside.queue; most = c.self-2.inside.most } in
-    let none : c.self-2.inside.queue ≡ [] = ap (λ k. k.kept) (c.self-2.view_is ∙ sym c.self-in-loop-coins.view_is) ∙ empty_is c.self-in-loop-coins.inside.queue (sym c.is_empty.ensures ∙ c.loop-coins-test.false) in
-    (falls g.S.Store.view c.args.self.now middle last (rw (← c.self-2.view_is) at c.loop-coins.invariant.0) (sync_array (g.S.Store.view c.self-2.inside.store) (g.S.Store.view c.sync.new.self) c.sync.result c.sync.ensures) none, tt)
+    let none : c.self-2.inside.queue ≡ [] = ap (λ k. k.kept) (c.self-2.view_is ∙ sym c.self-in-loop-coins.view_is) ∙ empty_is c.self-in-loop-coins.inside.queue (sym c.is_empty.ensures ∙ c.loop-coins-test.false) in (
+      falls g.S.Store.view c.args.self.now middle last (rw (← c.self-2.view_is) at c.loop-coins.invariant.0) (sync_array (g.S.Store.view c.self-2.inside.store) (g.S.Store.view c.sync.new.self) c.sync.result c.sync.ensures) none
+          (below_again (g.S.Store.view c.args.self.now.store) (g.S.Store.view middle.store) (g.S.Store.view last.store) (rw (← c.self-2.view_is) at c.loop-coins.invariant.2) (sync_below (g.S.Store.view c.self-2.inside.store) (g.S.Store.view c.sync.new.self) c.sync.result c.sync.ensures)),
+      tt,
+    )
 
 pub returns : goal.returns
 returns g c =
@@ -39,6 +45,7 @@ returns g c =
     let last : Cache g.row.S.Denot = record { store = c.sync.new.self; kept = c.self-2.inside.queue; most = c.self-2.inside.most } in
     let none : c.self-2.inside.queue ≡ [] = ap (λ k. k.kept) (c.self-2.view_is ∙ sym c.self-in-loop-coins.view_is) ∙ empty_is c.self-in-loop-coins.inside.queue (sym c.is_empty.ensures ∙ c.loop-coins-test.false) in
     let count : c.len-pending.result ≡ length c.args.self.now.kept = c.len-pending.ensures ∙ ap (λ k. length k.kept) c.self.view_is in (
-      falls g.S.Store.view c.args.self.now middle last (rw (← c.self-2.view_is) at c.loop-coins.invariant.0) (sync_array below below' c.sync.result c.sync.ensures) none,
+      falls g.S.Store.view c.args.self.now middle last (rw (← c.self-2.view_is) at c.loop-coins.invariant.0) (sync_array below below' c.sync.result c.sync.ensures) none
+          (below_again (g.S.Store.view c.args.self.now.store) below below' (rw (← c.self-2.view_is) at c.loop-coins.invariant.2) (sync_below below below' c.sync.result c.sync.ensures)),
       (sync_durable below below' (rw c.in_default-sync.is at c.sync.ensures), count ∙ sym (length_map c.args.self.now.kept), omega (arith, count, c.loop-coins.invariant.1)),
     )

@@ -1,7 +1,7 @@
 ghost use Rattle.std.specs.Prelude.{◌≡◌, IfSome, IsTrue, replicate};
 ghost use Rattle.file_drive.specs.Layout.{file_length};
 
-use crate::{load, store_and_load};
+use drive_copies::{load, store_and_load};
 use drive_port::{Device, Halt};
 use file_bytes::{FileBytes, MemoryFile};
 use file_drive::{Boot, System, file_length, open, store};

@@ -2,7 +2,7 @@ ghost use Rattle.std.specs.Prelude.{refl};
 ghost use Rattle.std.proofs.Common.{inl};
 ghost use Rattle.file_bytes.specs.Pending.{MayLeave};
 
-use crate::{FileBytes, MemoryFile, ReadAheadFile, ReadOnlyFile, StoppingFile};
+use file_bytes::{FileBytes, MemoryFile, ReadAheadFile, ReadOnlyFile, StoppingFile};
 use std::alloc::Global;
 use std::io;
 use std::test::Fail;

@@ -1,9 +1,9 @@
 ghost use Rattle.std.specs.Prelude.{◌≡◌, IfSome, IsTrue, replicate};
 ghost use Rattle.file_drive.specs.Layout.{file_length};
 
-use crate::{Boot, FileZones, OpenFault, System, file_length, format, open, serve, store};
 use drive_port::{Device, append, finish, read, reset};
 use file_bytes::{FileBytes, MemoryFile, StoppingFile};
+use file_drive::{Boot, FileZones, OpenFault, System, file_length, format, open, serve, store};
 use nvme_wire::Command;
 use std::alloc::Global;
 use std::test::Fail;

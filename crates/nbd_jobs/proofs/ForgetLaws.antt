@@ -1,0 +1,154 @@
+-- A session over a disk that forgets: what it leaves.
+use Rattle.std.proofs.Common.{◌≡◌, ℕ, List, [], ◌∷◌, ◌++◌, length, get_or, Result, Ok, Err, true, false, refl, ap, sym, inl, inr, ◌∙◌}
+use Rattle.std.specs.Prelude.{◌&&◌, not, Bool, IfOk}
+use Rattle.nbd_wire.specs.declared.error_code.ErrorCode.{ErrorCode}
+use Rattle.nbd_wire.specs.declared.request.Request.{Request}
+use Rattle.zone_translator.proofs.KeepingLaws.{keeps_again, keeps_same}
+use Rattle.zone_translator.specs.Flat.{idle, with_nothing}
+use Rattle.zone_translator.specs.Keeping.{KeepsServed}
+use Rattle.zone_translator.specs.View.{disk_array}
+use Rattle.nbd_session.specs.Pending.{Pending}
+use Rattle.nbd_session.specs.Requests.{AnswersAsked, asked_of_store, data_length}
+use Rattle.nbd_session.specs.Session.{AnswersBy, AnswersIn, Follows, Session, session}
+use Rattle.nbd_session.specs.Store.{KeepsMode, RestsBy, StoreView, Syncs, store_array}
+use Rattle.nbd_session.specs.Streams.{Streams}
+use Rattle.nbd_session.specs.Turns.{ServesAtMost}
+use Rattle.nbd_session.specs.declared.asked.Asked.{Asked}
+use Rattle.nbd_session.specs.declared.ending.SessionEnd.{SessionEnd}
+use Rattle.nbd_session.specs.declared.ending.SessionEnd.TheVariants.{Disconnected, InputEnded, LimitReached}
+use Rattle.nbd_session.specs.declared.fault.SessionFault.{SessionFault}
+use Rattle.nbd_session.specs.declared.fault.StoreFault.{StoreFault}
+use Rattle.nbd_session.specs.declared.fault.StoreFault.TheVariants.{Disk, Medium}
+use Rattle.nbd_session.specs.declared.phase.Phase.{Phase}
+use Rattle.nbd_session.specs.declared.phase.Phase.TheVariants as phases
+use Rattle.nbd_session.proofs.ModeLaws.{at_most-grows}
+use Rattle.volatile_cache.specs.Laws.{IsSettled, LeavesOut}
+use Rattle.volatile_cache.specs.Outcomes.{cached, deferring}
+use Rattle.volatile_cache.proofs.CutLaws.{cut-settled, kill-outcome}
+use Rattle.volatile_cache.proofs.RequestLaws.{request-settled}
+use Rattle.volatile_cache.proofs.SettledLaws.{call-settled, kept-settled}
+use Rattle.nbd_jobs.specs.Forgetting.{Applies, Forgets, LeavesBy}
+use Rattle.nbd_jobs.specs.Laws.{LeavesBlock, MessageKeepsSettled, SettledIsLeft}
+use Rattle.nbd_jobs.specs.declared.forgetting.Forgotten.{Forgotten}
+use Rattle.nbd_jobs.specs.declared.job.Forget.{Forget}
+
+-- ---- a sync of the cache
+
+-- nothing is pending above, if nothing is at all
+none-above : (xs ys : List Pending) → xs ++ ys ≡ [] → ys ≡ []
+none-above [] ys none = none
+none-above (x ∷ xs) ys none = absurd (cc none)
+
+-- what a sync through a cache keeps of the disk below
+pub sync-kept : (below new : StoreView) (mine left : List Pending) (result : Result (Unit {0}) StoreFault) → Syncs (cached below mine) result (cached new left) → KeepsServed below.disk new.disk
+sync-kept below new mine left (Ok done) s = s.1.keeps.kept
+sync-kept below new mine left (Err (Disk fault)) (inl s) = let same : new.disk ≡ below.disk = ap (λ (store : StoreView). store.disk) s.1 in rw same (keeps_same below.disk)
+sync-kept below new mine left (Err (Disk fault)) (inr s) = s.1.keeps.kept
+sync-kept below new mine left (Err Medium) s = s.1.kept
+
+mode-below : (below new : StoreView) (mine left : List Pending) → KeepsMode (cached below mine) (cached new left) → KeepsMode (deferring below) (deferring new)
+mode-below below new mine left m = record { read_only = m.read_only; cleans = m.cleans; flushes = m.flushes; defers = refl; fails = m.fails }
+
+pub sync-mode : (below new : StoreView) (mine left : List Pending) (result : Result (Unit {0}) StoreFault) → Syncs (cached below mine) result (cached new left) → KeepsMode (deferring below) (deferring new)
+sync-mode below new mine left (Ok done) s = mode-below below new mine left s.1.keeps.mode
+sync-mode below new mine left (Err (Disk fault)) (inl s) = record {
+  read_only = ap (λ (store : StoreView). store.read_only) s.1;
+  cleans = ap (λ (store : StoreView). store.cleans) s.1;
+  flushes = ap (λ (store : StoreView). store.flushes) s.1;
+  defers = refl;
+  fails = ap (λ (store : StoreView). store.fails) s.1;
+}
+sync-mode below new mine left (Err (Disk fault)) (inr s) = mode-below below new mine left s.1.keeps.mode
+sync-mode below new mine left (Err Medium) s = mode-below below new mine left s.1.mode
+
+-- done, nothing is pending in the cache
+pub sync-applies : (below new : StoreView) (mine left : List Pending) → Syncs (cached below mine) (Ok tt) (cached new left) → Applies below mine (Ok 0) new
+sync-applies below new mine left s = (rw (none-above new.pending left s.1.done) at s, refl)
+
+pub sync-refused : (below new : StoreView) (mine left : List Pending) (fault : StoreFault) → Syncs (cached below mine) (Err fault) (cached new left) → Applies below mine (Err fault) new
+sync-refused below new mine left fault s = (left, s)
+
+-- ---- what a session and its end keep
+
+mode-again : (a b c : StoreView) → KeepsMode (deferring a) (deferring b) → KeepsMode (deferring b) (deferring c) → KeepsMode (deferring a) (deferring c)
+mode-again a b c x y = record { read_only = y.read_only ∙ x.read_only; cleans = y.cleans ∙ x.cleans; flushes = y.flushes ∙ x.flushes; defers = refl; fails = y.fails ∙ x.fails }
+
+-- a store with an empty cache above it was served, and what was pending at the end was applied or lost
+pub forgets : (forget : Forget) (bytes : Streams) (old below new : StoreView) (mine : List Pending) (told : Forgotten) → ServesAtMost forget.cut_after bytes (session phases.Greeting (cached old [])) told.ended (cached below mine)
+    → KeepsServed old.disk below.disk → told.pending ≡ length mine → LeavesBy told.ended below mine told.lost new → KeepsServed below.disk new.disk → KeepsMode (deferring below) (deferring new) → Forgets forget bytes old told new
+forgets forget bytes old below new mine told serves kept count leaves kept' mode = record {
+  below = below;
+  mine = mine;
+  serves = serves;
+  count = count;
+  leaves = leaves;
+  kept = keeps_again old.disk below.disk new.disk kept kept';
+  mode = mode-again old below new (mode-below old below [] mine (at_most-grows forget.cut_after bytes (session phases.Greeting (cached old [])) told.ended (cached below mine) serves).1) mode;
+}
+
+-- ---- messages
+
+rests-settled : (turn : Bool) (old new : StoreView) (place : ℕ) (block : List ℕ) → RestsBy turn old new → IsSettled place block old → IsSettled place block new
+rests-settled true old new place block t settled = call-settled old new idle (with_nothing t.result) place block t.calls tt settled
+rests-settled false old new place block same settled = rw same settled
+
+follows-settled : (passes : Bool) (old new : StoreView) (place : ℕ) (block : List ℕ) → Follows passes old new → IsSettled place block old → IsSettled place block new
+follows-settled true old new place block rests settled = rests-settled (old.cleans && not old.read_only) old new place block rests settled
+follows-settled false old new place block same settled = rw same settled
+
+asked-settled : (old : StoreView) (request : Request) (wanted : Result Asked ErrorCode) (bytes reply : List ℕ) (new : StoreView) (place : ℕ) (block : List ℕ) → AnswersAsked old request wanted bytes reply new
+    → length bytes ≡ data_length request → IfOk wanted (LeavesOut old.disk.drive.geometry.block (data_length request) place) → IsSettled place block old → IsSettled place block new
+asked-settled old request (Err error) bytes reply new place block a count leaves settled = rw a.1 settled
+asked-settled old request (Ok wanted) bytes reply new place block a count leaves settled = request-settled old new request wanted bytes reply place block a count leaves settled
+
+by-settled : (passes : Bool) (old : StoreView) (ends : Bool) (request : Request) (bytes reply : List ℕ) (new : Session) (place : ℕ) (block : List ℕ) → AnswersBy passes old ends request bytes reply new → length bytes ≡ data_length request
+    → IfOk (asked_of_store old request) (LeavesOut old.disk.drive.geometry.block (data_length request) place) → IsSettled place block old → IsSettled place block new.store
+by-settled passes old true request bytes reply new place block a count leaves settled = rw a.1 settled
+by-settled passes old false request bytes reply new place block a count leaves settled =
+    follows-settled passes a.1.answered new.store place block a.1.follows
+    (asked-settled old request (asked_of_store old request) bytes reply a.1.answered place block a.1.answers count leaves settled)
+
+in-settled : (passes : Bool) (phase : Phase) (old : StoreView) (message reply : List ℕ) (new : Session) (answers : AnswersIn passes phase old message reply new) (place : ℕ) (block : List ℕ)
+    → LeavesBlock place passes phase old message reply new answers → IsSettled place block old → IsSettled place block new.store
+in-settled passes phases.Greeting old message reply new a place block leaves settled = rw a.2 settled
+in-settled passes phases.Flags old message reply new a place block leaves settled = rw a.new_is settled
+in-settled passes (phases.Options no_zeroes) old message reply new a place block leaves settled = rw a.new_is settled
+in-settled passes phases.Transmission old message reply new a place block leaves settled =
+    by-settled passes old _ a.request a.bytes reply new place block a.answer a.length_is leaves settled
+in-settled passes phases.Ended old message reply new a place block leaves settled = absurd a
+
+pub message-settled : MessageKeepsSettled
+message-settled passes old message reply new answers place block leaves settled = in-settled passes old.phase old.store message reply new answers place block leaves settled
+
+-- ---- the end
+
+-- a settled block is in the store below, whatever is pending above it
+below-settled : (below : StoreView) (mine : List Pending) (place : ℕ) (block : List ℕ) → IsSettled place block (cached below mine) → get_or (store_array below) place [] ≡ block
+below-settled below mine place block settled = cut-settled below mine (store_array below) place block settled (kill-outcome mine (store_array below))
+
+sync-settled : (below new : StoreView) (mine left : List Pending) (result : Result (Unit {0}) StoreFault) (place : ℕ) (block : List ℕ) → Syncs (cached below mine) result (cached new left) → IsSettled place block (cached below mine) → IsSettled place block (cached new left)
+sync-settled below new mine left (Ok done) place block s settled = kept-settled (cached below mine) (cached new left) place block s.1.keeps settled
+sync-settled below new mine left (Err (Disk fault)) place block (inl s) settled = rw s.1 settled
+sync-settled below new mine left (Err (Disk fault)) place block (inr s) settled = kept-settled (cached below mine) (cached new left) place block s.1.keeps settled
+sync-settled below new mine left (Err Medium) place block s settled = kept-settled (cached below mine) (cached new left) place block s.1 settled
+
+applied-settled : (below new : StoreView) (mine : List Pending) (lost : Result ℕ StoreFault) (place : ℕ) (block : List ℕ) → Applies below mine lost new → IsSettled place block (cached below mine) → get_or (store_array new) place [] ≡ block
+applied-settled below new mine (Ok lost) place block a settled = below-settled new [] place block (sync-settled below new mine [] (Ok tt) place block a.0 settled)
+applied-settled below new mine (Err fault) place block a settled = below-settled new a.0 place block (sync-settled below new mine a.0 (Err fault) place block a.1 settled)
+
+left-settled : (ended : Result SessionEnd SessionFault) (below new : StoreView) (mine : List Pending) (lost : Result ℕ StoreFault) (place : ℕ) (block : List ℕ) → LeavesBy ended below mine lost new → IsSettled place block (cached below mine)
+    → get_or (store_array new) place [] ≡ block
+left-settled (Ok Disconnected) below new mine lost place block l settled = applied-settled below new mine lost place block l settled
+left-settled (Ok InputEnded) below new mine lost place block l settled = cut-settled below mine (store_array new) place block settled l.outcome
+left-settled (Ok LimitReached) below new mine lost place block l settled = cut-settled below mine (store_array new) place block settled l.outcome
+left-settled (Err fault) below new mine lost place block l settled = cut-settled below mine (store_array new) place block settled l.outcome
+
+-- nothing is pending above the disk that is left
+array-left : (last : StoreView) → last.pending ≡ [] → store_array last ≡ disk_array last.disk
+array-left last none = rw none refl
+
+pub settled-left : SettledIsLeft
+settled-left forget read_only job bytes syncs old told new session place block settled =
+    let f = session.forgets in
+    ap (λ (array : List (List ℕ)). get_or array place []) (sym (array-left session.last session.pending))
+    ∙ left-settled told.ended f.below session.last f.mine told.lost place block f.leaves settled

@@ -1,0 +1,59 @@
+-- A session over a disk that forgets: a store with a cache above it.
+use Rattle.std.specs.Prelude.{◌≡◌, ◌≤◌, ℕ, List, [], length, Contains, Option, Some, None, Result, Ok, Err, IfOk, IsSomeAnd}
+use Rattle.zone_translator.specs.Keeping.{KeepsServed}
+use Rattle.nbd_session.specs.Pending.{Pending}
+use Rattle.nbd_session.specs.Session.{session}
+use Rattle.nbd_session.specs.Store.{KeepsMode, StoreView, Syncs, store_array}
+use Rattle.nbd_session.specs.Streams.{Streams}
+use Rattle.nbd_session.specs.Turns.{Serves, ServesAtMost}
+use Rattle.nbd_session.specs.declared.ending.SessionEnd.{SessionEnd}
+use Rattle.nbd_session.specs.declared.ending.SessionEnd.TheVariants.{Disconnected}
+use Rattle.nbd_session.specs.declared.fault.SessionFault.{SessionFault}
+use Rattle.nbd_session.specs.declared.fault.StoreFault.{StoreFault}
+use Rattle.nbd_session.specs.declared.phase.Phase.TheVariants.{Greeting}
+use Rattle.volatile_cache.specs.Outcomes.{IsDurable, cached, deferring, outcomes}
+use Rattle.nbd_jobs.specs.declared.forgetting.Forgotten.{Forgotten}
+use Rattle.nbd_jobs.specs.declared.job.Forget.{Forget}
+
+-- ---- what is left
+
+-- All that was pending is applied and synced, and none is lost. Or the store below refused that: then what is pending
+-- still is lost.
+abbrev pub Applies : StoreView → List Pending → Result ℕ StoreFault → StoreView → Type 0
+Applies below mine (Ok lost) new = Syncs (cached below mine) (Ok tt) (cached new []) × (lost ≡ 0)
+Applies below mine (Err fault) new = (still : List Pending) × Syncs (cached below mine) (Err fault) (cached new still)
+
+-- What a cut leaves: an array on which some of the pending blocks are written, in order: none, any or all of them. Done,
+-- that array is durable, and no more blocks are lost than were pending.
+pub record IsCut (below : StoreView) (mine : List Pending) (lost : Result ℕ StoreFault) (new : StoreView) : Type 0 where
+  pub outcome : Contains (outcomes mine (store_array below)) (store_array new)
+  pub done : IfOk lost (λ lost. IsDurable new × (lost ≤ length mine))
+
+-- What is left, by how the session ended. Where the client has said so, all is applied. Else the power is cut: at the
+-- end of the input, at the greatest number of requests, and at a fault.
+abbrev pub LeavesBy : Result SessionEnd SessionFault → StoreView → List Pending → Result ℕ StoreFault → StoreView → Type 0
+LeavesBy (Ok Disconnected) below mine lost new = Applies below mine lost new
+LeavesBy ended below mine lost new = IsCut below mine lost new
+
+-- A store is served with an empty cache above it. When the session had ended, `below` was under the cache and `mine`
+-- pending in it. Told are how the session ended, how many blocks were pending, and how many of them are lost. Whether the store is read only, cleans and flushes stays.
+pub record Forgets (forget : Forget) (bytes : Streams) (old : StoreView) (told : Forgotten) (new : StoreView) : Type 0 where
+  pub below : StoreView
+  pub mine : List Pending
+  pub serves : ServesAtMost forget.cut_after bytes (session Greeting (cached old [])) told.ended (cached below mine)
+  pub count : told.pending ≡ length mine
+  pub leaves : LeavesBy told.ended below mine told.lost new
+  pub kept : KeepsServed old.disk new.disk
+  pub mode : KeepsMode (deferring old) (deferring new)
+
+-- ---- a session, with such a cache or without
+
+-- whether a session ended well
+abbrev pub ends_well : Result SessionEnd SessionFault → Result (Unit {0}) SessionFault
+ends_well (Ok done) = Ok tt
+ends_well (Err fault) = Err fault
+
+-- A store is served as it is. Or it is served with a cache above it, if that is asked for, and what was forgotten is told.
+abbrev pub ServesStore : Option Forget → Streams → StoreView → Result (Unit {0}) SessionFault → Option Forgotten → StoreView → Type 0
+ServesStore None bytes old ended told new = Serves bytes (session Greeting old) ended new × KeepsServed old.disk new.disk × (told ≡ None)
+ServesStore (Some forget) bytes old ended told new = IsSomeAnd told (λ told. Forgets forget bytes old told new × (ended ≡ ends_well told.ended))

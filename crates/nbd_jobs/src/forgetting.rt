@@ -1,0 +1,156 @@
+// A session over a disk that forgets.
+
+ghost use Rattle.std.specs.Prelude.{◌≡◌};
+ghost use Rattle.nbd_session.specs.Store.{KeepsMode};
+ghost use Rattle.nbd_session.specs.Streams.{streams};
+ghost use Rattle.volatile_cache.specs.Outcomes.{deferring};
+ghost use Rattle.volatile_cache.specs.Queue.{all_pending};
+ghost use Rattle.zone_translator.specs.Keeping.{KeepsServed};
+ghost use Rattle.nbd_jobs.specs.Forgetting.{Applies, Forgets, IsCut, LeavesBy, ServesStore, ends_well};
+
+use crate::job::Forget;
+use nbd_session::{Client, SessionEnd, SessionFault, Store, StoreFault, serve, serve_at_most};
+use std::alloc::Global;
+use std::io::Write;
+use volatile_cache::VolatileCache;
+use zone_translator::DiskFault;
+
+/// How many bytes of blocks may be pending in the cache of a disk that forgets. The oldest are applied when it is full.
+pub const CACHE_BYTES: u64 = 64 << 20;
+
+/// What became of the blocks that were pending when a session over a disk that forgets had ended.
+#[derive(Clone, Copy, Debug, PartialEq, Eq)]
+pub struct Forgotten {
+    /// How the session ended. Where the client has said so, the pending blocks are applied. Else the power is cut.
+    pub ended: Result<SessionEnd, SessionFault>,
+    /// How many blocks were pending.
+    pub pending: u64,
+    /// How many of them are lost; or why some were not applied, or are not durable.
+    pub lost: Result<u64, StoreFault>,
+}
+
+impl Forgotten {
+    /// Why blocks were not applied, or are not durable, though the drive had not stopped.
+    pub fn fault(&self) -> Option<StoreFault> {
+        match self.lost {
+            Ok(_) | Err(StoreFault::Disk(DiskFault::Stopped)) => None,
+            Err(fault) => Some(fault),
+        }
+    }
+}
+
+/// A store that was served, and what is told of it.
+#[derive(Drop)]
+pub(crate) struct AfterServing<S: Store + Drop> {
+    pub store: S,
+    /// What was forgotten, if the disk forgets.
+    pub forgotten: Option<Forgotten>,
+    /// How the session ended.
+    pub result: Result<(), SessionFault>,
+}
+
+/// Whether a session ended well.
+fn ends_well(ended: Result<SessionEnd, SessionFault>) -> Result<(), SessionFault>
+    ensures { result ≡ ends_well ended }
+{
+    match ended {
+        Ok(_) => Ok(()),
+        Err(fault) => Err(fault),
+    }
+}
+
+/// Applies all that is pending, and syncs it. So many blocks are lost then: none.
+fn apply_pending<S: Store + Drop>(cache: &mut VolatileCache<S>) -> Result<u64, StoreFault>
+    ensures applies { Applies (S.view cache.old.store) (all_pending cache.old.kept) result (S.view cache.new.store) }
+    ensures kept { KeepsServed (S.view cache.old.store).disk (S.view cache.new.store).disk }
+    ensures mode { KeepsMode (deferring (S.view cache.old.store)) (deferring (S.view cache.new.store)) }
+{
+    match cache.sync() {
+        Ok(()) => Ok(0),
+        Err(fault) => Err(fault),
+    }
+}
+
+/// Cuts the power: how many of the pending blocks are lost.
+fn cut_power<S: Store + Drop>(
+    cache: &mut VolatileCache<S>,
+    forget: Forget,
+) -> Result<u64, StoreFault>
+    ensures cut { IsCut (S.view cache.old.store) (all_pending cache.old.kept) result (S.view cache.new.store) }
+    ensures kept { KeepsServed (S.view cache.old.store).disk (S.view cache.new.store).disk }
+    ensures mode { KeepsMode (deferring (S.view cache.old.store)) (deferring (S.view cache.new.store)) }
+{
+    match cache.cut(forget.seed, forget.odds) {
+        Ok(lost) => Ok(lost.lost),
+        Err(fault) => Err(fault),
+    }
+}
+
+/// Applies what is pending if the client has said that its session ends, and else cuts the power.
+fn end_pending<S: Store + Drop>(
+    cache: &mut VolatileCache<S>,
+    forget: Forget,
+    ended: Result<SessionEnd, SessionFault>,
+) -> Result<u64, StoreFault>
+    ensures leaves { LeavesBy ended (S.view cache.old.store) (all_pending cache.old.kept) result
+        (S.view cache.new.store) }
+    ensures kept { KeepsServed (S.view cache.old.store).disk (S.view cache.new.store).disk }
+    ensures mode { KeepsMode (deferring (S.view cache.old.store)) (deferring (S.view cache.new.store)) }
+{
+    match ended {
+        Ok(SessionEnd::Disconnected) => apply_pending(cache),
+        _ => cut_power(cache, forget),
+    }
+}
+
+/// Serves a store to a client with a cache above it, and applies what is pending at the end, or cuts the power.
+fn serve_forgetting<S: Store + Drop, R: Client, W: Write>(
+    alloc: Global,
+    forget: Forget,
+    store: S,
+    reader: &mut R,
+    writer: &mut W,
+) -> (S, Forgotten)
+    ensures { Forgets forget
+        (streams (R.remaining reader.old) (R.remaining reader.new) (W.contents writer.old) (W.contents writer.new))
+        (S.view store) result.1 (S.view result.0) }
+{
+    let mut cache = VolatileCache::new(alloc, store, CACHE_BYTES);
+    let ended = serve_at_most(alloc, reader, writer, &mut cache, forget.cut_after);
+    let pending = cache.pending() as u64;
+    let lost = end_pending(&mut cache, forget, ended);
+    let forgotten = Forgotten {
+        ended,
+        pending,
+        lost,
+    };
+    (cache.into_store(), forgotten)
+}
+
+/// Serves a store to a client: with a cache above it that forgets, if that is asked for.
+pub(crate) fn serve_store<S: Store + Drop, R: Client, W: Write>(
+    alloc: Global,
+    forget: Option<Forget>,
+    mut store: S,
+    reader: &mut R,
+    writer: &mut W,
+) -> AfterServing<S>
+    ensures { ServesStore forget
+        (streams (R.remaining reader.old) (R.remaining reader.new) (W.contents writer.old) (W.contents writer.new))
+        (S.view store) result.result result.forgotten (S.view result.store) }
+{
+    let Some(forget) = forget else {
+        let result = serve(alloc, reader, writer, &mut store);
+        return AfterServing {
+            store,
+            forgotten: None,
+            result,
+        };
+    };
+    let (store, forgotten) = serve_forgetting(alloc, forget, store, reader, writer);
+    AfterServing {
+        store,
+        forgotten: Some(forgotten),
+        result: ends_well(forgotten.ended),
+    }
+}
