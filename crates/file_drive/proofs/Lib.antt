@@ -4,6 +4,8 @@ pub mod ServedLaws
 pub mod DataLaws
 pub mod StoreLaws
 pub mod ApartLaws
+pub mod KeptLaws
+pub mod PickLaws
 pub mod ReadLaws
 pub mod FaultLaws
 mod OpenLaws

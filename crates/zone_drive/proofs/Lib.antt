@@ -15,3 +15,4 @@ pub mod TableLaws
 pub mod ChangeLaws
 pub mod ForeseeLaws
 pub mod DurableLaws
+pub mod HeldLaws

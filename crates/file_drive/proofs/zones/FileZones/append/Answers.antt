@@ -17,8 +17,7 @@ index-requires g c =
 
 pub appended-entry-requires : goal.appended-entry-requires
 appended-entry-requires g c =
-    let now = c.args.self.now in
-    let low = filed-low g.F.FileBytes.seen now c.args.index c.requires.in_range in
+    let low = filed-low g.F.FileBytes.seen c.args.self.now c.args.index c.requires.in_range in
     let low' = rw (← c.self.view_is) at low in
     let fits = append-fits c.self.inside.geometry (g.F.FileBytes.seen c.self.inside.file) c.self.inside.entries.items c.args.index c.args.bytes.now c.self.invariant.4.long c.self.invariant.1 c.self.invariant.2 low'
     (block-some c.self.inside.geometry c.self.invariant.0) (rw (← c.self.view_is) at c.requires.checks) in
@@ -30,12 +29,10 @@ write_data-requires-clause-in_range g c = filed-low g.F.FileBytes.seen c.args.se
 
 pub write_data-requires-clause-room : goal.write_data-requires-clause-room
 write_data-requires-clause-room g c =
-    let now = c.args.self.now in
-    let low = filed-low g.F.FileBytes.seen now c.args.index c.requires.in_range in
+    let low = filed-low g.F.FileBytes.seen c.args.self.now c.args.index c.requires.in_range in
     let low' = rw (← c.self.view_is) at low in
     let fits = append-fits c.self.inside.geometry (g.F.FileBytes.seen c.self.inside.file) c.self.inside.entries.items c.args.index c.args.bytes.now c.self.invariant.4.long c.self.invariant.1 c.self.invariant.2 low'
     (block-some c.self.inside.geometry c.self.invariant.0) (rw (← c.self.view_is) at c.requires.checks) in
-    let is = entry-read c.self.inside.entries.items c.args.index c.index.result.now low' c.index.ensures in
     let most = mul-le-mul_right c.self.inside.geometry.block fits.1 in
     rw (← c.self.view_is) (omega (arith, fits.0, most))
 
@@ -43,10 +40,6 @@ pub returns-in_err-write_data-clause-err : goal.returns-in_err-write_data-clause
 returns-in_err-write_data-clause-err g c =
     let now = c.args.self.now in
     let low = filed-low g.F.FileBytes.seen now c.args.index c.requires.in_range in
-    let low' = rw (← c.self.view_is) at low in
-    let fits = append-fits c.self.inside.geometry (g.F.FileBytes.seen c.self.inside.file) c.self.inside.entries.items c.args.index c.args.bytes.now c.self.invariant.4.long c.self.invariant.1 c.self.invariant.2 low'
-    (block-some c.self.inside.geometry c.self.invariant.0) (rw (← c.self.view_is) at c.requires.checks) in
-    let is = entry-read c.self.inside.entries.items c.args.index c.index.result.now low' c.index.ensures in
     let keeps = c.write_data.ensures.others in
     on-err c.from_residual.result _
     (rw (c.write_data.ensures.shape, c.write_data.ensures.entries)
@@ -58,8 +51,7 @@ put-requires-clause-in_range g c =
 
 pub put-requires-clause-within : goal.put-requires-clause-within
 put-requires-clause-within g c =
-    let now = c.args.self.now in
-    let low = filed-low g.F.FileBytes.seen now c.args.index c.requires.in_range in
+    let low = filed-low g.F.FileBytes.seen c.args.self.now c.args.index c.requires.in_range in
     let low' = rw (← c.self.view_is) at low in
     let fits = append-fits c.self.inside.geometry (g.F.FileBytes.seen c.self.inside.file) c.self.inside.entries.items c.args.index c.args.bytes.now c.self.invariant.4.long c.self.invariant.1 c.self.invariant.2 low'
     (block-some c.self.inside.geometry c.self.invariant.0) (rw (← c.self.view_is) at c.requires.checks) in
@@ -81,10 +73,6 @@ pub returns-in_err-put-clause-err : goal.returns-in_err-put-clause-err
 returns-in_err-put-clause-err g c =
     let now = c.args.self.now in
     let low = filed-low g.F.FileBytes.seen now c.args.index c.requires.in_range in
-    let low' = rw (← c.self.view_is) at low in
-    let fits = append-fits c.self.inside.geometry (g.F.FileBytes.seen c.self.inside.file) c.self.inside.entries.items c.args.index c.args.bytes.now c.self.invariant.4.long c.self.invariant.1 c.self.invariant.2 low'
-    (block-some c.self.inside.geometry c.self.invariant.0) (rw (← c.self.view_is) at c.requires.checks) in
-    let is = entry-read c.self.inside.entries.items c.args.index c.index.result.now low' c.index.ensures in
     let keeps = c.write_data.ensures.others in
     let count : length now.entries ≡ now.shape.zones = rw (← c.self.view_is) c.self.invariant.1 in
     let same = rw c.write_data.ensures.shape at c.put.ensures.zones in

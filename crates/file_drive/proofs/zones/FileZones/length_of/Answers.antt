@@ -9,8 +9,6 @@ index-requires g c =
 
 pub returns : goal.returns
 returns g c =
-    let inside = c.self.inside in
     let low = rw (← c.self.view_is) at (filed-low g.F.FileBytes.seen c.args.self.now c.args.index c.requires) in
-    let is = entry-read inside.entries.items c.args.index c.index.result.now low c.index.ensures in
-    let all = stored-length inside.geometry (g.F.FileBytes.seen inside.file) inside.entries.items c.args.index c.self.invariant.4.long c.self.invariant.1 c.self.invariant.2 low in
-    rw (← c.self.view_is, is) (sym all)
+    let is = entry-read c.self.inside.entries.items c.args.index c.index.result.now low c.index.ensures in
+    rw (← c.self.view_is, is) (sym (stored-length c.self.inside.geometry (g.F.FileBytes.seen c.self.inside.file) c.self.inside.entries.items c.args.index c.self.invariant.4.long c.self.invariant.1 c.self.invariant.2 low))

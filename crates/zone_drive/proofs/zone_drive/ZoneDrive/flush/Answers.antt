@@ -1,6 +1,7 @@
-use Rattle.std.proofs.Common.{refl, ◌∙◌}
+use Rattle.std.proofs.Common.{refl}
 use Rattle.zone_drive.proofs.OutcomeLaws.{gives-flush}
 use Rattle.zone_drive.proofs.DurableLaws.{durable-just, durable-or, durable-or-now, on-err}
+use Rattle.zone_drive.proofs.HeldLaws.{holds-after}
 use Rattle.zone_drive.proofs.zone_drive.ZoneDrive.flush.Goals as goal
 
 pub returns-clause-ok : goal.returns-clause-ok
@@ -22,27 +23,11 @@ returns-in_err-flush-clause-kept g c =
 pub invariant_of-self : goal.invariant_of-self
 invariant_of-self g c =
     let inside = c.self.inside in
-    let held = c.self.invariant in (
-      held.0,
-      rw c.flush.ensures.stored held.1,
-      c.flush.ensures.shape ∙ held.2,
-      held.3,
-      held.4,
-      held.5,
-      held.6,
-      durable-or-now inside.geometry (g.Z.HeldZones.stored inside.zones) (g.Z.HeldZones.durable inside.zones) (g.Z.HeldZones.durable c.flush.new.self) held.0 held.1 held.7 c.flush.ensures.durable,
-    )
+    let held = c.self.invariant in
+    holds-after g.Z.HeldZones inside held c.flush.new.self (rw c.flush.ensures.stored held.1) c.flush.ensures.shape (durable-or-now inside.geometry (g.Z.HeldZones.stored inside.zones) (g.Z.HeldZones.durable inside.zones) (g.Z.HeldZones.durable c.flush.new.self) held.0 held.1 held.7 c.flush.ensures.durable)
 
 pub invariant_of-self-2 : goal.invariant_of-self-2
 invariant_of-self-2 g c =
     let inside = c.self.inside in
-    let held = c.self.invariant in (
-      held.0,
-      rw c.flush.ensures.stored held.1,
-      c.flush.ensures.shape ∙ held.2,
-      held.3,
-      held.4,
-      held.5,
-      held.6,
-      durable-or-now inside.geometry (g.Z.HeldZones.stored inside.zones) (g.Z.HeldZones.durable inside.zones) (g.Z.HeldZones.durable c.flush.new.self) held.0 held.1 held.7 c.flush.ensures.durable,
-    )
+    let held = c.self.invariant in
+    holds-after g.Z.HeldZones inside held c.flush.new.self (rw c.flush.ensures.stored held.1) c.flush.ensures.shape (durable-or-now inside.geometry (g.Z.HeldZones.stored inside.zones) (g.Z.HeldZones.durable inside.zones) (g.Z.HeldZones.durable c.flush.new.self) held.0 held.1 held.7 c.flush.ensures.durable)
