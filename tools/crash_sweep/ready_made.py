@@ -35,12 +35,13 @@ def script(name, *words):
 
 def on_files(bug="", options="defaults", kind="synced"):
     """Files on ext4, each synced."""
-    return Workload("files", script("work_files.py", kind), bug, options)
+    return Workload("files", script("work_files.py", kind), bug, options, size=16 * MIB)
 
 
 def on_slots(kind, bug=""):
     """Slots of one file, written by O_DIRECT."""
-    return Workload("direct", script("work_files.py", kind), bug, "defaults", script("work_files.py", "make-slots"))
+    return Workload("direct", script("work_files.py", kind), bug, "defaults", script("work_files.py", "make-slots"),
+                    16 * MIB)
 
 
 def on_sqlite(journal, synchronous, bug="", options="defaults"):
@@ -51,7 +52,7 @@ def on_sqlite(journal, synchronous, bug="", options="defaults"):
 def on_postgres(fsync, bug=""):
     """Transactions of PostgreSQL."""
     return Workload("postgres", script("work_postgres.py", fsync), bug, "defaults", script("work_postgres.py", "make"),
-                    128 * MIB)
+                    64 * MIB)
 
 
 NO_FLUSH, NO_SYNC = "ext4 sends no FLUSH (nobarrier)", "synchronous=OFF"

@@ -189,7 +189,7 @@ class Summary:
 
     def __init__(self, mode):
         self.mode, self.cuts, self.failed, self.kinds, self.first = mode, 0, 0, {}, None
-        self.begun = time.monotonic()
+        self.begun, self.ended = time.monotonic(), 0.0
 
     def add(self, result):
         """Counts a result. Whether it is the first failure."""
@@ -207,7 +207,7 @@ class Summary:
         one that failed."""
         return {"mode": self.mode, "cuts": self.cuts, "failed": self.failed, "kinds": dict(sorted(self.kinds.items())),
                 "first": self.first, "mean": round(self.cuts / self.failed, 1) if self.failed else None,
-                "seconds": round(time.monotonic() - self.begun)}
+                "seconds": round(self.ended - self.begun)}
 
 
 def sweep(plan, tell):
@@ -224,4 +224,5 @@ def sweep_within(plan, tell):
     for result in results_of(plan, cuts_of(recording, plan)):
         if summary.add(result):
             tell(finding_of(plan, recording, result))
+    summary.ended = time.monotonic()
     return summary

@@ -13,7 +13,7 @@ import mmap
 import os
 import sys
 
-FILES, SLOTS, BLOCK, DIRECT = 200, 200, 4096, "slots"
+FILES, SLOTS, BLOCK, DIRECT = 60, 100, 4096, "slots"
 
 
 def data_of(number):

@@ -15,7 +15,7 @@ import tempfile
 
 import clusters
 
-ROWS = 150
+ROWS = 100
 
 
 def text_of(number):

@@ -10,7 +10,7 @@ import os
 import sqlite3
 import sys
 
-ROWS = 200
+ROWS = 100
 
 
 def text_of(number):
