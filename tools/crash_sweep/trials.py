@@ -20,6 +20,17 @@ def record_workload(workload, folder):
     runs.record_files(folder, BLOCK, list(workload.words), workload.options)
 
 
+def record_whole(workload, folder):
+    """Records a workload, if its recording is not there. If that fails or is ended, no recording is left."""
+    if os.path.exists(os.path.join(folder, "log.jsonl")):
+        return
+    try:
+        record_workload(workload, folder)
+    except (runs.CannotRecord, OSError, SystemExit):
+        runs.remove(folder)
+        raise
+
+
 def is_as_wanted(workload, failed):
     """Whether the sweeps found what they have to find: of each mode the number of cuts that failed.
 
@@ -31,10 +42,9 @@ def is_as_wanted(workload, failed):
 
 
 def try_workload(name, folder, asked, tell):
-    """Records a workload, if its recording is not there, and sweeps it. Whether all was as wanted."""
+    """Records a workload and sweeps it. Whether all was as wanted."""
     workload, summaries = WORKLOADS[name], []
-    if not os.path.exists(os.path.join(folder, "log.jsonl")):
-        record_workload(workload, folder)
+    record_whole(workload, folder)
     plan = Plan(folder, asked.program, check=workload.check, odds=asked.odds, seeds=asked.cuts, most=asked.cuts,
                 order=asked.order, seed=asked.seed, jobs=asked.jobs)
     for mode in ("keeps", "forgets"):
