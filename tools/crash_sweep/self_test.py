@@ -127,6 +127,13 @@ class Look:
         rare = [known for known, found in few if not known <= found]
         self.holds(not rare, at, "a state is never left")
 
+    def look_at_some(self, chance):
+        """Looks at four random places, and for all states at one."""
+        for at in chance.choices(range(REQUESTS + 1), k=4):
+            self.look_at(at, chance.randrange(1 << 48))
+        self.look_for_states(chance.randrange(REQUESTS + 1), chance)
+        self.holds(pending_counts(self.recording) == [one.pending() for one in self.states], 0, "counts differ")
+
 
 def look_at(program, count, seed, early):
     """Random recordings, so many: how many cuts were made, and what was wrong."""
@@ -134,9 +141,6 @@ def look_at(program, count, seed, early):
     for _ in range(count):
         with scratch_folder("crash_test.") as folder:
             look = Look(folder, program, chance, early)
-            for at in chance.choices(range(REQUESTS + 1), k=4):
-                look.look_at(at, chance.randrange(1 << 48))
-            look.look_for_states(chance.randrange(REQUESTS + 1), chance)
-            look.holds(pending_counts(look.recording) == [one.pending() for one in look.states], 0, "counts differ")
+            look.look_at_some(chance)
             faults, cuts = faults + look.faults, cuts + look.cuts
     return cuts, faults
