@@ -5,12 +5,14 @@ use Rattle.nbd_jobs.proofs.forgetting.serve_store.Goals as goal
 pub returns-in_default : goal.returns-in_default
 returns-in_default g c =
     let made = c.failing_store-served.ensures in
-    rw (c.in_default.is, c.into_store.ensures)
-    (nat_lt 0 c.serve-result.new.store.odds, (
-      rw (made.store, made.odds) at c.serve-result.ensures.serves,
-      rw made.store at c.serve-result.ensures.keeps,
-      refl,
-    ))
+    rw (c.in_default.is, c.into_store.ensures) (
+      nat_lt 0 c.serve-result.new.store.odds,
+      (
+        rw (made.store, made.odds) at c.serve-result.ensures.serves,
+        rw made.store at c.serve-result.ensures.keeps,
+        refl,
+      ),
+    )
 
 pub returns : goal.returns
 returns g c =
