@@ -32,15 +32,27 @@ fn failing(rt: &impl Abort, alloc: Global, odds: u32) -> Failing {
     FailingStore::new(ServedDisk::new(disk, WriteThrough::new()), 7, odds)
 }
 
+// A write of a block of zeros.
+fn put(
+    rt: &impl Abort,
+    alloc: Global,
+    store: &mut Failing,
+    first: u64,
+) -> Result<Result<(), StoreFault>, Fail> {
+    let block = store.block_bytes() as usize;
+    let zeros = Vec::from_elem(alloc, 0, block)?;
+    assert!(rt; zeros.len() == zeros.len() / block * block);
+    Ok(store.write(first, &zeros))
+}
+
 // In how many of 64 calls the medium fails.
-fn failures(alloc: Global, store: &mut Failing) -> Result<u32, Fail> {
+fn failures(rt: &impl Abort, alloc: Global, store: &mut Failing) -> Result<u32, Fail> {
     let mut shown = Vec::new(alloc);
-    let zeros = Vec::from_elem(alloc, 0, store.block_bytes() as usize)?;
     let mut count: u32 = 0;
     for first in 0..16 {
         for done in [
             store.read(first, 1, &mut shown),
-            store.write(first, &zeros),
+            put(rt, alloc, store, first)?,
             store.trim(first, 1),
             store.write_zeroes(first, 1),
         ] {
@@ -63,7 +75,7 @@ fn kept(rt: &impl Abort, alloc: Global, store: Failing) -> usize {
 #[test]
 fn fails_never_with_odds_0(rt: HostRuntime) -> Result<(), Fail> {
     let mut store = failing(&rt, rt.alloc(), 0);
-    assert_eq!(rt; failures(rt.alloc(), &mut store)?, 0);
+    assert_eq!(rt; failures(&rt, rt.alloc(), &mut store)?, 0);
     assert_eq!(rt; store.sync(), Ok(()));
     assert_eq!(rt; store.force(0, 1), Ok(()));
     assert_eq!(rt; kept(&rt, rt.alloc(), store), 24 * 512);
@@ -73,7 +85,7 @@ fn fails_never_with_odds_0(rt: HostRuntime) -> Result<(), Fail> {
 #[test]
 fn fails_always_with_odds_100_and_changes_nothing(rt: HostRuntime) -> Result<(), Fail> {
     let mut store = failing(&rt, rt.alloc(), 100);
-    assert_eq!(rt; failures(rt.alloc(), &mut store)?, 64);
+    assert_eq!(rt; failures(&rt, rt.alloc(), &mut store)?, 64);
     assert_eq!(rt; store.sync(), Err(StoreFault::Medium));
     assert_eq!(rt; store.force(0, 1), Err(StoreFault::Medium));
     assert_eq!(rt; kept(&rt, rt.alloc(), store), 40 * 512);
@@ -83,7 +95,7 @@ fn fails_always_with_odds_100_and_changes_nothing(rt: HostRuntime) -> Result<(),
 #[test]
 fn fails_sometimes_with_odds_50(rt: HostRuntime) -> Result<(), Fail> {
     let mut store = failing(&rt, rt.alloc(), 50);
-    let count = failures(rt.alloc(), &mut store)?;
+    let count = failures(&rt, rt.alloc(), &mut store)?;
     assert!(rt; (16..48).contains(&count), "{count} of 64");
     Ok(())
 }
@@ -91,7 +103,7 @@ fn fails_sometimes_with_odds_50(rt: HostRuntime) -> Result<(), Fail> {
 #[test]
 fn fails_in_no_sync_that_is_spared(rt: HostRuntime) -> Result<(), Fail> {
     let mut store = failing(&rt, rt.alloc(), 100).sparing_syncs();
-    assert_eq!(rt; failures(rt.alloc(), &mut store)?, 64);
+    assert_eq!(rt; failures(&rt, rt.alloc(), &mut store)?, 64);
     assert_eq!(rt; store.sync(), Ok(()));
     assert_eq!(rt; store.force(0, 1), Ok(()));
     assert_eq!(rt; store.failures(), 64);
