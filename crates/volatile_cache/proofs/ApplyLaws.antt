@@ -111,14 +111,20 @@ put_refuses below below' place kept k fault found within wrote =
     let p = pulls place kept k found in
     record { older = p.older; w = pending_of k; newer = p.newer; mine_are = p.before; apart = p.apart; within = within; is_trim = is_trim k.content; puts = wrote }
 
+-- it is on the array of the store below
+pub put_array : (below below' : StoreView) (k : Kept) → k.place < disk_size below.disk → Puts (is_trim k.content) below (pending_of k) (Ok tt) below'
+    → store_array below' ≡ set (store_array below) k.place (bytes_of k.content)
+put_array below below' k within wrote =
+    let serves = done_serves (store_flat below) (store_flat below') k.place (bytes_of k.content) within wrote.calls.flat in
+    let begun : Begun (store_flat below) (write k.place (bytes_of k.content ∷ [])) (Ok tt) [] (store_flat below') = rw (block_unknown (store_flat below) k.place (bytes_of k.content) within serves) at wrote.calls.flat in
+    ap (λ (d : FlatDisk). d.array) begun.1 ∙ replaced_one (store_array below) k.place (bytes_of k.content)
+
 -- the outcomes of a cut become fewer
 pub put_outcomes : (below below' : StoreView) (place : ℕ) (kept : List Kept) (k : Kept) → oldest_of place kept ≡ Some k → k.place < disk_size below.disk → Puts (is_trim k.content) below (pending_of k) (Ok tt) below'
     → (left : List (List ℕ)) → Contains (outcomes (all_pending (without_oldest place kept)) (store_array below')) left → Contains (outcomes (all_pending kept) (store_array below)) left
 put_outcomes below below' place kept k found within wrote left later =
     let p = pulls place kept k found in
-    let serves = done_serves (store_flat below) (store_flat below') k.place (bytes_of k.content) within wrote.calls.flat in
-    let begun : Begun (store_flat below) (write k.place (bytes_of k.content ∷ [])) (Ok tt) [] (store_flat below') = rw (block_unknown (store_flat below) k.place (bytes_of k.content) within serves) at wrote.calls.flat in
-    let array : store_array below' ≡ set (store_array below) k.place (bytes_of k.content) = ap (λ (d : FlatDisk). d.array) begun.1 ∙ replaced_one (store_array below) k.place (bytes_of k.content) in
+    let array : store_array below' ≡ set (store_array below) k.place (bytes_of k.content) = put_array below below' k within wrote in
     rw p.before (some_outcome (p.older ++ pending_of k ∷ p.newer) (store_array below) left
     (pulled_some p.older p.newer (pending_of k) (store_array below) (store_array below') left (p.apart) (inr array)
     (outcome_some (p.older ++ p.newer) (store_array below') left (rw p.after at later))))

@@ -23,11 +23,11 @@ oldest-other : (place : ℕ) (k : Kept) (ks : List Kept) → (k.place == place) 
     → oldest_of place (k ∷ ks) ≡ oldest_of place ks
 oldest-other place k ks other = rw other refl
 
-without-here : (place : ℕ) (k : Kept) (ks : List Kept) → (k.place == place) ≡ true
+pub without-here : (place : ℕ) (k : Kept) (ks : List Kept) → (k.place == place) ≡ true
     → without_oldest place (k ∷ ks) ≡ ks
 without-here place k ks here = rw here refl
 
-without-other : (place : ℕ) (k : Kept) (ks : List Kept) → (k.place == place) ≡ false
+pub without-other : (place : ℕ) (k : Kept) (ks : List Kept) → (k.place == place) ≡ false
     → without_oldest place (k ∷ ks) ≡ k ∷ without_oldest place ks
 without-other place k ks other = rw other refl
 

@@ -16,4 +16,6 @@ pub mod PlaceLaws
 pub mod QueueLaws
 pub mod KeptLaws
 pub mod FallLaws
+pub mod RoomLaws
+pub mod FateLaws
 pub mod SpareLaws

@@ -1,5 +1,5 @@
 -- A volatile write cache above a store: what it is seen as, and what its calls give.
-use Rattle.std.specs.Prelude.{◌≡◌, ◌<◌, ◌≤◌, ◌+◌, ◌-◌, ℕ, Bool, List, [], ◌∷◌, ◌++◌, length, take, Contains, Result, Ok, Err}
+use Rattle.std.specs.Prelude.{◌≡◌, ◌⊎◌, ◌<◌, ◌≤◌, ◌+◌, ◌-◌, ℕ, Bool, List, [], ◌∷◌, ◌++◌, length, set, take, drop, Contains, Option, Some, None, Result, Ok, Err}
 use Rattle.std.specs.List.{AllByRecursion, concat}
 use Rattle.zone_translator.specs.Flat.{with_nothing, write}
 use Rattle.zone_translator.specs.Keeping.{KeepsServed}
@@ -12,7 +12,8 @@ use Rattle.nbd_session.specs.declared.fault.StoreFault.TheVariants.{Disk, Medium
 use Rattle.volatile_cache.specs.declared.cut.Lost.{Lost}
 use Rattle.volatile_cache.specs.declared.kept.Kept.{Kept}
 use Rattle.volatile_cache.specs.Outcomes.{IsDurable, Settles, cached, deferring, outcomes}
-use Rattle.volatile_cache.specs.Queue.{all_pending, bytes_of}
+use Rattle.volatile_cache.specs.Fates.{chance_of, coin_of, left_by, lost_by}
+use Rattle.volatile_cache.specs.Queue.{all_pending, bytes_of, is_trim}
 
 -- the store below, the blocks that are pending in the cache, oldest first, and how many may be
 pub record Cache (S : Type 0) : Type 0 where
@@ -70,6 +71,29 @@ abbrev pub Applies : {S : Type 0} → (S → StoreView) → Cache S → Result (
 Applies view old (Ok done) new = Settles (view_of view old) (view_of view new) × (old.kept ≡ [] → new ≡ old)
 Applies view old (Err (Disk fault)) new = RefusesAfter view old fault new
 Applies view old (Err Medium) new = FailsAfter view old new
+
+-- the pending block, if there is one, is written on an array
+abbrev pub IsPut : Option Kept → List (List ℕ) → List (List ℕ) → Type 0
+IsPut None old new = new ≡ old
+IsPut (Some k) old new = new ≡ set old k.place (bytes_of k.content)
+
+-- The oldest blocks are pending no more, and only as many as it takes to have room for n blocks more.
+pub record MakesRoom {S : Type 0} (old : Cache S) (n : ℕ) (new : Cache S) : Type 0 where
+  pub count : ℕ
+  pub kept : new.kept ≡ drop count old.kept
+  pub needed : (fewer : ℕ) → fewer < count → old.most < length old.kept - fewer + n
+
+-- each block that is pending was so before
+abbrev pub HasOnly : {S : Type 0} → Cache S → Cache S → Type 0
+HasOnly old new = (k : Kept) → Contains new.kept k → Contains old.kept k
+
+-- each block that is pending was so before, or is trimmed or not, as is said
+abbrev pub AddsOnly : {S : Type 0} → Bool → Cache S → Cache S → Type 0
+AddsOnly is_trimmed old new = (k : Kept) → Contains new.kept k → Contains old.kept k ⊎ (is_trim k.content ≡ is_trimmed)
+
+-- each block that was pending is so still if it is none of n blocks from a given one on
+abbrev pub LeavesOthers : {S : Type 0} → ℕ → ℕ → Cache S → Cache S → Type 0
+LeavesOthers first n old new = (k : Kept) → Contains old.kept k → (k.place < first) ⊎ (first + n ≤ k.place) → Contains new.kept k
 
 -- each array that a cut could leave now, it could leave before
 abbrev pub HasOutcomesOf : {S : Type 0} → (S → StoreView) → Cache S → Cache S → Type 0
@@ -135,10 +159,13 @@ pub record Falls (below : StoreView) (mine : List Pending) (below' : StoreView) 
   pub outcome : Contains (outcomes mine (store_array below)) (store_array below')
   pub keeps : KeepsBelow below below'
 
--- Done, it is durable too, and is told how many blocks of how many were lost.
-abbrev pub IfDone : List Pending → StoreView → Result Lost StoreFault → Type 0
-IfDone mine below' (Ok lost) = IsDurable below' × (lost.pending ≡ length mine) × (lost.lost ≤ lost.pending)
-IfDone mine below' (Err fault) = Unit {0}
+-- Done, it is durable too, and is what the seed and the odds choose. It is told how many blocks of how many were lost.
+abbrev pub IfDone : ℕ → ℕ → StoreView → List Pending → StoreView → Result Lost StoreFault → Type 0
+IfDone seed odds below mine below' (Ok lost) =
+    IsDurable below' × (lost.pending ≡ length mine) × (lost.lost ≤ lost.pending)
+    × (lost.lost ≡ lost_by (coin_of odds) (chance_of seed) mine)
+    × (store_array below' ≡ left_by (coin_of odds) (chance_of seed) mine (store_array below))
+IfDone seed odds below mine below' (Err fault) = Unit {0}
 
-abbrev pub Cuts : {S : Type 0} → (S → StoreView) → Cache S → Result Lost StoreFault → Cache S → Type 0
-Cuts view old result new = Falls (view old.store) (all_pending old.kept) (view new.store) new.kept × IfDone (all_pending old.kept) (view new.store) result
+abbrev pub Cuts : {S : Type 0} → (S → StoreView) → ℕ → ℕ → Cache S → Result Lost StoreFault → Cache S → Type 0
+Cuts view seed odds old result new = Falls (view old.store) (all_pending old.kept) (view new.store) new.kept × IfDone seed odds (view old.store) (all_pending old.kept) (view new.store) result

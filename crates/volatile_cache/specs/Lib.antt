@@ -1,4 +1,5 @@
 pub mod Outcomes
 pub mod Queue
+pub mod Fates
 pub mod Cache
 pub mod Laws

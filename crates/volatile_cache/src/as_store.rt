@@ -1,8 +1,8 @@
 ghost use Rattle.std.specs.Prelude.{◌≡◌, Err};
 ghost use Rattle.std.specs.Option.{option_map};
 ghost use Rattle.zone_translator.specs.Flat.{answer_while, trim, with_nothing};
-ghost use Rattle.nbd_session.specs.Store.{OrFails, Spares, Writes};
-ghost use Rattle.volatile_cache.specs.Cache.{view_of};
+ghost use Rattle.nbd_session.specs.Store.{ForcesBlocks, OrFails, Spares, Writes};
+ghost use Rattle.volatile_cache.specs.Cache.{AddsOnly, LeavesOthers, view_of};
 
 use crate::cache::VolatileCache;
 use nbd_session::{Store, StoreFault};
@@ -26,10 +26,11 @@ impl<S: Store + Drop> VolatileCache<S> {
 
     /// Makes blocks zeros, trimmed or not: they are kept if there is room, and else they go below after all others.
     fn put_zeros(&mut self, first: u64, blocks: u64, is_trim: bool) -> Result<(), StoreFault>
-        ensures { OrFails
+        ensures writes { OrFails
             (λ answer. Writes is_trim (view_of S.view self.old) (trim (S.view self.old.store).disk.drive.geometry.block first blocks) first blocks
             (with_nothing answer) (view_of S.view self.new))
             (Spares (view_of S.view self.old) first blocks (view_of S.view self.new)) result }
+        ensures kind { AddsOnly is_trim self.old self.new }
     {
         if self.is_known(first, blocks) {
             return self.send_zeros(first, blocks, is_trim);
@@ -55,6 +56,20 @@ impl<S: Store + Drop> VolatileCache<S> {
             DiskStatus::Stopped => Some(DiskFault::Stopped),
             DiskStatus::Unmounted => Some(DiskFault::Unmounted),
         }
+    }
+
+    /// Makes blocks durable. The pending blocks of other places stay so.
+    fn force_blocks(&mut self, first: u64, blocks: u64) -> Result<(), StoreFault>
+        ensures forces { ForcesBlocks first blocks (view_of S.view self.old) result (view_of S.view self.new) }
+        ensures others { LeavesOthers first blocks self.old self.new }
+    {
+        if let Some(fault) = self.refusal() {
+            return Err(StoreFault::Disk(fault));
+        }
+        if let Err(fault) = self.apply_within(first, blocks) {
+            return Err(fault);
+        }
+        self.store.force(first, blocks)
     }
 }
 
@@ -124,13 +139,7 @@ impl<S: Store + Drop> Store for VolatileCache<S> {
     }
 
     fn force(&mut self, first: u64, blocks: u64) -> Result<(), StoreFault> {
-        if let Some(fault) = self.refusal() {
-            return Err(StoreFault::Disk(fault));
-        }
-        if let Err(fault) = self.apply_within(first, blocks) {
-            return Err(fault);
-        }
-        self.store.force(first, blocks)
+        self.force_blocks(first, blocks)
     }
 
     fn rest(&mut self) {

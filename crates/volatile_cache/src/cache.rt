@@ -1,12 +1,15 @@
-ghost use Rattle.std.specs.Prelude.{◌≡◌, ◌≤◌, ◌+◌, ◌*◌, ◌∷◌, [], IsTrue, OnErr, OnOk, drop, is_some, length, replicate};
+ghost use Rattle.std.specs.Prelude.{◌≡◌, ◌<◌, ◌≤◌, ◌+◌, ◌*◌, ◌∷◌, ◌++◌, [], IsTrue, OnErr, OnOk, drop, false, is_some, length, replicate};
+ghost use Rattle.std.specs.Prelude.{slice_get};
 ghost use Rattle.batch_log.specs.Log.{zero_block};
 ghost use Rattle.drive_port.specs.Calls.{data_blocks};
 ghost use Rattle.zone_translator.specs.Answers.{AreBlocksOf, count_of_blocks};
 ghost use Rattle.zone_translator.specs.Flat.{known_range};
 ghost use Rattle.nbd_session.specs.Pending.{AreApart, pieces};
-ghost use Rattle.nbd_session.specs.Store.{store_flat};
-ghost use Rattle.volatile_cache.specs.Cache.{Applies, HasOutcomesOf, HasRoom, Keeps, KeepsSome, PutsOrFails};
-ghost use Rattle.volatile_cache.specs.Queue.{all_pending, bytes_of, is_trim, pending_of, without_oldest};
+ghost use Rattle.nbd_session.specs.Store.{store_array, store_flat};
+ghost use Rattle.volatile_cache.specs.Cache.{AddsOnly, Applies, HasOnly, HasOutcomesOf, HasRoom, IsPut, Keeps};
+ghost use Rattle.volatile_cache.specs.Cache.{KeepsSome, LeavesOthers, MakesRoom, PutsOrFails};
+ghost use Rattle.volatile_cache.specs.Queue.{all_pending, bytes_of, is_trim, oldest_of, pending_of};
+ghost use Rattle.volatile_cache.specs.Queue.{without_oldest};
 
 use crate::kept::{Content, Kept};
 use crate::queue::WriteQueue;
@@ -20,8 +23,8 @@ pub struct VolatileCache<S: Store + Drop> {
     pub(crate) store: S,
     /// What is pending, oldest first.
     pub(crate) queue: WriteQueue,
-    /// How many blocks may be pending.
-    pub(crate) most: u64,
+    /// How many blocks may be pending. It never changes.
+    most: u64,
     pub(crate) alloc: Global,
 }
 
@@ -56,6 +59,7 @@ impl<S: Store + Drop> VolatileCache<S> {
         ensures store { result.store ≡ store }
         ensures kept { result.kept ≡ [] }
         ensures bounded { result.most * (S.view store).disk.drive.geometry.block ≤ most_bytes }
+        ensures full { most_bytes < (result.most + 1) * (S.view store).disk.drive.geometry.block }
     {
         let most = most_bytes / u64::from(store.block_bytes());
         VolatileCache {
@@ -98,7 +102,8 @@ impl<S: Store + Drop> VolatileCache<S> {
 
     /// Whether so many blocks more may be pending.
     pub(crate) fn has_room(&self, blocks: u64) -> bool
-        ensures { IsTrue result → length self.now.kept + blocks ≤ self.now.most }
+        ensures room { IsTrue result → length self.now.kept + blocks ≤ self.now.most }
+        ensures full { result ≡ false → self.now.most < length self.now.kept + blocks }
     {
         blocks <= self.most.saturating_sub(self.queue.len() as u64)
     }
@@ -107,6 +112,8 @@ impl<S: Store + Drop> VolatileCache<S> {
     fn apply(&mut self, place: u64) -> Result<(), StoreFault>
         ensures applies { Applies S.view self.old result self.new }
         ensures ok { OnOk result (self.new.kept ≡ without_oldest place self.old.kept) }
+        ensures put { OnOk result (IsPut (oldest_of place self.old.kept) (store_array (S.view self.old.store)) (store_array (S.view self.new.store))) }
+        ensures most { self.new.most ≡ self.old.most }
         ensures err { OnErr result (self.new.kept ≡ self.old.kept) }
         ensures outcomes { HasOutcomesOf S.view self.old self.new }
     {
@@ -124,6 +131,8 @@ impl<S: Store + Drop> VolatileCache<S> {
     pub(crate) fn apply_oldest(&mut self) -> Result<(), StoreFault>
         ensures applies { Applies S.view self.old result self.new }
         ensures ok { OnOk result (self.new.kept ≡ drop 1 self.old.kept) }
+        ensures put { OnOk result (IsPut (slice_get self.old.kept 0) (store_array (S.view self.old.store)) (store_array (S.view self.new.store))) }
+        ensures most { self.new.most ≡ self.old.most }
         ensures err { OnErr result (self.new.kept ≡ self.old.kept) }
         ensures outcomes { HasOutcomesOf S.view self.old self.new }
     {
@@ -136,7 +145,9 @@ impl<S: Store + Drop> VolatileCache<S> {
 
     /// Writes the oldest blocks to the store below, until there is room for so many more or none is pending.
     pub(crate) fn make_room(&mut self, blocks: u64) -> Result<(), StoreFault>
-        ensures { Applies S.view self.old result self.new }
+        ensures applies { Applies S.view self.old result self.new }
+        ensures oldest { MakesRoom self.old blocks self.new }
+        ensures most { self.new.most ≡ self.old.most }
     {
         while !self.queue.is_empty() && !self.has_room(blocks) {
             if let Err(fault) = self.apply_oldest() {
@@ -150,6 +161,8 @@ impl<S: Store + Drop> VolatileCache<S> {
     pub(crate) fn apply_all(&mut self) -> Result<(), StoreFault>
         ensures applies { Applies S.view self.old result self.new }
         ensures none { OnOk result (self.new.kept ≡ []) }
+        ensures only { HasOnly self.old self.new }
+        ensures most { self.new.most ≡ self.old.most }
     {
         while !self.queue.is_empty() {
             if let Err(fault) = self.apply_oldest() {
@@ -163,6 +176,8 @@ impl<S: Store + Drop> VolatileCache<S> {
     pub(crate) fn apply_within(&mut self, first: u64, blocks: u64) -> Result<(), StoreFault>
         ensures applies { Applies S.view self.old result self.new }
         ensures apart { OnOk result (AreApart first blocks (all_pending self.new.kept)) }
+        ensures others { LeavesOthers first blocks self.old self.new }
+        ensures most { self.new.most ≡ self.old.most }
     {
         while let Some(place) = self.queue.place_from(first) {
             if place - first >= blocks {
@@ -180,6 +195,7 @@ impl<S: Store + Drop> VolatileCache<S> {
         requires whole { length (bytes_of content) ≡ (S.view self.old.store).disk.drive.geometry.block }
         requires room { HasRoom S.view self.old place 1 }
         ensures ok { OnOk result (Keeps self.old (pieces place (bytes_of content ∷ [])) self.new) }
+        ensures added { OnOk result (self.new.kept ≡ self.old.kept ++ record { place = place; content = content } ∷ []) }
         ensures err { OnErr result (self.new ≡ self.old) }
     {
         self.queue.push(Kept { place, content })
@@ -216,6 +232,7 @@ impl<S: Store + Drop> VolatileCache<S> {
     fn keep_empty(&mut self, first: u64, blocks: u64, is_trim: bool) -> Result<(), AllocError>
         requires { HasRoom S.view self.old first blocks }
         ensures ok { OnOk result (Keeps self.old (pieces first (replicate blocks (zero_block (S.view self.old.store).disk.drive.geometry.block))) self.new) }
+        ensures kind { OnOk result (AddsOnly is_trim self.old self.new) }
         ensures err { OnErr result (KeepsSome self.old self.new) }
     {
         let size = self.store.block_bytes();
@@ -256,6 +273,7 @@ impl<S: Store + Drop> VolatileCache<S> {
     ) -> Result<(), AllocError>
         requires { HasRoom S.view self.old first blocks }
         ensures ok { OnOk result (Keeps self.old (pieces first (replicate blocks (zero_block (S.view self.old.store).disk.drive.geometry.block))) self.new) }
+        ensures kind { OnOk result (AddsOnly is_trim self.old self.new) }
         ensures err { OnErr result (self.new ≡ self.old) }
     {
         let before = self.queue.len();

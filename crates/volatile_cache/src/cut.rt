@@ -19,7 +19,7 @@ impl<S: Store + Drop> VolatileCache<S> {
     /// so a write may be torn. In 100 blocks about `odds` are lost; 0 loses none, and 100 all. Then the store below is
     /// synced. Afterwards nothing is pending, also where the store below refuses a block or the sync.
     pub fn cut(&mut self, seed: u64, odds: u32) -> Result<Lost, StoreFault>
-        ensures { Cuts S.view self.old result self.new }
+        ensures { Cuts S.view seed odds self.old result self.new }
     {
         let mut coins = SplitMix64::seed_from_u64(seed);
         let pending = self.queue.len() as u64;

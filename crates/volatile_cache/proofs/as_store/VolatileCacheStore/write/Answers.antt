@@ -33,7 +33,7 @@ returns-in-Err g c =
     let known : known_range (store_flat (g.S.Store.view c.args.self.now.store)) c.args.first (count_of_blocks disk c.args.bytes.now) ≡ None =
     known_none (known_range (store_flat (g.S.Store.view c.args.self.now.store)) c.args.first (count_of_blocks disk c.args.bytes.now)) (rw size at (sym c.is_known.ensures ∙ c.if-is_known.false)) in
     write_failed g.S.Store.view c.args.self.now c.make_room.new.self false c.args.first (data_blocks disk.drive.geometry c.args.bytes.now) (count_of_blocks disk c.args.bytes.now) c.in-Err.fault
-    (length-cut disk.drive.geometry.block (count_of_blocks disk c.args.bytes.now) c.args.bytes.now) known (rw c.in-Err.is at c.make_room.ensures)
+    (length-cut disk.drive.geometry.block (count_of_blocks disk c.args.bytes.now) c.args.bytes.now) known (rw c.in-Err.is at c.make_room.ensures.applies)
 
 pub returns-then-is_ok : goal.returns-then-is_ok
 returns-then-is_ok g c =
@@ -41,7 +41,7 @@ returns-then-is_ok g c =
     let size : c.from.result ≡ disk.drive.geometry.block = c.from.ensures ∙ (c.block_bytes.ensures.size ∙ ap (λ s. (g.S.Store.view s.store).disk.drive.geometry.block) c.self.view_is) in
     let known : known_range (store_flat (g.S.Store.view c.args.self.now.store)) c.args.first (count_of_blocks disk c.args.bytes.now) ≡ None =
     known_none (known_range (store_flat (g.S.Store.view c.args.self.now.store)) c.args.first (count_of_blocks disk c.args.bytes.now)) (rw size at (sym c.is_known.ensures ∙ c.if-is_known.false)) in
-    let applied = rw c.in_default.is at c.make_room.ensures in
+    let applied = rw c.in_default.is at c.make_room.ensures.applies in
     let kept = on_ok c.keep_bytes.result (Keeps c.make_room.new.self (pieces c.args.first (data_blocks (g.S.Store.view c.make_room.new.self.store).disk.drive.geometry c.args.bytes.now)) c.keep_bytes.new.self)
     (sym c.is_ok.ensures.value ∙ c.if-is_ok.true) c.keep_bytes.ensures.ok in
     kept_after g.S.Store.view c.args.self.now c.make_room.new.self c.keep_bytes.new.self false c.args.first (data_blocks disk.drive.geometry c.args.bytes.now) (count_of_blocks disk c.args.bytes.now)
@@ -59,7 +59,7 @@ returns-in-Err-apply_all g c =
     ] in
     write_failed g.S.Store.view c.args.self.now c.apply_all.new.self false c.args.first (data_blocks disk.drive.geometry c.args.bytes.now) (count_of_blocks disk c.args.bytes.now) c.in-Err-apply_all.fault
     (length-cut disk.drive.geometry.block (count_of_blocks disk c.args.bytes.now) c.args.bytes.now) known
-    (applies_again g.S.Store.view c.args.self.now c.make_room.new.self c.apply_all.new.self (Err c.in-Err-apply_all.fault) (rw c.in_default.is at c.make_room.ensures) (subst (λ (before : Cache g.row.S.Denot). Applies g.S.Store.view before (Err c.in-Err-apply_all.fault) c.apply_all.new.self) same (rw c.in-Err-apply_all.is at c.apply_all.ensures.applies)))
+    (applies_again g.S.Store.view c.args.self.now c.make_room.new.self c.apply_all.new.self (Err c.in-Err-apply_all.fault) (rw c.in_default.is at c.make_room.ensures.applies) (subst (λ (before : Cache g.row.S.Denot). Applies g.S.Store.view before (Err c.in-Err-apply_all.fault) c.apply_all.new.self) same (rw c.in-Err-apply_all.is at c.apply_all.ensures.applies)))
 
 pub returns : goal.returns
 returns g c =
@@ -68,7 +68,7 @@ returns g c =
       | else-has_room-via-then-has_room+else-is_ok w ↦ w.self-is ∙ on_refused w.keep_bytes.result (w.keep_bytes.new.self ≡ c.make_room.new.self) (sym w.is_ok.ensures.value ∙ w.if-is_ok.false) w.keep_bytes.ensures.err
       | else-has_room-via-else-has_room w ↦ w.self-is
     ] in
-    let applied = rw (← c.self-2.view_is) at (applies_again g.S.Store.view c.args.self.now c.make_room.new.self c.apply_all.new.self (Ok tt) (rw c.in_default.is at c.make_room.ensures) (rw same at (rw c.in_default-apply_all.is at c.apply_all.ensures.applies))) in
+    let applied = rw (← c.self-2.view_is) at (applies_again g.S.Store.view c.args.self.now c.make_room.new.self c.apply_all.new.self (Ok tt) (rw c.in_default.is at c.make_room.ensures.applies) (rw same at (rw c.in_default-apply_all.is at c.apply_all.ensures.applies))) in
     let none = rw (← c.self-2.view_is) at (rw c.in_default-apply_all.is at c.apply_all.ensures.none) in
     write_sent g.S.Store.view c.args.self.now (record { store = c.self-2.inside.store; kept = c.self-2.inside.queue; most = c.self-2.inside.most }) (record { store = c.write-2.new.self; kept = c.self-2.inside.queue; most = c.self-2.inside.most })
     false c.args.first (data_blocks disk.drive.geometry c.args.bytes.now) (count_of_blocks disk c.args.bytes.now) c.write-2.result applied none none (rw applied.0.kept.geometry at c.write-2.ensures)

@@ -1,6 +1,6 @@
 use Rattle.std.proofs.Common.{◌≡◌, ◌∙◌, ◌∷◌, [], ap, arith, refl, subst, sym, Some, None, Err}
 use Rattle.std.specs.Option.{option_copied}
-use Rattle.volatile_cache.proofs.ApplyLaws.{apply_done, apply_outcomes, apply_failed, failed_outcomes, oldest_is_of, others_are_of, wrote_are_of}
+use Rattle.volatile_cache.proofs.ApplyLaws.{apply_done, apply_outcomes, apply_failed, failed_outcomes, oldest_is_of, others_are_of, put_array, wrote_are_of}
 use Rattle.volatile_cache.proofs.KeptLaws.{without-less, without-same}
 use Rattle.volatile_cache.specs.Cache.{Applies, Cache}
 use Rattle.volatile_cache.specs.Queue.{bytes_of, is_trim, oldest_of, without_oldest}
@@ -60,3 +60,25 @@ returns-clause-outcomes g c =
     rw (← c.self.view_is)
     (apply_outcomes g.S.Store.view (record { store = c.self.inside.store; kept = c.self.inside.queue; most = c.self.inside.most }) (record { store = c.put.new.store; kept = c.pop_oldest_of.new.self; most = c.self.inside.most })
     c.args.place c.in-Some.kept.now found c.self.invariant.0 (rw c.in_default-put.is at c.put.ensures) c.pop_oldest_of.ensures)
+
+pub returns-in_default-clause-put : goal.returns-in_default-clause-put
+returns-in_default-clause-put g c =
+    let none : oldest_of c.args.place c.self.inside.queue ≡ None = sym c.oldest_of.ensures ∙ ap option_copied c.in_default.is in
+    rw (← c.self.view_is) (rw none refl)
+
+pub returns-clause-put : goal.returns-clause-put
+returns-clause-put g c =
+    let found : oldest_of c.args.place c.self.inside.queue ≡ Some c.in-Some.kept.now = sym c.oldest_of.ensures ∙ ap option_copied c.in-Some.is in
+    rw (← c.self.view_is)
+    (rw found
+    (put_array (g.S.Store.view c.self.inside.store) (g.S.Store.view c.put.new.store) c.in-Some.kept.now
+    (oldest_is_of (g.S.Store.view c.self.inside.store) c.args.place c.self.inside.queue c.in-Some.kept.now found c.self.invariant.0).0 (rw c.in_default-put.is at c.put.ensures)))
+
+pub returns-in_default-clause-most : goal.returns-in_default-clause-most
+returns-in_default-clause-most g c = rw (← c.self.view_is) refl
+
+pub returns-in-Err-clause-most : goal.returns-in-Err-clause-most
+returns-in-Err-clause-most g c = rw (← c.self.view_is) refl
+
+pub returns-clause-most : goal.returns-clause-most
+returns-clause-most g c = rw (← c.self.view_is) refl

@@ -1,11 +1,34 @@
-use Rattle.std.proofs.Common.{Ok, Err}
-use Rattle.volatile_cache.proofs.ApplyLaws.{applies_again}
+use Rattle.std.proofs.Common.{◌∙◌, Ok, Err, refl}
+use Rattle.volatile_cache.proofs.ApplyLaws.{applies_again, applies_same}
+use Rattle.volatile_cache.proofs.RoomLaws.{only_again, only_fewer, only_same}
 use Rattle.volatile_cache.proofs.cache.VolatileCache.apply_all.Goals as goal
+
+pub loop-self-init : goal.loop-self-init
+loop-self-init g c = (applies_same g.S.Store.view c.args.self.now, only_same c.args.self.now c.args.self.now refl, refl)
 
 pub returns-in-Err-clause-applies : goal.returns-in-Err-clause-applies
 returns-in-Err-clause-applies g c =
-    applies_again g.S.Store.view c.args.self.now c.loop-self.self c.apply_oldest.new.self (Err c.in-Err.fault) c.loop-self.invariant (rw c.in-Err.is at c.apply_oldest.ensures.applies)
+    applies_again g.S.Store.view c.args.self.now c.loop-self.self c.apply_oldest.new.self (Err c.in-Err.fault) c.loop-self.invariant.0 (rw c.in-Err.is at c.apply_oldest.ensures.applies)
+
+pub returns-in-Err-clause-only : goal.returns-in-Err-clause-only
+returns-in-Err-clause-only g c =
+    only_again c.args.self.now c.loop-self.self c.apply_oldest.new.self c.loop-self.invariant.1 (only_same c.loop-self.self c.apply_oldest.new.self (rw c.in-Err.is at c.apply_oldest.ensures.err))
+
+pub returns-in-Err-clause-most : goal.returns-in-Err-clause-most
+returns-in-Err-clause-most g c = c.apply_oldest.ensures.most ∙ c.loop-self.invariant.2
 
 pub loop-self-preserved : goal.loop-self-preserved
-loop-self-preserved g c =
-    applies_again g.S.Store.view c.args.self.now c.loop-self.self c.apply_oldest.new.self (Ok tt) c.loop-self.invariant (rw c.in_default.is at c.apply_oldest.ensures.applies)
+loop-self-preserved g c = (
+  applies_again g.S.Store.view c.args.self.now c.loop-self.self c.apply_oldest.new.self (Ok tt) c.loop-self.invariant.0 (rw c.in_default.is at c.apply_oldest.ensures.applies),
+  only_again c.args.self.now c.loop-self.self c.apply_oldest.new.self c.loop-self.invariant.1 (only_fewer c.loop-self.self c.apply_oldest.new.self (rw c.in_default.is at c.apply_oldest.ensures.ok)),
+  c.apply_oldest.ensures.most ∙ c.loop-self.invariant.2,
+)
+
+pub returns-clause-applies : goal.returns-clause-applies
+returns-clause-applies g c = c.loop-self.invariant.0
+
+pub returns-clause-only : goal.returns-clause-only
+returns-clause-only g c = c.loop-self.invariant.1
+
+pub returns-clause-most : goal.returns-clause-most
+returns-clause-most g c = c.loop-self.invariant.2

@@ -1,0 +1,76 @@
+-- The coins of a cut fall one after the other, and leave what they would leave together.
+use Rattle.std.proofs.Common.{◌≡◌, ◌∙◌, ℕ, ◌+◌, ◌<◌, List, [], ◌∷◌, length, drop, set, refl, sym, ap, arith, true, false}
+use Rattle.std.specs.Prelude.{Bool, if◌then◌else◌, slice_get}
+use Rattle.rand_core.specs.Stream.{Stream}
+use Rattle.nbd_session.specs.Pending.{Pending}
+use Rattle.nbd_session.specs.Store.{StoreView, store_array}
+use Rattle.volatile_cache.specs.Cache.{Cache, IsPut}
+use Rattle.volatile_cache.specs.Fates.{left_by, lost_by}
+use Rattle.volatile_cache.specs.Queue.{all_pending, bytes_of}
+use Rattle.volatile_cache.specs.declared.kept.Kept.{Kept}
+
+lost-left : (coin : Stream → Bool × Stream) (a b : Stream) (kept : List Kept) (array : List (List ℕ)) → 0 < length kept → (true, b) ≡ coin a
+    → left_by coin b (all_pending (drop 1 kept)) array ≡ left_by coin a (all_pending kept) array
+lost-left coin a b [] array some falls = absurd (omega (arith, some))
+lost-left coin a b (k ∷ ks) array some falls =
+    ap (λ (fall : Bool × Stream). left_by coin fall.1 (all_pending ks) (if fall.0 then array else set array k.place (bytes_of k.content))) falls
+
+lost-count : (coin : Stream → Bool × Stream) (a b : Stream) (kept : List Kept) → 0 < length kept → (true, b) ≡ coin a
+    → 1 + lost_by coin b (all_pending (drop 1 kept)) ≡ lost_by coin a (all_pending kept)
+lost-count coin a b [] some falls = absurd (omega (arith, some))
+lost-count coin a b (k ∷ ks) some falls = rw (← falls) refl
+
+put-left : (coin : Stream → Bool × Stream) (a b : Stream) (kept : List Kept) (old new : List (List ℕ)) → IsPut (slice_get kept 0) old new → (false, b) ≡ coin a
+    → left_by coin b (all_pending (drop 1 kept)) new ≡ left_by coin a (all_pending kept) old
+put-left coin a b [] old new put falls = put
+put-left coin a b (k ∷ ks) old new put falls =
+    ap (λ (array : List (List ℕ)). left_by coin b (all_pending ks) array) put
+    ∙ ap (λ (fall : Bool × Stream). left_by coin fall.1 (all_pending ks) (if fall.0 then old else set old k.place (bytes_of k.content))) falls
+
+put-count : (coin : Stream → Bool × Stream) (a b : Stream) (kept : List Kept) → (false, b) ≡ coin a
+    → lost_by coin b (all_pending (drop 1 kept)) ≡ lost_by coin a (all_pending kept)
+put-count coin a b [] falls = refl
+put-count coin a b (k ∷ ks) falls = rw (← falls) refl
+
+-- What the coins yet to be thrown leave of a cache now is what all of them leave of it as it was; so many are lost yet.
+abbrev pub SharesFate : {S : Type 0} → (S → StoreView) → (Stream → Bool × Stream) → Stream → Cache S → ℕ → Stream → Cache S → Type 0
+SharesFate view coin first old lost chance now =
+    (left_by coin chance (all_pending now.kept) (store_array (view now.store)) ≡ left_by coin first (all_pending old.kept) (store_array (view old.store)))
+    × (lost + lost_by coin chance (all_pending now.kept) ≡ lost_by coin first (all_pending old.kept))
+
+pub fate_first : {S : Type 0} (view : S → StoreView) (coin : Stream → Bool × Stream) (first chance : Stream) (cache : Cache S) → chance ≡ first → SharesFate view coin first cache 0 chance cache
+fate_first view coin first chance cache same = (
+  ap (λ (s : Stream). left_by coin s (all_pending cache.kept) (store_array (view cache.store))) same,
+  ap (λ (s : Stream). 0 + lost_by coin s (all_pending cache.kept)) same ∙ omega arith,
+)
+
+-- the oldest block is lost
+pub fate_lost : {S : Type 0} (view : S → StoreView) (coin : Stream → Bool × Stream) (first a b : Stream) (old now next : Cache S) (lost lost' : ℕ) → SharesFate view coin first old lost a now
+    → 0 < length now.kept → (true, b) ≡ coin a → next.store ≡ now.store → next.kept ≡ drop 1 now.kept → lost' ≡ lost + 1 → SharesFate view coin first old lost' b next
+fate_lost {S = S} view coin first a b old now next lost lost' fate some falls store kept more =
+    let count : 1 + lost_by coin b (all_pending next.kept) ≡ lost_by coin a (all_pending now.kept) = rw kept (lost-count coin a b now.kept some falls) in (
+      ap (λ (s : S). left_by coin b (all_pending next.kept) (store_array (view s))) store
+          ∙ (ap (λ (ks : List Kept). left_by coin b (all_pending ks) (store_array (view now.store))) kept
+          ∙ (lost-left coin a b now.kept (store_array (view now.store)) some falls ∙ fate.0)),
+      omega (arith, count, fate.1, more),
+    )
+
+-- the oldest block is written
+pub fate_put : {S : Type 0} (view : S → StoreView) (coin : Stream → Bool × Stream) (first a b : Stream) (old now next : Cache S) (lost : ℕ) → SharesFate view coin first old lost a now
+    → (false, b) ≡ coin a → IsPut (slice_get now.kept 0) (store_array (view now.store)) (store_array (view next.store)) → next.kept ≡ drop 1 now.kept → SharesFate view coin first old lost b next
+fate_put view coin first a b old now next lost fate falls put kept =
+    let count : lost_by coin b (all_pending next.kept) ≡ lost_by coin a (all_pending now.kept) = rw kept (put-count coin a b now.kept falls) in (
+      ap (λ (ks : List Kept). left_by coin b (all_pending ks) (store_array (view next.store))) kept
+          ∙ (put-left coin a b now.kept (store_array (view now.store)) (store_array (view next.store)) put falls ∙ fate.0),
+      omega (arith, count, fate.1),
+    )
+
+-- none is pending: all coins have fallen
+pub fate_last : {S : Type 0} (view : S → StoreView) (coin : Stream → Bool × Stream) (first chance : Stream) (old now new : Cache S) (lost : ℕ) → SharesFate view coin first old lost chance now
+    → now.kept ≡ [] → store_array (view new.store) ≡ store_array (view now.store)
+    → (lost ≡ lost_by coin first (all_pending old.kept)) × (store_array (view new.store) ≡ left_by coin first (all_pending old.kept) (store_array (view old.store)))
+fate_last view coin first chance old now new lost fate none array =
+    let count : lost_by coin chance (all_pending now.kept) ≡ 0 = rw none refl in (
+      omega (arith, count, fate.1),
+      array ∙ (sym (ap (λ (ks : List Kept). left_by coin chance (all_pending ks) (store_array (view now.store))) none) ∙ fate.0),
+    )
