@@ -9,7 +9,7 @@ _zonedisk_options() {
     case $1 in
         format) echo "--image --device --force --in-place $_zonedisk_shape" ;;
         run) echo "--image --device --blocks --zones --statistics --sync --read-only --progress --habit --stop-after --tear" ;;
-        nbd) echo "--image --device --blocks --statistics --idle --read-only --habit --stop-after --tear --forget --odds --cut-after" ;;
+        nbd) echo "--image --device --blocks --statistics --idle --read-only --habit --stop-after --tear --forget --odds --cut-after --fail --fail-odds" ;;
         report) echo "--image --device --state --brief --json --svg" ;;
         check) echo "--image --device --blocks --json" ;;
         plan) echo "--image $_zonedisk_shape --blocks --share --amplification --bytes --json --svg" ;;
@@ -35,7 +35,7 @@ _zonedisk_words() {
         --zones) if [ "$1" = run ]; then echo "$(_zonedisk_options run) --help"; fi ;;
         --size | --capacity | --transfer | --active | --open | --blocks | --share | --amplification | --bytes) ;;
         --first | --count | --stop-after | --tear | --start | --dwords | --id | --data) ;;
-        --forget | --odds | --cut-after) ;;
+        --forget | --odds | --cut-after | --fail | --fail-odds) ;;
         *) echo "$(_zonedisk_options "$1") --help" ;;
     esac
 }

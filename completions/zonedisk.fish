@@ -50,6 +50,8 @@ complete -c zonedisk -n '__fish_seen_subcommand_from run nbd fresh' -l tear -x -
 complete -c zonedisk -n '__fish_seen_subcommand_from nbd' -l forget -x -d 'Lets the disk forget what is not synced, by this seed'
 complete -c zonedisk -n '__fish_seen_subcommand_from nbd' -l odds -x -d 'Percent of the pending blocks that a power cut loses'
 complete -c zonedisk -n '__fish_seen_subcommand_from nbd' -l cut-after -x -d 'Cuts the power after so many requests'
+complete -c zonedisk -n '__fish_seen_subcommand_from nbd' -l fail -x -d 'Lets requests fail by chance, by this seed'
+complete -c zonedisk -n '__fish_seen_subcommand_from nbd' -l fail-odds -x -d 'Percent of the requests that fail'
 
 # What is shown.
 complete -c zonedisk -n '__fish_seen_subcommand_from report entry' -l state -x -a 'Empty ImplicitlyOpened ExplicitlyOpened Closed ReadOnly Full Offline' -d 'Zones in this state'

@@ -99,3 +99,14 @@ fn fails_sometimes_with_odds_50(rt: HostRuntime) -> Result<(), Fail> {
     assert!(rt; (16..48).contains(&count), "{count} of 64");
     Ok(())
 }
+
+#[test]
+fn fails_in_no_sync_that_is_spared(rt: HostRuntime) -> Result<(), Fail> {
+    let mut store = failing(&rt, rt.alloc(), 100).sparing_syncs();
+    assert_eq!(rt; failures(&rt, rt.alloc(), &mut store)?, 64);
+    assert_eq!(rt; store.sync(), Ok(()));
+    assert_eq!(rt; store.force(0, 1), Ok(()));
+    assert_eq!(rt; store.failures(), 64);
+    assert_eq!(rt; kept(&rt, rt.alloc(), store), 40 * 512);
+    Ok(())
+}

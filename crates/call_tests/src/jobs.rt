@@ -140,7 +140,7 @@ fn reads_the_words(rt: HostRuntime) -> Result<(), Fail> {
 }
 
 // Which other words are refused, and how.
-const OTHER_WORDS: [(&str, Option<ErrorKind>); 28] = [
+const OTHER_WORDS: [(&str, Option<ErrorKind>); 34] = [
     ("zonedisk run --zones --blocks=9 --image=a/b", None),
     (
         "zonedisk run --image b --blocks 9 --statistics --zones",
@@ -176,6 +176,27 @@ const OTHER_WORDS: [(&str, Option<ErrorKind>); 28] = [
     (
         "zonedisk nbd --image b --cut-after 120",
         Some(ErrorKind::MissingRequiredArgument),
+    ),
+    ("zonedisk nbd --image b --fail 7 --fail-odds 5", None),
+    (
+        "zonedisk nbd --image b --fail-odds 0 --fail 7 --read-only --idle",
+        None,
+    ),
+    (
+        "zonedisk nbd --image b --fail 7 --fail-odds 100 --forget 7 --cut-after 9 --stop-after 9 --habit lazy",
+        None,
+    ),
+    (
+        "zonedisk nbd --image b --fail 7",
+        Some(ErrorKind::MissingRequiredArgument),
+    ),
+    (
+        "zonedisk nbd --image b --fail-odds 5",
+        Some(ErrorKind::MissingRequiredArgument),
+    ),
+    (
+        "zonedisk nbd --image b --fail 7 --fail-odds 101",
+        Some(ErrorKind::ValueValidation),
     ),
     ("zonedisk nvme --habit=closing --image b --explain", None),
     ("zonedisk", Some(ErrorKind::MissingSubcommand)),

@@ -4,6 +4,7 @@ use Rattle.clap.specs.Words.{Row, Text, first_of}
 use Rattle.copy_jobs.specs.declared.job.CopyJob.{CopyJob}
 use Rattle.copy_jobs.specs.declared.job.CopyJob.TheVariants as copies
 use Rattle.device_jobs.specs.declared.job.ConvertJob.{ConvertJob}
+use Rattle.nbd_jobs.specs.declared.job.Fail.{Fail}
 use Rattle.nbd_jobs.specs.declared.job.Forget.{Forget}
 use Rattle.nbd_jobs.specs.declared.job.NbdJob.{NbdJob}
 use Rattle.command_line.specs.declared.place.Place.{Place}
@@ -21,11 +22,22 @@ abbrev pub HasForget : List Row → Option Forget → Type 0
 HasForget rows (Some forget) = HasForgetting rows forget
 HasForget rows None = lacks_all rows (codes "forget" ∷ codes "odds" ∷ codes "cut-after" ∷ []) ≡ true
 
+-- By which chance a medium fails. More than 100 of 100 requests do not.
+pub record HasFailing (rows : List Row) (fail : Fail) : Type 0 where
+  pub seed : HasNumber 64 rows (codes "fail") fail.seed
+  pub odds : (n : ℕ) × HasNumber 64 rows (codes "fail-odds") n × (fail.odds ≡ min n 100)
+
+-- whether a medium fails: not, if neither of these options was given
+abbrev pub HasFail : List Row → Option Fail → Type 0
+HasFail rows (Some fail) = HasFailing rows fail
+HasFail rows None = lacks_all rows (codes "fail" ∷ codes "fail-odds" ∷ []) ≡ true
+
 pub record AsksForNbd (place : Place) (rows : List Row) (job : NbdJob) : Type 0 where
   pub path : HasDrive place rows (string_bytes job.image)
   pub blocks : HasNumberIf rows (codes "blocks") job.blocks
   pub stop : HasStop rows job.stop
   pub forget : HasForget rows job.forget
+  pub fail : HasFail rows job.fail
   pub habit : HasHabit rows job.habit
   pub statistics : HasFlag rows (codes "statistics") job.statistics
   pub idle : HasFlag rows (codes "idle") job.idle

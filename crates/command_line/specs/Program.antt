@@ -72,6 +72,10 @@ abbrev pub forgets : List Rule
 forgets =
     optional (number (codes "forget") below_2_63) ∷ optional (number (codes "odds") percent) ∷ optional (number (codes "cut-after") below_2_63) ∷ []
 
+-- by which chance the medium of a disk fails
+abbrev pub fails : List Rule
+fails = optional (number (codes "fail") below_2_63) ∷ optional (number (codes "fail-odds") percent) ∷ []
+
 -- what a plan is for
 abbrev pub aims : List Rule
 aims = optional blocks ∷ optional (number (codes "share") below_2_63) ∷ optional (number (codes "amplification") below_2_63) ∷ []
@@ -127,7 +131,7 @@ nvme names = with_options (codes "nvme") (image ∷ device ∷ flag (codes "expl
 
 abbrev pub nbd : Bor (List (Bor Text)) → Shape
 nbd names = with_options (codes "nbd")
-    (image ∷ device ∷ optional blocks ∷ flag (codes "statistics") ∷ flag (codes "idle") ∷ flag (codes "read-only") ∷ habit names ∷ stops ++ forgets)
+    (image ∷ device ∷ optional blocks ∷ flag (codes "statistics") ∷ flag (codes "idle") ∷ flag (codes "read-only") ∷ habit names ∷ stops ++ forgets ++ fails)
 
 abbrev pub export_words : Shape
 export_words = with_options (codes "export")

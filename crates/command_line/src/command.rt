@@ -2,7 +2,7 @@ ghost use Rattle.std.specs.Prelude.{◌≡◌, [], ◌∷◌, ◌++◌, false, I
 ghost use Rattle.clap.specs.Words.{Shape, app_of, rule_of};
 ghost use Rattle.command_line.specs.Program.{AddsOptions, AddsSubcommand, IsCommand, aims, below_2_63};
 ghost use Rattle.command_line.specs.Program.{blocks, check_words, convert_words, device, entry, entry_numbers, export_words, flag};
-ghost use Rattle.command_line.specs.Program.{forgets, format, fresh_raw, fresh_words, given_first, habit, image};
+ghost use Rattle.command_line.specs.Program.{fails, forgets, format, fresh_raw, fresh_words, given_first, habit, image};
 ghost use Rattle.command_line.specs.Program.{import_words, info_words, limits, nbd, number, nvme, optional};
 ghost use Rattle.command_line.specs.Program.{part, parts, percent, plan_words, program, report_words, run, shape, stops};
 ghost use Rattle.command_line.specs.Program.{valued};
@@ -30,9 +30,10 @@ const NBD_EXAMPLE: &str = "Examples:
   nbdfuse disk --command zonedisk nbd --image my.drive --blocks 9
   nbdfuse disk --command zonedisk nbd --device /dev/ng0n1 --blocks 196608
   nbdfuse disk --command zonedisk nbd --image my.drive --forget 7 --cut-after 120
+  nbdfuse disk --command zonedisk nbd --image my.drive --fail 7 --fail-odds 5
 
 A drive that stops, by --stop-after, keeps each write that was answered. A disk that forgets, by --forget, keeps what
-was synced, and loses some of the rest at a power cut.";
+was synced, and loses some of the rest at a power cut. A medium that fails, by --fail, answers EIO and does nothing.";
 
 const EXPORT_EXAMPLE: &str = "Example:
   zonedisk export --image my.drive > my.blocks";
@@ -287,6 +288,17 @@ fn forget_options<'a>(alloc: Global, command: Command<'a>) -> Result<Command<'a>
         .arg(count_option(alloc, "cut-after", "K", cut_after))
 }
 
+/// By which chance the medium of a disk fails.
+fn fail_options<'a>(alloc: Global, command: Command<'a>) -> Result<Command<'a>, AllocError>
+    ensures { IfOk result (λ new. AddsOptions fails command.entry new) }
+{
+    let fail = "Answers some requests with EIO and does nothing of them, as the seed chooses";
+    let odds = "Of 100 reads, writes, trims and writes of zeros about so many fail: 0 to 100";
+    command
+        .arg(count_option(alloc, "fail", "SEED", fail))?
+        .arg(percent_option(alloc, "fail-odds", odds))
+}
+
 /// The names of the habits of a drive.
 pub const HABITS: [&str; 3] = ["lazy", "closing", "strict"];
 
@@ -357,7 +369,8 @@ fn nbd_command<'a>(alloc: Global, habits: &'a [&'a str]) -> Result<Command<'a>, 
         .arg(flag(alloc, "read-only", READ_ONLY_HELP))?
         .arg(habit_option(alloc, habits))?;
     let command = stop_options(alloc, command)?;
-    forget_options(alloc, command)
+    let command = forget_options(alloc, command)?;
+    fail_options(alloc, command)
 }
 
 const PROGRESS_HELP: &str = "Shows on standard error how far it is";

@@ -34,6 +34,7 @@
 mod command;
 mod devices;
 mod entries;
+mod failing;
 mod forgetting;
 mod place;
 mod refusal;

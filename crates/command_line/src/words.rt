@@ -11,6 +11,7 @@ ghost use Rattle.command_line.specs.declared.words.WordFault.TheVariants.{Memory
 use crate::command::{HABITS, program};
 use crate::devices::{device_job, new_drive};
 use crate::entries::entry_words;
+use crate::failing::fail_of;
 use crate::forgetting::forget_of;
 use crate::place::{Place, drive_path};
 use crate::refusal::refusal;
@@ -322,11 +323,13 @@ pub fn nbd_job(alloc: Global, place: Place, matches: &ArgMatches<'_>) -> Result<
     let blocks = number_if_given(matches, "blocks")?;
     let stop = stop_of(matches)?;
     let forget = forget_of(matches)?;
+    let fail = fail_of(matches)?;
     Ok(NbdJob {
         image: drive_path(alloc, place, matches)?,
         blocks,
         stop,
         forget,
+        fail,
         habit: habit_of(matches),
         statistics: has_flag(matches, "statistics"),
         idle: has_flag(matches, "idle"),

@@ -29,6 +29,8 @@ pub struct Served {
     pub disk: Option<DiskSize>,
     /// What was forgotten, if the disk forgets and was served.
     pub forgotten: Option<Forgotten>,
+    /// How many requests failed by chance, if some were to and the disk was served.
+    pub failed: Option<u64>,
     /// Whether the drive was flushed at the end, if that is what a sync of its medium is.
     pub flushed: Result<(), PortFault>,
 }
@@ -114,6 +116,7 @@ pub fn serve_client<D: Device + Drop, M: Medium + Drop, R: Read + Drop, W: Write
             statistics: None,
             disk: None,
             forgotten: None,
+            failed: None,
             flushed: Ok(()),
         };
     };
@@ -131,6 +134,7 @@ pub fn serve_client<D: Device + Drop, M: Medium + Drop, R: Read + Drop, W: Write
         statistics: ended.statistics,
         disk: ended.disk,
         forgotten: ended.forgotten,
+        failed: ended.failed,
         flushed,
     }
 }

@@ -7,7 +7,7 @@ use device_jobs::{
 };
 use disk_files::LineReader;
 use disk_jobs::Habit;
-use nbd_jobs::{NbdJob, forgotten_note};
+use nbd_jobs::{NbdJob, failed_note, forgotten_note};
 use nbd_session::WriteThrough;
 use std::alloc::Global;
 use std::test::Fail;
@@ -56,6 +56,9 @@ fn show_served<R: Print>(rt: &R, alloc: Global, job: &NbdJob, sent: &[u8]) -> Re
     )?;
     if let Some(forgotten) = served.forgotten {
         println!(rt; "{}", forgotten_note(alloc, job, &forgotten)?)?;
+    }
+    if let Some(failed) = served.failed {
+        println!(rt; "{}", failed_note(alloc, failed)?)?;
     }
     Ok(())
 }

@@ -1,12 +1,13 @@
 -- A session over a disk that forgets: what it leaves.
 use Rattle.std.proofs.Common.{◌≡◌, ℕ, List, [], ◌∷◌, ◌++◌, length, get_or, Result, Ok, Err, true, false, refl, ap, sym, inl, inr, ◌∙◌}
-use Rattle.std.specs.Prelude.{◌&&◌, not, Bool, IfOk}
+use Rattle.std.specs.Prelude.{◌&&◌, ◌||◌, not, Bool, IfOk}
 use Rattle.nbd_wire.specs.declared.error_code.ErrorCode.{ErrorCode}
 use Rattle.nbd_wire.specs.declared.request.Request.{Request}
 use Rattle.zone_translator.proofs.KeepingLaws.{keeps_again, keeps_same}
 use Rattle.zone_translator.specs.Flat.{idle, with_nothing}
 use Rattle.zone_translator.specs.Keeping.{KeepsServed}
 use Rattle.zone_translator.specs.View.{disk_array}
+use Rattle.nbd_session.specs.Failing.{failing}
 use Rattle.nbd_session.specs.Pending.{Pending}
 use Rattle.nbd_session.specs.Requests.{AnswersAsked, asked_of_store, data_length}
 use Rattle.nbd_session.specs.Session.{AnswersBy, AnswersIn, Follows, Session, session}
@@ -21,13 +22,14 @@ use Rattle.nbd_session.specs.declared.fault.StoreFault.{StoreFault}
 use Rattle.nbd_session.specs.declared.fault.StoreFault.TheVariants.{Disk, Medium}
 use Rattle.nbd_session.specs.declared.phase.Phase.{Phase}
 use Rattle.nbd_session.specs.declared.phase.Phase.TheVariants as phases
+use Rattle.nbd_session.proofs.FailingLaws.{syncs_failing}
 use Rattle.nbd_session.proofs.ModeLaws.{at_most-grows}
 use Rattle.volatile_cache.specs.Laws.{IsSettled, LeavesOut}
 use Rattle.volatile_cache.specs.Outcomes.{cached, deferring}
 use Rattle.volatile_cache.proofs.CutLaws.{cut-settled, kill-outcome}
 use Rattle.volatile_cache.proofs.RequestLaws.{request-settled}
 use Rattle.volatile_cache.proofs.SettledLaws.{call-settled, kept-settled}
-use Rattle.nbd_jobs.specs.Forgetting.{Applies, Forgets, LeavesBy}
+use Rattle.nbd_jobs.specs.Forgetting.{Applies, Forgets, IsCut, LeavesBy}
 use Rattle.nbd_jobs.specs.Laws.{LeavesBlock, MessageKeepsSettled, SettledIsLeft}
 use Rattle.nbd_jobs.specs.declared.forgetting.Forgotten.{Forgotten}
 use Rattle.nbd_jobs.specs.declared.job.Forget.{Forget}
@@ -85,6 +87,37 @@ forgets forget bytes old below new mine told serves kept count leaves kept' mode
   kept = keeps_again old.disk below.disk new.disk kept kept';
   mode = mode-again old below new (mode-below old below [] mine (at_most-grows forget.cut_after bytes (session phases.Greeting (cached old [])) told.ended (cached below mine) serves).1) mode;
 }
+
+-- ---- a medium that fails in requests
+
+mode-failing : (may : Bool) (old new : StoreView) → KeepsMode old new → KeepsMode (failing may old) (failing may new)
+mode-failing may old new m = record {
+  read_only = m.read_only;
+  cleans = m.cleans;
+  flushes = m.flushes;
+  defers = m.defers;
+  fails = ap (λ (below : Bool). may || below) m.fails;
+}
+
+cut-failing : (may : Bool) (below new : StoreView) (mine : List Pending) (lost : Result ℕ StoreFault) → IsCut below mine lost new → IsCut (failing may below) mine lost (failing may new)
+cut-failing may below new mine lost c = record { outcome = c.outcome; done = c.done }
+
+-- the end leaves the same of a store whose medium may fail
+leaves-failing : (may : Bool) (ended : Result SessionEnd SessionFault) (below new : StoreView) (mine : List Pending) (lost : Result ℕ StoreFault) → LeavesBy ended below mine lost new → LeavesBy ended (failing may below) mine lost (failing may new)
+leaves-failing may (Ok Disconnected) below new mine (Ok lost) l = (syncs_failing may (λ (pending : List Pending). pending ≡ []) (cached below mine) (Ok tt) (cached new []) l.0, l.1)
+leaves-failing may (Ok Disconnected) below new mine (Err fault) l = (l.0, syncs_failing may (λ (pending : List Pending). pending ≡ []) (cached below mine) (Err fault) (cached new l.0) l.1)
+leaves-failing may (Ok InputEnded) below new mine lost l = cut-failing may below new mine lost l
+leaves-failing may (Ok LimitReached) below new mine lost l = cut-failing may below new mine lost l
+leaves-failing may (Err fault) below new mine lost l = cut-failing may below new mine lost l
+
+-- a store was served with an empty cache above it, and above that a medium that may fail
+pub forgets-failing : (may may' : Bool) (forget : Forget) (bytes : Streams) (old below new : StoreView) (mine : List Pending) (told : Forgotten)
+    → ServesAtMost forget.cut_after bytes (session phases.Greeting (failing may (cached old []))) told.ended (failing may' (cached below mine))
+    → KeepsServed old.disk below.disk → told.pending ≡ length mine → LeavesBy told.ended below mine told.lost new → KeepsServed below.disk new.disk → KeepsMode (deferring below) (deferring new)
+    → Forgets forget bytes (failing may old) told (failing may' new)
+forgets-failing may may' forget bytes old below new mine told serves kept count leaves kept' mode =
+    forgets forget bytes (failing may old) (failing may' below) (failing may' new) mine told serves kept count
+    (leaves-failing may' told.ended below new mine told.lost leaves) kept' (mode-failing may' (deferring below) (deferring new) mode)
 
 -- ---- messages
 

@@ -1,3 +1,4 @@
 mod SessionLaws
 mod ForgetLaws
+mod FailLaws
 pub mod LossLaws

@@ -2,6 +2,7 @@
 use Rattle.std.proofs.Common.{◌≡◌, ℕ, true, false, List, [], Option, Some, None, Result, Ok, Err, refl, ap, ◌∙◌}
 use Rattle.std.specs.Prelude.{Bool, MatchOption}
 use Rattle.drive_port.specs.Drive.{DriveState}
+use Rattle.nbd_session.specs.Failing.{failing}
 use Rattle.nbd_session.specs.Served.{since_of}
 use Rattle.nbd_session.specs.Store.{StoreView}
 use Rattle.nbd_session.specs.Streams.{Streams}
@@ -16,6 +17,7 @@ use Rattle.mounted_disks.specs.DiskSize.{size_of}
 use Rattle.mounted_disks.specs.Mounted.{IsServed}
 use Rattle.mounted_disks.specs.declared.disk_size.DiskSize.{DiskSize}
 use Rattle.nbd_jobs.specs.Begun.{BeginsBy, IsBegun, IsNotBegun}
+use Rattle.nbd_jobs.specs.Failing.{fails_in_requests}
 use Rattle.nbd_jobs.specs.Forgetting.{ServesStore}
 use Rattle.nbd_jobs.specs.Serving.{IsUnserved, ReadsDrive, ReadsFile, ServesBy, ServesDrive, ServesNothing, SyncsDone, TellsSession, served_at, session_end}
 use Rattle.nbd_jobs.specs.declared.fault.NbdFault.{NbdFault}
@@ -65,7 +67,7 @@ since-flushed : (flushes flushed : Bool) (disk : DiskView) (since : List (List (
 since-flushed flushes flushed disk since same is = is ∙ ap (λ (flushes : Bool). since_of flushes disk) same
 
 by-told : (forget : Forget) (read_only : Bool) (job : NbdJob) (bytes : Streams) (syncs : SyncsDone) (old : DriveState) (first : DiskView) (ended : Result (Unit {0}) SessionFault) (told : Option Forgotten) (last : StoreView) (new : DriveState)
-    → IsBegun syncs.flushes old job.blocks first → ServesStore (Some forget) bytes (served_at read_only job.idle syncs first) ended told last → Ends syncs last new
+    → IsBegun syncs.flushes old job.blocks first → ServesStore (Some forget) bytes (failing (fails_in_requests job.fail) (served_at read_only job.idle syncs first)) ended told last → Ends syncs last new
     → ServesBy (Some forget) read_only job bytes syncs old ended told new
 by-told forget read_only job bytes syncs old first ended None last new begun s ends = absurd s
 by-told forget read_only job bytes syncs old first ended (Some told) last new begun s ends = (
@@ -85,7 +87,7 @@ by-told forget read_only job bytes syncs old first ended (Some told) last new be
 
 -- a store that was served is a session of the drive
 pub store-served : (forget : Option Forget) (read_only : Bool) (job : NbdJob) (bytes : Streams) (syncs : SyncsDone) (old : DriveState) (first : DiskView) (ended : Result (Unit {0}) SessionFault) (told : Option Forgotten) (last : StoreView) (new : DriveState)
-    → IsBegun syncs.flushes old job.blocks first → ServesStore forget bytes (served_at read_only job.idle syncs first) ended told last → Ends syncs last new
+    → IsBegun syncs.flushes old job.blocks first → ServesStore forget bytes (failing (fails_in_requests job.fail) (served_at read_only job.idle syncs first)) ended told last → Ends syncs last new
     → ServesBy forget read_only job bytes syncs old ended told new
 store-served None read_only job bytes syncs old first ended told last new begun s ends = (
   record {

@@ -1,5 +1,5 @@
 -- What a loss of power leaves of a drive that is served and flushed, and what is left of a disk that forgets.
-use Rattle.std.specs.Prelude.{◌≡◌, ℕ, Bool, true, List, [], Contains, IfOk, Result, slice_index_or}
+use Rattle.std.specs.Prelude.{◌≡◌, ℕ, Bool, true, false, List, [], Contains, IfOk, Result, slice_index_or}
 use Rattle.zone_states.specs.Zone.{Zone}
 use Rattle.drive_port.specs.Drive.{DriveState}
 use Rattle.drive_port.specs.Run.{restarted}
@@ -7,15 +7,18 @@ use Rattle.remount.specs.Mount.{IsToMount}
 use Rattle.zone_translator.specs.Mount.{MountsDisk}
 use Rattle.zone_translator.specs.View.{DiskView, disk_array, given_size}
 use Rattle.nbd_session.specs.Requests.{asked_of_store, data_length}
-use Rattle.nbd_session.specs.Session.{AnswersIn, AnswersMessage, Session}
+use Rattle.nbd_session.specs.Session.{AnswersIn, AnswersMessage, Session, session}
 use Rattle.nbd_session.specs.Store.{StoreView}
 use Rattle.nbd_session.specs.Streams.{Streams}
+use Rattle.nbd_session.specs.Turns.{Serves}
 use Rattle.nbd_session.specs.declared.fault.SessionFault.{SessionFault}
 use Rattle.nbd_session.specs.declared.phase.Phase.{Phase}
 use Rattle.nbd_session.specs.declared.phase.Phase.TheVariants as phases
 use Rattle.volatile_cache.specs.Laws.{IsSettled, LeavesOut}
 use Rattle.volatile_cache.specs.Outcomes.{cached}
-use Rattle.nbd_jobs.specs.Serving.{ServesForgetting, ServesSession, SyncsDone}
+use Rattle.nbd_jobs.specs.Failing.{fails_in_requests}
+use Rattle.nbd_jobs.specs.Forgetting.{Forgets}
+use Rattle.nbd_jobs.specs.Serving.{ServesForgetting, ServesSession, SyncsDone, served_at}
 use Rattle.nbd_jobs.specs.declared.forgetting.Forgotten.{Forgotten}
 use Rattle.nbd_jobs.specs.declared.job.Forget.{Forget}
 use Rattle.nbd_jobs.specs.declared.job.NbdJob.{NbdJob}
@@ -56,3 +59,18 @@ SettledIsLeft =
     (forget : Forget) (read_only : Bool) (job : NbdJob) (bytes : Streams) (syncs : SyncsDone) (old : DriveState) (told : Forgotten) (new : DriveState)
     (session : ServesForgetting forget read_only job bytes syncs old told new) (place : ℕ) (block : List ℕ)
     → IsSettled place block (cached session.forgets.below session.forgets.mine) → slice_index_or (disk_array session.last.disk) place [] ≡ block
+
+-- ---- a medium that fails
+
+-- If the medium is not to fail, a session is one of the disk as it is, and so is a session of a disk that forgets.
+abbrev pub UnaskedIsServed : Type 0
+UnaskedIsServed =
+    (read_only : Bool) (job : NbdJob) (bytes : Streams) (syncs : SyncsDone) (old : DriveState) (ended : Result (Unit {0}) SessionFault) (new : DriveState)
+    (served : ServesSession read_only job bytes syncs old ended new) → fails_in_requests job.fail ≡ false
+    → Serves bytes (session phases.Greeting (served_at read_only job.idle syncs served.first)) ended served.last
+
+abbrev pub UnaskedIsForgotten : Type 0
+UnaskedIsForgotten =
+    (forget : Forget) (read_only : Bool) (job : NbdJob) (bytes : Streams) (syncs : SyncsDone) (old : DriveState) (told : Forgotten) (new : DriveState)
+    (served : ServesForgetting forget read_only job bytes syncs old told new) → fails_in_requests job.fail ≡ false
+    → Forgets forget bytes (served_at read_only job.idle syncs served.first) told served.last

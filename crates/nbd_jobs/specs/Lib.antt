@@ -1,4 +1,5 @@
 pub mod Begun
+pub mod Failing
 pub mod Forgetting
 pub mod Serving
 pub mod Laws

@@ -11,6 +11,7 @@ use Rattle.mounted_disks.specs.DiskSize.{size_of}
 use Rattle.mounted_disks.specs.Mounted.{IsServed}
 use Rattle.mounted_disks.specs.Stop.{stopping}
 use Rattle.mounted_disks.specs.declared.disk_size.DiskSize.{DiskSize}
+use Rattle.nbd_session.specs.Failing.{failing}
 use Rattle.nbd_session.specs.Served.{since_of}
 use Rattle.nbd_session.specs.Session.{session}
 use Rattle.nbd_session.specs.Store.{StoreView}
@@ -25,6 +26,7 @@ use Rattle.nbd_jobs.specs.declared.forgetting.Forgotten.{Forgotten}
 use Rattle.nbd_jobs.specs.declared.job.Forget.{Forget}
 use Rattle.nbd_jobs.specs.declared.job.NbdJob.{NbdJob}
 use Rattle.nbd_jobs.specs.Begun.{IsBegun, IsNotBegun}
+use Rattle.nbd_jobs.specs.Failing.{fails_in_requests}
 use Rattle.nbd_jobs.specs.Forgetting.{Forgets, ends_well}
 
 -- ---- the session
@@ -53,13 +55,13 @@ served_at read_only idle syncs disk = record {
 
 -- A session is served by the disk of a drive, or by that disk read only, and each sync is one of its medium. What it
 -- leaves can be mounted again, with the array that was answered, and nothing is pending. A loss of power leaves one
--- of the arrays of `since`.
+-- of the arrays of `since`. If the job says so, the medium may fail in a request, and then nothing is done.
 pub record ServesSession (read_only : Bool) (job : NbdJob) (bytes : Streams) (syncs : SyncsDone) (old : DriveState)
     (ended : Result (Unit {0}) SessionFault) (new : DriveState) : Type 0 where
   pub first : DiskView
   pub disk : IsBegun syncs.flushes old job.blocks first
   pub last : StoreView
-  pub serves : Serves bytes (session Greeting (served_at read_only job.idle syncs first)) ended last
+  pub serves : Serves bytes (session Greeting (failing (fails_in_requests job.fail) (served_at read_only job.idle syncs first))) ended last
   pub pending : last.pending ≡ []
   pub synced : syncs.after ≡ last.syncs
   pub since : last.since ≡ since_of syncs.flushes last.disk
@@ -68,13 +70,13 @@ pub record ServesSession (read_only : Bool) (job : NbdJob) (bytes : Streams) (sy
 
 -- The same by a disk that forgets. Its client is answered by that disk with the blocks that are pending above it. At the
 -- end these are applied, or the power is cut, and this is told. What is left can be mounted again, with the array that
--- is left, and nothing is pending.
+-- is left, and nothing is pending. A request in which the medium failed has no pending blocks.
 pub record ServesForgetting (forget : Forget) (read_only : Bool) (job : NbdJob) (bytes : Streams) (syncs : SyncsDone) (old : DriveState)
     (told : Forgotten) (new : DriveState) : Type 0 where
   pub first : DiskView
   pub disk : IsBegun syncs.flushes old job.blocks first
   pub last : StoreView
-  pub forgets : Forgets forget bytes (served_at read_only job.idle syncs first) told last
+  pub forgets : Forgets forget bytes (failing (fails_in_requests job.fail) (served_at read_only job.idle syncs first)) told last
   pub pending : last.pending ≡ []
   pub synced : syncs.after ≡ last.syncs
   pub since : last.since ≡ since_of syncs.flushes last.disk

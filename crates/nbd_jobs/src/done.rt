@@ -18,6 +18,8 @@ pub struct Done {
     pub disk: Option<DiskSize>,
     /// What was forgotten, if the disk forgets and was served.
     pub forgotten: Option<Forgotten>,
+    /// How many requests failed by chance, if some were to and the disk was served.
+    pub failed: Option<u64>,
 }
 
 impl Done {
@@ -33,6 +35,7 @@ impl Done {
             statistics: None,
             disk: None,
             forgotten: None,
+            failed: None,
         }
     }
 }

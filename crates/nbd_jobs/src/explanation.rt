@@ -47,3 +47,8 @@ pub fn forgotten_note(
         }
     }
 }
+
+/// One line for people that says how many requests failed by chance, without a line feed.
+pub fn failed_note(alloc: Global, failed: u64) -> Result<String, AllocError> {
+    format!(in alloc; "{failed} requests failed by chance")
+}

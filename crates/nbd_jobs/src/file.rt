@@ -87,6 +87,7 @@ fn serve_file<F: Files<File = File>, R: Read + Drop, W: Write>(
         statistics: after.statistics,
         disk: after.disk,
         forgotten: after.forgotten,
+        failed: after.failed,
     };
     (after.left, done)
 }

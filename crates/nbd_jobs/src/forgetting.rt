@@ -1,4 +1,4 @@
-// A session over a disk that forgets.
+// A session over a disk that forgets, or whose medium fails.
 
 ghost use Rattle.std.specs.Prelude.{◌≡◌};
 ghost use Rattle.nbd_session.specs.Store.{KeepsMode};
@@ -6,9 +6,11 @@ ghost use Rattle.nbd_session.specs.Streams.{streams};
 ghost use Rattle.volatile_cache.specs.Outcomes.{deferring};
 ghost use Rattle.volatile_cache.specs.Queue.{all_pending};
 ghost use Rattle.zone_translator.specs.Keeping.{KeepsServed};
+ghost use Rattle.nbd_jobs.specs.Failing.{DoneFailing};
 ghost use Rattle.nbd_jobs.specs.Forgetting.{Applies, Forgets, IsCut, LeavesBy, ServesStore, ends_well};
 
-use crate::job::Forget;
+use crate::failing::{failing_store, failures_of};
+use crate::job::{Fail, Forget};
 use nbd_session::{Client, SessionEnd, SessionFault, Store, StoreFault, serve, serve_at_most};
 use std::alloc::Global;
 use std::io::Write;
@@ -45,6 +47,8 @@ pub(crate) struct AfterServing<S: Store + Drop> {
     pub store: S,
     /// What was forgotten, if the disk forgets.
     pub forgotten: Option<Forgotten>,
+    /// How many requests failed by chance, if some were to.
+    pub failed: Option<u64>,
     /// How the session ended.
     pub result: Result<(), SessionFault>,
 }
@@ -103,20 +107,25 @@ fn end_pending<S: Store + Drop>(
     }
 }
 
-/// Serves a store to a client with a cache above it, and applies what is pending at the end, or cuts the power.
+/// Serves a store to a client with a cache above it, and applies what is pending at the end, or cuts the power. The
+/// medium fails above the cache, which sees no request that failed.
 fn serve_forgetting<S: Store + Drop, R: Client, W: Write>(
     alloc: Global,
+    fail: Option<Fail>,
     forget: Forget,
     store: S,
     reader: &mut R,
     writer: &mut W,
-) -> (S, Forgotten)
-    ensures { Forgets forget
+) -> (S, Forgotten, Option<u64>)
+    ensures { DoneFailing fail (λ old new. Forgets forget
         (streams (R.remaining reader.old) (R.remaining reader.new) (W.contents writer.old) (W.contents writer.new))
-        (S.view store) result.1 (S.view result.0) }
+        old result.1 new) (S.view store) (S.view result.0) }
 {
-    let mut cache = VolatileCache::new(alloc, store, CACHE_BYTES);
-    let ended = serve_at_most(alloc, reader, writer, &mut cache, forget.cut_after);
+    let cache = VolatileCache::new(alloc, store, CACHE_BYTES);
+    let mut served = failing_store(cache, fail);
+    let ended = serve_at_most(alloc, reader, writer, &mut served, forget.cut_after);
+    let failed = failures_of(&served, fail);
+    let mut cache = served.into_store();
     let pending = cache.pending() as u64;
     let lost = end_pending(&mut cache, forget, ended);
     let forgotten = Forgotten {
@@ -124,33 +133,38 @@ fn serve_forgetting<S: Store + Drop, R: Client, W: Write>(
         pending,
         lost,
     };
-    (cache.into_store(), forgotten)
+    (cache.into_store(), forgotten, failed)
 }
 
-/// Serves a store to a client: with a cache above it that forgets, if that is asked for.
+/// Serves a store to a client: with a cache above it that forgets, if that is asked for. Its medium fails by chance, if
+/// that is asked for.
 pub(crate) fn serve_store<S: Store + Drop, R: Client, W: Write>(
     alloc: Global,
+    fail: Option<Fail>,
     forget: Option<Forget>,
-    mut store: S,
+    store: S,
     reader: &mut R,
     writer: &mut W,
 ) -> AfterServing<S>
-    ensures { ServesStore forget
+    ensures { DoneFailing fail (λ old new. ServesStore forget
         (streams (R.remaining reader.old) (R.remaining reader.new) (W.contents writer.old) (W.contents writer.new))
-        (S.view store) result.result result.forgotten (S.view result.store) }
+        old result.result result.forgotten new) (S.view store) (S.view result.store) }
 {
     let Some(forget) = forget else {
-        let result = serve(alloc, reader, writer, &mut store);
+        let mut served = failing_store(store, fail);
+        let result = serve(alloc, reader, writer, &mut served);
         return AfterServing {
-            store,
+            failed: failures_of(&served, fail),
+            store: served.into_store(),
             forgotten: None,
             result,
         };
     };
-    let (store, forgotten) = serve_forgetting(alloc, forget, store, reader, writer);
+    let (store, forgotten, failed) = serve_forgetting(alloc, fail, forget, store, reader, writer);
     AfterServing {
         store,
         forgotten: Some(forgotten),
+        failed,
         result: ends_well(forgotten.ended),
     }
 }

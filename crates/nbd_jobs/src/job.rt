@@ -12,6 +12,16 @@ pub struct Forget {
     pub cut_after: Option<u64>,
 }
 
+/// That the medium of a disk fails by chance, for tests of clients. Then a request is answered by an error, and nothing
+/// is done.
+#[derive(Clone, Copy, Debug, PartialEq, Eq)]
+pub struct Fail {
+    /// What chooses the requests that fail.
+    pub seed: u64,
+    /// About how many of 100 reads, writes, trims and writes of zeros fail: 0 none, and 100 all.
+    pub odds: u32,
+}
+
 /// A drive in a file that is served to one client by the Network Block Device protocol.
 #[derive(Debug, PartialEq, Eq, Drop)]
 pub struct NbdJob {
@@ -23,6 +33,8 @@ pub struct NbdJob {
     pub stop: Stop,
     /// Whether the disk forgets. Then its drive has what was applied, and stops by itself.
     pub forget: Option<Forget>,
+    /// Whether the medium fails by chance in requests. It fails in no sync.
+    pub fail: Option<Fail>,
     /// Which zones the drive closes by itself.
     pub habit: Habit,
     /// Whether what was written and moved is shown at the end.

@@ -1,6 +1,7 @@
 //! What a client may rely on. Each function carries laws as its contract, and changes nothing.
 
 ghost use Rattle.nbd_jobs.specs.Laws.{LossIsFound, MessageKeepsSettled, SettledIsLeft};
+ghost use Rattle.nbd_jobs.specs.Laws.{UnaskedIsForgotten, UnaskedIsServed};
 
 /// Whatever a loss of power leaves of a drive that was served, and flushed at each sync, is found again: a mount of the
 /// restarted drive finds an array that the session says may be left.
@@ -13,4 +14,10 @@ pub fn loss_is_found()
 pub fn synced_is_left()
     ensures message { MessageKeepsSettled }
     ensures left { SettledIsLeft }
+{}
+
+/// If the medium is not to fail, a session is one of the disk as it is: no request is answered by `EIO` but by a sync.
+pub fn fails_only_if_asked()
+    ensures served { UnaskedIsServed }
+    ensures forgotten { UnaskedIsForgotten }
 {}

@@ -24,6 +24,8 @@
 //!   has said that it ends, all that is pending is applied and synced. Else the power is cut, at the greatest number of
 //!   requests too: some of the pending blocks are applied, none, any or all, and the drive is synced. What is left can
 //!   be mounted again. A block that was synced, and not written since, is in it (`laws::synced_is_left`).
+//! * Where the medium is to fail ([`Fail`]), it may fail in a request: that is answered by `EIO`, and then nothing is
+//!   done, pending or shown. Where it is not, each request is answered by the disk (`laws::fails_only_if_asked`).
 //! * [`serve_read_only`], over every reader and writer: the same of a disk that is read only. No store is handed in,
 //!   so nothing but the replies is written.
 //! * If no number of blocks was given, the disk has the size that a header on the drive says, also if that is one
@@ -42,13 +44,14 @@
 //!   `tools/nbd_clients` and `tools/kill_runs` try it.
 //! * That the device keeps the habit and the stop of the job. A served drive that is to tear an Append may leave one
 //!   block of it, however many were asked for ([`serve_stopping`]).
-//! * The text of `--statistics`.
+//! * The text of `--statistics`. In how many requests the medium fails, and that it fails in no sync.
 //!
 //! Tests: the rows of `nbd_rows`; `tools/nbd_clients`, with real clients.
 #![tactic(auto)]
 
 mod done;
 mod explanation;
+mod failing;
 mod fault;
 mod file;
 mod forgetting;
@@ -59,11 +62,11 @@ mod saving;
 mod serving;
 
 pub use done::Done;
-pub use explanation::{explain, forgotten_note};
+pub use explanation::{explain, failed_note, forgotten_note};
 pub use fault::NbdFault;
 pub use file::{BUFFER, are_sent, do_nbd_job};
 pub use forgetting::{CACHE_BYTES, Forgotten};
-pub use job::{Forget, NbdJob};
+pub use job::{Fail, Forget, NbdJob};
 pub use saving::sent_end;
 pub use serving::{
     AfterSession, Ended, Kept, ServedFile, serve_drive, serve_read_only, serve_stopping,

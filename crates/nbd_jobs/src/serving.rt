@@ -34,8 +34,8 @@ pub struct ServedFile<I: Read + Drop, S: Store<Drive> + Drop, M: Medium + Drop> 
     pub medium: M,
 }
 
-/// What is left of a device and its medium once its session has ended, what was counted, what was mounted, and what
-/// was forgotten.
+/// What is left of a device and its medium once its session has ended, what was counted, what was mounted, what
+/// was forgotten, and how many requests failed.
 #[derive(Drop)]
 pub struct Ended<D: Device + Drop, M: Medium + Drop> {
     pub device: D,
@@ -43,6 +43,7 @@ pub struct Ended<D: Device + Drop, M: Medium + Drop> {
     pub statistics: Option<String>,
     pub disk: Option<DiskSize>,
     pub forgotten: Option<Forgotten>,
+    pub failed: Option<u64>,
     pub result: Result<(), NbdFault>,
 }
 
@@ -59,6 +60,8 @@ pub struct AfterSession<S: Store<Drive> + Drop, M: Medium + Drop> {
     pub disk: Option<DiskSize>,
     /// What was forgotten, if the disk forgets and was served.
     pub forgotten: Option<Forgotten>,
+    /// How many requests failed by chance, if some were to and the disk was served.
+    pub failed: Option<u64>,
     /// How the session ended.
     pub result: Result<(), NbdFault>,
 }
@@ -145,13 +148,14 @@ fn serve_counted<D: Device + Drop, M: Medium + Drop, R: Client, W: Write>(
                 statistics: None,
                 disk: None,
                 forgotten: None,
+                failed: None,
                 result: Err(fault),
             };
         }
     };
     let size = DiskSize::of(&disk);
     let store = served(disk, kept.medium, kept.read_only, job.idle);
-    let after = serve_store(alloc, job.forget, store, reader, writer);
+    let after = serve_store(alloc, job.fail, job.forget, store, reader, writer);
     let (disk, medium) = after.store.into_parts();
     let statistics = shown_statistics(alloc, job, &disk);
     Ended {
@@ -160,6 +164,7 @@ fn serve_counted<D: Device + Drop, M: Medium + Drop, R: Client, W: Write>(
         statistics,
         disk: Some(size),
         forgotten: after.forgotten,
+        failed: after.failed,
         result: session_end(after.result),
     }
 }
@@ -195,6 +200,7 @@ pub fn serve_stopping<D: Device + Drop, M: Medium + Drop, R: Client, W: Write>(
         statistics: ended.statistics,
         disk: ended.disk,
         forgotten: ended.forgotten,
+        failed: ended.failed,
         result: ended.result,
     }
 }
@@ -248,6 +254,7 @@ pub fn serve_drive<I: Read + Drop, S: Store<Drive> + Drop, M: Medium + Drop, R: 
                 statistics: None,
                 disk: None,
                 forgotten: None,
+                failed: None,
                 result: Err(NbdFault::File(KeepFault::Image(fault))),
             };
         }
@@ -266,6 +273,7 @@ pub fn serve_drive<I: Read + Drop, S: Store<Drive> + Drop, M: Medium + Drop, R: 
         statistics: ended.statistics,
         disk: ended.disk,
         forgotten: ended.forgotten,
+        failed: ended.failed,
         result: ended.result,
     }
 }
@@ -303,5 +311,6 @@ pub fn serve_read_only<I: Read, R: Client, W: Write>(
         statistics: ended.statistics,
         disk: ended.disk,
         forgotten: ended.forgotten,
+        failed: ended.failed,
     }
 }

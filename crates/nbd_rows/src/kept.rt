@@ -7,7 +7,8 @@ use disk_jobs::{Habit, Stop};
 use drive_images::write_image;
 use drive_journal::Held;
 use nbd_jobs::{
-    Forgotten, NbdFault, NbdJob, ServedFile, forgotten_note, serve_drive, serve_read_only,
+    Forgotten, NbdFault, NbdJob, ServedFile, failed_note, forgotten_note, serve_drive,
+    serve_read_only,
 };
 use nbd_session::WriteThrough;
 use std::alloc::Global;
@@ -33,6 +34,7 @@ pub fn job_of(alloc: Global, blocks: Option<u64>, statistics: bool) -> NbdJob {
         blocks,
         stop: Stop::NEVER,
         forget: None,
+        fail: None,
         habit: Habit::Lazy,
         statistics,
         idle: true,
@@ -62,6 +64,15 @@ fn show_forgotten(
     Ok(())
 }
 
+/// Shows how many requests failed by chance, if some were to.
+fn show_failed(alloc: Global, failed: Option<u64>, out: &mut String) -> Result<(), RowsFault> {
+    if let Some(failed) = failed {
+        let note = failed_note(alloc, failed)?;
+        writeln!(out, "{note}")?;
+    }
+    Ok(())
+}
+
 /// Shows how a session ended.
 fn show_end(ended: Result<(), NbdFault>, out: &mut String) -> Result<(), RowsFault> {
     match ended {
@@ -72,7 +83,7 @@ fn show_end(ended: Result<(), NbdFault>, out: &mut String) -> Result<(), RowsFau
 }
 
 /// Serves the drive in a file. Shows what the server sent, what was counted if the job asks for it, what was forgotten if
-/// the disk forgets, and how the session ended. The file has all changes then.
+/// the disk forgets, how many requests failed if some were to, and how the session ended. The file has all changes then.
 pub fn show_kept(
     alloc: Global,
     job: &NbdJob,
@@ -91,10 +102,12 @@ pub fn show_kept(
     show_replies(&sent, out)?;
     show_counts(&ended.statistics, out)?;
     show_forgotten(alloc, job, ended.forgotten, out)?;
+    show_failed(alloc, ended.failed, out)?;
     show_end(ended.result, out)
 }
 
-/// Serves the drive in a file read only. Shows what the server sent, and how the session ended.
+/// Serves the drive in a file read only. Shows what the server sent, how many requests failed if some were to, and how
+/// the session ended.
 pub fn show_read_only(
     alloc: Global,
     job: &NbdJob,
@@ -105,5 +118,6 @@ pub fn show_read_only(
     let mut sent = Vec::new(alloc);
     let done = serve_read_only(alloc, job, &mut &*file, &mut &*input, &mut sent);
     show_replies(&sent, out)?;
+    show_failed(alloc, done.failed, out)?;
     show_end(done.session, out)
 }

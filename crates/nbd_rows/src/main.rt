@@ -14,6 +14,8 @@
 //!   moved and cleaned.
 //! - `forgets N SEED ODDS` runs the session over the same file, with N logical blocks and a disk that forgets. With one
 //!   number more the power is cut after so many requests.
+//! - `fails SEED ODDS` does what `again` does, with a medium that fails in ODDS of 100 requests. With two numbers more, a
+//!   seed and odds, the disk forgets, too. `fails_reading SEED ODDS` does the same read only.
 //! - `fresh` makes a new file. `old N` makes one whose drive has a header of version 1, which says no size: block N
 //!   was written.
 //! - An empty line, and one that begins with `#`, says nothing.
@@ -36,7 +38,7 @@ use crate::fault::RowsFault;
 use crate::kept::{fresh_file, job_of, show_kept, show_read_only};
 use crate::old::old_file;
 use crate::run::{Setting, show_cuts, show_session};
-use crate::words::{forget_of, number_of, put_bytes, setting_of};
+use crate::words::{fail_of, forget_of, number_of, put_bytes, setting_of};
 use nbd_jobs::NbdJob;
 use std::alloc::Global;
 use std::io;
@@ -74,6 +76,8 @@ impl Recorded {
                 Ok(())
             }
             _ if line.starts_with("forgets ") => self.serve_forgetting(alloc, line, out),
+            _ if line.starts_with("fails ") => self.serve_failing(alloc, line, out),
+            _ if line.starts_with("fails_reading ") => self.read_failing(alloc, line, out),
             _ if line.starts_with("kept ") => self.serve(alloc, Some(number_of(line)?), false, out),
             _ if line.starts_with("counted ") => {
                 self.file = fresh_file(alloc, self.setting)?;
@@ -108,6 +112,37 @@ impl Recorded {
             ..job_of(alloc, Some(blocks), false)
         };
         show_kept(alloc, &job, &self.input, &mut self.file, out)
+    }
+
+    /// Serves the drive in the file, whose medium fails. The disk may forget, too.
+    fn serve_failing(
+        &mut self,
+        alloc: Global,
+        line: &str,
+        out: &mut String,
+    ) -> Result<(), RowsFault> {
+        let (fail, forget) = fail_of(alloc, line)?;
+        let job = NbdJob {
+            fail: Some(fail),
+            forget,
+            ..job_of(alloc, None, false)
+        };
+        show_kept(alloc, &job, &self.input, &mut self.file, out)
+    }
+
+    /// Serves the drive in the file read only, whose medium fails.
+    fn read_failing(
+        &mut self,
+        alloc: Global,
+        line: &str,
+        out: &mut String,
+    ) -> Result<(), RowsFault> {
+        let (fail, _) = fail_of(alloc, line)?;
+        let job = NbdJob {
+            fail: Some(fail),
+            ..job_of(alloc, None, false)
+        };
+        show_read_only(alloc, &job, &self.input, &self.file, out)
     }
 
     /// Reads a line that begins a session, or the bytes of one.

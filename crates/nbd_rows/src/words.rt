@@ -2,7 +2,7 @@
 
 use crate::fault::RowsFault;
 use crate::run::Setting;
-use nbd_jobs::Forget;
+use nbd_jobs::{Fail, Forget};
 use std::alloc::Global;
 
 /// Which number of a setting a word is.
@@ -53,14 +53,20 @@ pub fn number_of(line: &str) -> Result<u64, RowsFault> {
     number.parse::<u64>().or(Err(RowsFault::Words))
 }
 
-/// How many blocks a disk has, and how it forgets: the numbers after the first word of a line. The last one may be
-/// left out.
-pub fn forget_of(alloc: Global, line: &str) -> Result<(u64, Forget), RowsFault> {
+/// The numbers after the first word of a line.
+fn numbers_of(alloc: Global, line: &str) -> Result<Vec<u64>, RowsFault> {
     let mut numbers = Vec::new(alloc);
     for word in line.split(' ').skip(1) {
         let number = word.parse::<u64>().or(Err(RowsFault::Words))?;
         numbers.push(number).or(Err(RowsFault::Memory))?;
     }
+    Ok(numbers)
+}
+
+/// How many blocks a disk has, and how it forgets: the numbers after the first word of a line. The last one may be
+/// left out.
+pub fn forget_of(alloc: Global, line: &str) -> Result<(u64, Forget), RowsFault> {
+    let numbers = numbers_of(alloc, line)?;
     let (blocks, seed, odds) = match numbers.as_slice() {
         [blocks, seed, odds] | [blocks, seed, odds, _] => (*blocks, *seed, *odds),
         _ => return Err(RowsFault::Words),
@@ -71,6 +77,30 @@ pub fn forget_of(alloc: Global, line: &str) -> Result<(u64, Forget), RowsFault> 
         cut_after: numbers.get(3).copied(),
     };
     Ok((blocks, forget))
+}
+
+/// By which chance a medium fails, and how the disk forgets, if there are two numbers more: the numbers after the first
+/// word of a line.
+pub fn fail_of(alloc: Global, line: &str) -> Result<(Fail, Option<Forget>), RowsFault> {
+    let numbers = numbers_of(alloc, line)?;
+    let (seed, odds, forget) = match numbers.as_slice() {
+        [seed, odds] => (*seed, *odds, None),
+        [seed, odds, chosen, lost] => (*seed, *odds, Some((*chosen, *lost))),
+        _ => return Err(RowsFault::Words),
+    };
+    let fail = Fail {
+        seed,
+        odds: u32::try_from(odds).or(Err(RowsFault::Words))?,
+    };
+    let Some((seed, odds)) = forget else {
+        return Ok((fail, None));
+    };
+    let forget = Forget {
+        seed,
+        odds: u32::try_from(odds).or(Err(RowsFault::Words))?,
+        cut_after: None,
+    };
+    Ok((fail, Some(forget)))
 }
 
 /// Puts a byte that is repeated after `out`.

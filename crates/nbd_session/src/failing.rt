@@ -16,6 +16,10 @@ pub struct FailingStore<S: Store + Drop> {
     store: S,
     coins: SplitMix64,
     odds: u32,
+    /// Whether it may fail in a sync, too.
+    in_syncs: bool,
+    /// In how many calls it has failed.
+    failures: u64,
 }
 
 impl<S: Store + Drop> Model for FailingStore<S> {
@@ -37,7 +41,24 @@ impl<S: Store + Drop> FailingStore<S> {
             store,
             coins: SplitMix64::seed_from_u64(seed),
             odds,
+            in_syncs: true,
+            failures: 0,
         }
+    }
+
+    /// The same store, whose medium fails in no sync. Then what had to be durable fails only before it is done.
+    pub fn sparing_syncs(self) -> FailingStore<S>
+        ensures { result ≡ self }
+    {
+        FailingStore {
+            in_syncs: false,
+            ..self
+        }
+    }
+
+    /// In how many calls the medium has failed by chance.
+    pub fn failures(&self) -> u64 {
+        self.failures
     }
 
     /// The store below, as it is.
@@ -47,12 +68,24 @@ impl<S: Store + Drop> FailingStore<S> {
         self.store
     }
 
-    /// Whether the medium fails this time.
-    fn fails(&mut self) -> bool
+    /// Whether the medium is to fail this time, by the odds.
+    fn is_chosen(&mut self) -> bool
         ensures may { IsTrue result → 0 < self.old.odds }
         ensures same { self.new ≡ self.old }
     {
         self.odds > 0 && self.coins.random_ratio(self.odds.min(100), 100)
+    }
+
+    /// Whether the medium fails this time. It is counted.
+    fn fails(&mut self) -> bool
+        ensures may { IsTrue result → 0 < self.old.odds }
+        ensures same { self.new ≡ self.old }
+    {
+        let fails = self.is_chosen();
+        if fails {
+            self.failures = self.failures.saturating_add(1);
+        }
+        fails
     }
 
     /// Whether the medium fails in a call of these blocks. Where the answer is known before, it does not.
@@ -64,12 +97,15 @@ impl<S: Store + Drop> FailingStore<S> {
         !is_known(&self.store, first, blocks) && self.fails()
     }
 
-    /// Whether the medium fails in a sync. Where the disk does not serve, it does not.
+    /// Whether the medium fails in a sync. Where the disk does not serve, or syncs are spared, it does not.
     fn fails_to_sync(&mut self) -> bool
         ensures may { IsTrue result → 0 < self.old.odds }
         ensures serves { IsTrue result → answer_while (S.view self.old.store).disk.status ≡ None }
         ensures same { self.new ≡ self.old }
     {
+        if !self.in_syncs {
+            return false;
+        }
         matches!(self.store.status(), DiskStatus::Serving) && self.fails()
     }
 }

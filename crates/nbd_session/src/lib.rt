@@ -56,6 +56,7 @@
 //!
 //! * That `Input` and `Output` come only if the reader or the writer failed, or `ENOMEM` only if an allocation failed.
 //! * What a medium keeps. With one that keeps each command, what a loss of power leaves says nothing of the medium.
+//! * In how many calls a [`FailingStore`] fails, that it counts them, and that it can spare syncs: `call_tests`.
 //! * That replies are passed on before the next message is read: std's `Write` says nothing of a flush, so a session
 //!   that never flushes would be proved.
 //! * The rows of `nbd_rows` show the bytes of each command, option and error except `ENOMEM`, and sessions that are

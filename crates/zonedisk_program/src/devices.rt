@@ -5,7 +5,7 @@ ghost use Rattle.std.specs.Io.KnownBytes.{Appends};
 ghost use Rattle.std.specs.Process.{exit_status};
 ghost use Rattle.disk_files.specs.Output.{AppendsFront};
 
-use crate::files::{counted, fail, tell_forgotten, tell_size};
+use crate::files::{counted, fail, tell_failed, tell_forgotten, tell_size};
 use block_copies::ExportFault;
 use copy_jobs::{CopyFault, CopyJob, ExportJob, ImportJob, import_mounted};
 use device_jobs::{
@@ -350,6 +350,7 @@ fn end_session<R: Eprint>(rt: &R, alloc: Global, job: &NbdJob, served: Served) -
         let _ = eprint!(rt; "{text}");
     }
     let forgot = tell_forgotten(rt, alloc, job, served.forgotten);
+    tell_failed(rt, alloc, job, served.failed);
     let ended = match served.flushed {
         Ok(()) => forgot,
         Err(_) => unsynced(rt, &job.image),

@@ -5,7 +5,7 @@ use disk_jobs::{
     Counted, DiskSize, Done, Explained, Gate, Job, JobInput, LineCount, ProgramFault, Saved,
     Watched, do_job, explain, restored_note, size_notes, write_program_fault,
 };
-use nbd_jobs::{Forgotten, NbdJob, do_nbd_job, forgotten_note};
+use nbd_jobs::{Forgotten, NbdJob, do_nbd_job, failed_note, forgotten_note};
 use std::alloc::Global;
 use std::io::{Read, Write};
 use std::process::ExitCode;
@@ -110,6 +110,17 @@ pub(crate) fn tell_forgotten<R: Eprint>(
     }
 }
 
+/// Says on standard error how many requests failed by chance, if some were to.
+pub(crate) fn tell_failed<R: Eprint>(rt: &R, alloc: Global, job: &NbdJob, failed: Option<u64>) {
+    let Some(failed) = failed else {
+        return;
+    };
+    if let Ok(note) = failed_note(alloc, failed) {
+        let path = job.image.as_str();
+        let _ = eprintln!(rt; "zonedisk: {path}: {note}");
+    }
+}
+
 /// Serves a drive on the standard streams. What people are told goes to standard error.
 pub(crate) fn do_nbd<R: Eprint + Files<File = fs::File> + Input, W: Write>(
     rt: &R,
@@ -124,6 +135,7 @@ pub(crate) fn do_nbd<R: Eprint + Files<File = fs::File> + Input, W: Write>(
         let _ = eprint!(rt; "{text}");
     }
     let mut code = tell_forgotten(rt, alloc, job, done.forgotten);
+    tell_failed(rt, alloc, job, done.failed);
     for ended in [done.session, done.saved.map(|_| ())] {
         if let Err(fault) = ended {
             code = ExitCode::FAILURE;

@@ -14,5 +14,6 @@ returns c =
     let m6 = one_more made c.in_ok-arg-5.field-0 c.in_ok-arg-6.field-0 _ c.flag-3.result _ m5 c.in_ok-arg-6.ensures c.flag-3.ensures.rule c.flag-3.ensures.local in
     let m7 = one_more made c.in_ok-arg-6.field-0 c.in_ok-command.command _ c.habit_option.result _ m6 c.in_ok-command.ensures c.habit_option.ensures.rule c.habit_option.ensures.local in
     let m8 = options_more made c.in_ok-command.command c.in_ok-command-2.command _ _ m7 c.in_ok-command-2.ensures in
-    IfOk-weaker c.forget_options.result _ _ (λ new adds.
-    is_command made new _ c.new.ensures.local (options_more made c.in_ok-command-2.command new _ _ m8 adds)) c.forget_options.ensures
+    let m9 = options_more made c.in_ok-command-2.command c.in_ok-command-3.command _ _ m8 c.in_ok-command-3.ensures in
+    IfOk-weaker c.fail_options.result _ _ (λ new adds.
+    is_command made new _ c.new.ensures.local (options_more made c.in_ok-command-3.command new _ _ m9 adds)) c.fail_options.ensures

@@ -1,4 +1,5 @@
 use Rattle.std.proofs.Common.{[], false, rules, refl, ap, ◌∙◌}
+use Rattle.nbd_session.specs.Failing.{failing}
 use Rattle.nbd_session.specs.Served.{since_of}
 use Rattle.nbd_session.specs.Store.{StoreView}
 use Rattle.nbd_session.specs.Streams.{streams}
@@ -28,13 +29,14 @@ returns-clause-serves g c =
     } in
     let served = rw (c.served-store.ensures.disk, c.served-store.ensures.medium, c.served-store.ensures.read_only, c.served-store.ensures.cleans) at c.serve_store-after.ensures in
     let begun = rw (c.new.ensures, c.flushes-flushes.ensures) at c.in-Ok.ensures.disk in
-    let ends : Ends syncs last new = record {
+    let left = failing served.0 last in
+    let ends : Ends syncs left new = record {
       pending = refl;
       synced = ap (λ (m : _). g.M.Medium.syncs m) c.into_parts-disk.ensures.medium;
       since = refl;
       drive = c.into_inner-2.ensures ∙ c.into_device.ensures ∙ ap (λ (d : DiskView). d.drive) c.into_parts-disk.ensures.disk;
     } in
-    let session = store-served c.args.job.now.forget c.args.kept.read_only c.args.job.now bytes syncs old c.in-Ok.disk after.result after.forgotten last new begun served ends in
+    let session = store-served c.args.job.now.forget c.args.kept.read_only c.args.job.now bytes syncs old c.in-Ok.disk after.result after.forgotten left new begun served.1 ends in
     rw c.session_end.ensures (session-served c.args.kept.read_only c.args.job.now bytes syncs old after.result after.forgotten new session)
 
 -- the disk is told that was served
