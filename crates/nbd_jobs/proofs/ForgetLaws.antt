@@ -77,7 +77,7 @@ mode-again a b c x y = record { read_only = y.read_only ∙ x.read_only; cleans 
 
 -- a store with an empty cache above it was served, and what was pending at the end was applied or lost
 pub forgets : (forget : Forget) (bytes : Streams) (old below new : StoreView) (mine : List Pending) (told : Forgotten) → ServesAtMost forget.cut_after bytes (session phases.Greeting (cached old [])) told.ended (cached below mine)
-    → KeepsServed old.disk below.disk → told.pending ≡ length mine → LeavesBy told.ended below mine told.lost new → KeepsServed below.disk new.disk → KeepsMode (deferring below) (deferring new) → Forgets forget bytes old told new
+    → KeepsServed old.disk below.disk → told.pending ≡ length mine → LeavesBy forget told.ended below mine told.lost new → KeepsServed below.disk new.disk → KeepsMode (deferring below) (deferring new) → Forgets forget bytes old told new
 forgets forget bytes old below new mine told serves kept count leaves kept' mode = record {
   below = below;
   mine = mine;
@@ -99,25 +99,25 @@ mode-failing may old new m = record {
   fails = ap (λ (below : Bool). may || below) m.fails;
 }
 
-cut-failing : (may : Bool) (below new : StoreView) (mine : List Pending) (lost : Result ℕ StoreFault) → IsCut below mine lost new → IsCut (failing may below) mine lost (failing may new)
-cut-failing may below new mine lost c = record { outcome = c.outcome; done = c.done }
+cut-failing : (may : Bool) (forget : Forget) (below new : StoreView) (mine : List Pending) (lost : Result ℕ StoreFault) → IsCut forget below mine lost new → IsCut forget (failing may below) mine lost (failing may new)
+cut-failing may forget below new mine lost c = record { outcome = c.outcome; done = c.done; count = c.count; chosen = c.chosen }
 
 -- the end leaves the same of a store whose medium may fail
-leaves-failing : (may : Bool) (ended : Result SessionEnd SessionFault) (below new : StoreView) (mine : List Pending) (lost : Result ℕ StoreFault) → LeavesBy ended below mine lost new → LeavesBy ended (failing may below) mine lost (failing may new)
-leaves-failing may (Ok Disconnected) below new mine (Ok lost) l = (syncs_failing may (λ (pending : List Pending). pending ≡ []) (cached below mine) (Ok tt) (cached new []) l.0, l.1)
-leaves-failing may (Ok Disconnected) below new mine (Err fault) l = (l.0, syncs_failing may (λ (pending : List Pending). pending ≡ []) (cached below mine) (Err fault) (cached new l.0) l.1)
-leaves-failing may (Ok InputEnded) below new mine lost l = cut-failing may below new mine lost l
-leaves-failing may (Ok LimitReached) below new mine lost l = cut-failing may below new mine lost l
-leaves-failing may (Err fault) below new mine lost l = cut-failing may below new mine lost l
+leaves-failing : (may : Bool) (forget : Forget) (ended : Result SessionEnd SessionFault) (below new : StoreView) (mine : List Pending) (lost : Result ℕ StoreFault) → LeavesBy forget ended below mine lost new → LeavesBy forget ended (failing may below) mine lost (failing may new)
+leaves-failing may forget (Ok Disconnected) below new mine (Ok lost) l = (syncs_failing may (λ (pending : List Pending). pending ≡ []) (cached below mine) (Ok tt) (cached new []) l.0, l.1)
+leaves-failing may forget (Ok Disconnected) below new mine (Err fault) l = (l.0, syncs_failing may (λ (pending : List Pending). pending ≡ []) (cached below mine) (Err fault) (cached new l.0) l.1)
+leaves-failing may forget (Ok InputEnded) below new mine lost l = cut-failing may forget below new mine lost l
+leaves-failing may forget (Ok LimitReached) below new mine lost l = cut-failing may forget below new mine lost l
+leaves-failing may forget (Err fault) below new mine lost l = cut-failing may forget below new mine lost l
 
 -- a store was served with an empty cache above it, and above that a medium that may fail
 pub forgets-failing : (may may' : Bool) (forget : Forget) (bytes : Streams) (old below new : StoreView) (mine : List Pending) (told : Forgotten)
     → ServesAtMost forget.cut_after bytes (session phases.Greeting (failing may (cached old []))) told.ended (failing may' (cached below mine))
-    → KeepsServed old.disk below.disk → told.pending ≡ length mine → LeavesBy told.ended below mine told.lost new → KeepsServed below.disk new.disk → KeepsMode (deferring below) (deferring new)
+    → KeepsServed old.disk below.disk → told.pending ≡ length mine → LeavesBy forget told.ended below mine told.lost new → KeepsServed below.disk new.disk → KeepsMode (deferring below) (deferring new)
     → Forgets forget bytes (failing may old) told (failing may' new)
 forgets-failing may may' forget bytes old below new mine told serves kept count leaves kept' mode =
     forgets forget bytes (failing may old) (failing may' below) (failing may' new) mine told serves kept count
-    (leaves-failing may' told.ended below new mine told.lost leaves) kept' (mode-failing may' (deferring below) (deferring new) mode)
+    (leaves-failing may' forget told.ended below new mine told.lost leaves) kept' (mode-failing may' (deferring below) (deferring new) mode)
 
 -- ---- messages
 
@@ -169,12 +169,12 @@ applied-settled : (below new : StoreView) (mine : List Pending) (lost : Result �
 applied-settled below new mine (Ok lost) place block a settled = below-settled new [] place block (sync-settled below new mine [] (Ok tt) place block a.0 settled)
 applied-settled below new mine (Err fault) place block a settled = below-settled new a.0 place block (sync-settled below new mine a.0 (Err fault) place block a.1 settled)
 
-left-settled : (ended : Result SessionEnd SessionFault) (below new : StoreView) (mine : List Pending) (lost : Result ℕ StoreFault) (place : ℕ) (block : List ℕ) → LeavesBy ended below mine lost new → IsSettled place block (cached below mine)
+left-settled : (forget : Forget) (ended : Result SessionEnd SessionFault) (below new : StoreView) (mine : List Pending) (lost : Result ℕ StoreFault) (place : ℕ) (block : List ℕ) → LeavesBy forget ended below mine lost new → IsSettled place block (cached below mine)
     → get_or (store_array new) place [] ≡ block
-left-settled (Ok Disconnected) below new mine lost place block l settled = applied-settled below new mine lost place block l settled
-left-settled (Ok InputEnded) below new mine lost place block l settled = cut-settled below mine (store_array new) place block settled l.outcome
-left-settled (Ok LimitReached) below new mine lost place block l settled = cut-settled below mine (store_array new) place block settled l.outcome
-left-settled (Err fault) below new mine lost place block l settled = cut-settled below mine (store_array new) place block settled l.outcome
+left-settled forget (Ok Disconnected) below new mine lost place block l settled = applied-settled below new mine lost place block l settled
+left-settled forget (Ok InputEnded) below new mine lost place block l settled = cut-settled below mine (store_array new) place block settled l.outcome
+left-settled forget (Ok LimitReached) below new mine lost place block l settled = cut-settled below mine (store_array new) place block settled l.outcome
+left-settled forget (Err fault) below new mine lost place block l settled = cut-settled below mine (store_array new) place block settled l.outcome
 
 -- nothing is pending above the disk that is left
 array-left : (last : StoreView) → last.pending ≡ [] → store_array last ≡ disk_array last.disk
@@ -184,4 +184,4 @@ pub settled-left : SettledIsLeft
 settled-left forget read_only job bytes syncs old told new session place block settled =
     let f = session.forgets in
     ap (λ (array : List (List ℕ)). get_or array place []) (sym (array-left session.last session.pending))
-    ∙ left-settled told.ended f.below session.last f.mine told.lost place block f.leaves settled
+    ∙ left-settled forget told.ended f.below session.last f.mine told.lost place block f.leaves settled

@@ -11,6 +11,7 @@ use Rattle.nbd_session.specs.declared.ending.SessionEnd.TheVariants.{Disconnecte
 use Rattle.nbd_session.specs.declared.fault.SessionFault.{SessionFault}
 use Rattle.nbd_session.specs.declared.fault.StoreFault.{StoreFault}
 use Rattle.nbd_session.specs.declared.phase.Phase.TheVariants.{Greeting}
+use Rattle.volatile_cache.specs.Fates.{chance_of, coin_of, left_by, lost_by}
 use Rattle.volatile_cache.specs.Outcomes.{IsDurable, cached, deferring, outcomes}
 use Rattle.nbd_jobs.specs.declared.forgetting.Forgotten.{Forgotten}
 use Rattle.nbd_jobs.specs.declared.job.Forget.{Forget}
@@ -24,16 +25,18 @@ Applies below mine (Ok lost) new = Syncs (cached below mine) (Ok tt) (cached new
 Applies below mine (Err fault) new = (still : List Pending) × Syncs (cached below mine) (Err fault) (cached new still)
 
 -- What a cut leaves: an array on which some of the pending blocks are written, in order: none, any or all of them. Done,
--- that array is durable, and no more blocks are lost than were pending.
-pub record IsCut (below : StoreView) (mine : List Pending) (lost : Result ℕ StoreFault) (new : StoreView) : Type 0 where
+-- that array is durable, and no more blocks are lost than were pending. Seed and odds choose which.
+pub record IsCut (forget : Forget) (below : StoreView) (mine : List Pending) (lost : Result ℕ StoreFault) (new : StoreView) : Type 0 where
   pub outcome : Contains (outcomes mine (store_array below)) (store_array new)
   pub done : IfOk lost (λ lost. IsDurable new × (lost ≤ length mine))
+  pub count : IfOk lost (λ lost. lost ≡ lost_by (coin_of forget.odds) (chance_of forget.seed) mine)
+  pub chosen : IfOk lost (λ _. store_array new ≡ left_by (coin_of forget.odds) (chance_of forget.seed) mine (store_array below))
 
 -- What is left, by how the session ended. Where the client has said so, all is applied. Else the power is cut: at the
 -- end of the input, at the greatest number of requests, and at a fault.
-abbrev pub LeavesBy : Result SessionEnd SessionFault → StoreView → List Pending → Result ℕ StoreFault → StoreView → Type 0
-LeavesBy (Ok Disconnected) below mine lost new = Applies below mine lost new
-LeavesBy ended below mine lost new = IsCut below mine lost new
+abbrev pub LeavesBy : Forget → Result SessionEnd SessionFault → StoreView → List Pending → Result ℕ StoreFault → StoreView → Type 0
+LeavesBy forget (Ok Disconnected) below mine lost new = Applies below mine lost new
+LeavesBy forget ended below mine lost new = IsCut forget below mine lost new
 
 -- A store is served with an empty cache above it. When the session had ended, `below` was under the cache and `mine`
 -- pending in it. Told are how the session ended, how many blocks were pending, and how many of them are lost. Whether the store is read only, cleans and flushes stays.
@@ -42,7 +45,7 @@ pub record Forgets (forget : Forget) (bytes : Streams) (old : StoreView) (told :
   pub mine : List Pending
   pub serves : ServesAtMost forget.cut_after bytes (session Greeting (cached old [])) told.ended (cached below mine)
   pub count : told.pending ≡ length mine
-  pub leaves : LeavesBy told.ended below mine told.lost new
+  pub leaves : LeavesBy forget told.ended below mine told.lost new
   pub kept : KeepsServed old.disk new.disk
   pub mode : KeepsMode (deferring old) (deferring new)
 

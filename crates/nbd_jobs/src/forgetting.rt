@@ -80,7 +80,7 @@ fn cut_power<S: Store + Drop>(
     cache: &mut VolatileCache<S>,
     forget: Forget,
 ) -> Result<u64, StoreFault>
-    ensures cut { IsCut (S.view cache.old.store) (all_pending cache.old.kept) result (S.view cache.new.store) }
+    ensures cut { IsCut forget (S.view cache.old.store) (all_pending cache.old.kept) result (S.view cache.new.store) }
     ensures kept { KeepsServed (S.view cache.old.store).disk (S.view cache.new.store).disk }
     ensures mode { KeepsMode (deferring (S.view cache.old.store)) (deferring (S.view cache.new.store)) }
 {
@@ -96,7 +96,7 @@ fn end_pending<S: Store + Drop>(
     forget: Forget,
     ended: Result<SessionEnd, SessionFault>,
 ) -> Result<u64, StoreFault>
-    ensures leaves { LeavesBy ended (S.view cache.old.store) (all_pending cache.old.kept) result
+    ensures leaves { LeavesBy forget ended (S.view cache.old.store) (all_pending cache.old.kept) result
         (S.view cache.new.store) }
     ensures kept { KeepsServed (S.view cache.old.store).disk (S.view cache.new.store).disk }
     ensures mode { KeepsMode (deferring (S.view cache.old.store)) (deferring (S.view cache.new.store)) }
