@@ -103,11 +103,11 @@ block_small w lt = by (ltb w (2 ^ 63)) refl
     by true e = let less = ltb-true w (2 ^ 63) e in rw e less
     by false e = let le = ltb-false w (2 ^ 63) e in rw e (omega arith)
 
-entries_spelled : (count : ℕ) (bytes : List ℕ) → 8 * count ≤ length bytes → AreBytes bytes → bytes ≡ flat_map entry_word_bytes (entries_in count bytes) ++ drop (8 * count) bytes
-entries_spelled zero bytes le all = refl
-entries_spelled (suc n) bytes le all =
+entries_encoded : (count : ℕ) (bytes : List ℕ) → 8 * count ≤ length bytes → AreBytes bytes → bytes ≡ flat_map entry_word_bytes (entries_in count bytes) ++ drop (8 * count) bytes
+entries_encoded zero bytes le all = refl
+entries_encoded (suc n) bytes le all =
     let front : bytes ≡ little_bytes 8 (little_from 0 8 bytes) ++ drop 8 bytes = number_in_front 0 8 8 bytes refl (omega arith) all in
-    let rest = entries_spelled n (drop 8 bytes) (omega (arith, length-drop 8 bytes)) (drop-bytes 8 bytes all) in
+    let rest = entries_encoded n (drop 8 bytes) (omega (arith, length-drop 8 bytes)) (drop-bytes 8 bytes all) in
     let left : drop (8 * n) (drop 8 bytes) ≡ drop (8 * suc n) bytes = drop-drop (8 * n) 8 bytes ∙ ap (λ (k : ℕ). drop k bytes) (omega arith) in
     let word = word_again (little_from 0 8 bytes) in
     let tail : drop 8 bytes ≡ flat_map entry_word_bytes (entries_in n (drop 8 bytes)) ++ drop (8 * suc n) bytes = rw left at rest in
@@ -198,7 +198,7 @@ accepted block le all none =
     let rest : drop (8 * count_in block) (drop head_size block) ≡ replicate (length block - head_size - 8 * length (entries_of block)) 0 =
     drop-drop (8 * count_in block) head_size block ∙ zeros ∙ ap (λ (n : ℕ). replicate n 0) left in
     let more : drop head_size block ≡ flat_map entry_word_bytes (entries_of block) ++ replicate (length block - head_size - 8 * length (entries_of block)) 0 =
-    entries_spelled (count_in block) (drop head_size block) (omega (arith, room, length-drop head_size block)) after ∙ ap (λ (xs : List ℕ). flat_map entry_word_bytes (entries_of block) ++ xs) rest in
+    entries_encoded (count_in block) (drop head_size block) (omega (arith, room, length-drop head_size block)) after ∙ ap (λ (xs : List ℕ). flat_map entry_word_bytes (entries_of block) ++ xs) rest in
     record {
       is = record {
         says = record {
@@ -210,7 +210,7 @@ accepted block le all none =
           blocks = blocks_small (count_in block) (drop head_size block) after;
           distinct = distinct (entry_blocks (entries_of block)) passes.1.1.1.1.1.1.1.1.0;
         };
-        spelled = block_layout block le all begins
+        encoded = block_layout block le all begins
             ∙ same_layout _ _ _ _ _ _ _ _ _ _ _ _ _ _ (sym (version_back (version_in block) (size_word_in block) version)) (sym (kind_back (kind_in block) kind)) (sym long) refl refl
             (sym (word_back (version_in block) (size_word_in block) version passes.1.1.1.1.1.0)) more
             ∙ sym (header_layout (length block) (heading_in block));
@@ -286,7 +286,7 @@ pub no_fault : (block : List ℕ) (h : Heading) → length block < 2 ^ 32 → Is
 unfolding header_fault AllFail
 no_fault block h small is =
     let size = length block in
-    let made = is.spelled in
+    let made = is.encoded in
     let version : version_in block ≡ version_of h.size = ap version_in made ∙ version_there size h in
     let kind : kind_in block ≡ kind_code h.kind = ap kind_in made ∙ kind_there size h in
     let count : count_in block ≡ length h.entries = ap count_in made ∙ count_there size h small is.says in

@@ -54,7 +54,7 @@ one_front size (b ∷ bs) (c ∷ cs) tail tail' small all all' none none' e =
 -- blocks are read in one way
 pub one_reading : OneReading
 one_reading size full blocks log other ending end small reads reads' =
-    let same = one_front size log other reads.tail reads'.tail small reads.front.batches reads'.front.batches reads.no_more reads'.no_more (sym reads.front.spelled ∙ reads'.front.spelled) in
+    let same = one_front size log other reads.tail reads'.tail small reads.front.batches reads'.front.batches reads.no_more reads'.no_more (sym reads.front.encoded ∙ reads'.front.encoded) in
     record { log_is = same.log_is; ending_is = reads'.ending_is ∙ ap (ending_of full) same.tail_is ∙ sym reads.ending_is }
 
 -- ---- a tail of a log begins with no batch, and ends it
@@ -66,7 +66,7 @@ not_zero (suc size) h e = absurd (cc)
 
 torn_none : (size : ℕ) (tail : List (List ℕ)) → size < 2 ^ 32 → IsTorn size tail → BeginsWithNoBatch size tail
 torn_none size tail small is batch others fits e =
-    let same : header_block size is.heading ∷ is.body ≡ header_block size batch.heading ∷ (batch.body ++ others) = sym is.spelled ∙ e in
+    let same : header_block size is.heading ∷ is.body ≡ header_block size batch.heading ∷ (batch.body ++ others) = sym is.encoded ∙ e in
     let first : header_block size is.heading ≡ header_block size batch.heading = cc in
     let rest : is.body ≡ batch.body ++ others = cc in
     let count : data_count is.heading.entries ≡ data_count batch.heading.entries = ap (λ (k : Heading). data_count k.entries) (one_header size is.heading batch.heading small is.says fits.heading first) in
@@ -99,10 +99,10 @@ pub never_fails : (size : ℕ) (full : Bool) (tail : List (List ℕ)) (fault : L
 never_fails size false tail fault le small (inl none) e = let h : ended ≡ failed fault = rw none at e in absurd (cc)
 never_fails size false tail fault le small (inr is) e =
     let long = header_length size is.heading le is.says in
-    let view : IsHeaderBlock (length (header_block size is.heading)) (header_block size is.heading) is.heading = rw long (record { says = is.says; spelled = refl }) in
+    let view : IsHeaderBlock (length (header_block size is.heading)) (header_block size is.heading) is.heading = rw long (record { says = is.says; encoded = refl }) in
     let fine = no_fault (header_block size is.heading) is.heading (omega (arith, long)) view in
     let begun : ending_of false (header_block size is.heading ∷ is.body) ≡ torn = rw fine refl in
-    let h : torn ≡ failed fault = sym begun ∙ ap (ending_of false) (sym is.spelled) ∙ e in
+    let h : torn ≡ failed fault = sym begun ∙ ap (ending_of false) (sym is.encoded) ∙ e in
     absurd (cc)
 never_fails zero true tail fault le small end e = absurd (omega arith)
 never_fails (suc size) true tail fault le small end e = let h : ended ≡ failed fault = sym (zeros_end size (length tail)) ∙ ap (ending_of true) (sym end) ∙ e in absurd (cc)
@@ -165,23 +165,23 @@ torn_tail size full (b ∷ bs) le small all none e = at (header_fault b) refl
         not_full false x = refl
 
         by : (t : Bool) → leb (data_count (heading_in b).entries) (length bs) ≡ t → IsHeaderBlock size b (heading_in b) → IsTorn size (b ∷ bs)
-        by false x is = record { heading = heading_in b; body = bs; says = is.says; few = leb-false _ _ x; spelled = ap (λ (y : List ℕ). y ∷ bs) is.spelled }
+        by false x is = record { heading = heading_in b; body = bs; says = is.says; few = leb-false _ _ x; encoded = ap (λ (y : List ℕ). y ∷ bs) is.encoded }
         by true x is =
             let n = data_count (heading_in b).entries in
             let enough = leb-true n (length bs) x in
-            let whole : b ∷ bs ≡ header_block size (heading_in b) ∷ (take n bs ++ drop n bs) = ap (λ (y : List ℕ). y ∷ bs) is.spelled ∙ ap (λ (ys : List (List ℕ)). header_block size (heading_in b) ∷ ys) (sym (take-append-drop n bs)) in
+            let whole : b ∷ bs ≡ header_block size (heading_in b) ∷ (take n bs ++ drop n bs) = ap (λ (y : List ℕ). y ∷ bs) is.encoded ∙ ap (λ (ys : List (List ℕ)). header_block size (heading_in b) ∷ ys) (sym (take-append-drop n bs)) in
             absurd (none (record { heading = heading_in b; body = take n bs }) (drop n bs) (record { heading = is.says; body = omega (arith, length-take n bs, enough) }) whole)
 
 -- what is read are the batches of the log, and whether its tail is torn
 pub reading_says : ReadingSays
 reading_says size full blocks log ended le small all reads =
-    let tail = tail_blocks size (flat_map (batch_blocks size) log) reads.tail (rw reads.front.spelled at all) in
+    let tail = tail_blocks size (flat_map (batch_blocks size) log) reads.tail (rw reads.front.encoded at all) in
     record { tail = reads.tail; front = reads.front; end = ended_tail size full reads.tail tail (sym reads.ending_is) }
 reading_says size full blocks log torn le small all reads =
-    let tail = tail_blocks size (flat_map (batch_blocks size) log) reads.tail (rw reads.front.spelled at all) in
+    let tail = tail_blocks size (flat_map (batch_blocks size) log) reads.tail (rw reads.front.encoded at all) in
     let both = torn_tail size full reads.tail le small tail reads.no_more (sym reads.ending_is) in
     let is : IsLog size false blocks log = record { tail = reads.tail; front = reads.front; end = inr both.1 } in
     record { not_full = both.0; log_is = is; tail = rw (← one_tail size false blocks log small is) both.1 }
 reading_says size full blocks log (failed fault) le small all reads = λ other is.
-    let same = one_front size log other reads.tail is.tail small reads.front.batches is.front.batches reads.no_more (tail_none size full is.tail small is.end) (sym reads.front.spelled ∙ is.front.spelled) in
+    let same = one_front size log other reads.tail is.tail small reads.front.batches is.front.batches reads.no_more (tail_none size full is.tail small is.end) (sym reads.front.encoded ∙ is.front.encoded) in
     never_fails size full is.tail fault le small is.end (ap (ending_of full) same.tail_is ∙ sym reads.ending_is)

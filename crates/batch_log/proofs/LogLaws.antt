@@ -1,4 +1,4 @@
--- A log that is spelled is read again, so a list of blocks has one log at most, and one tail.
+-- A log that is encoded is read again, so a list of blocks has one log at most, and one tail.
 use Rattle.std.proofs.Common.{◌≡◌, ◌⊎◌, inl, inr, ℕ, zero, suc, ◌+◌, ◌<◌, ◌≤◌, ◌^◌, Bool, true, false, leb, List, [], ◌∷◌, ◌++◌, length, take, drop, replicate, refl, sym, ap, ◌∙◌, append_assoc, arith}
 use Rattle.std.specs.List.{flat_map, AllByRecursion}
 use Rattle.std.proofs.lemmas.Bool.{le-leb, lt-leb, lt-ltb, le-ltb, ltb-true, ltb-false}
@@ -37,15 +37,15 @@ batch_again size b rest small is =
     let body : take (data_count (heading_in (header_block size b.heading)).entries) (b.body ++ rest) ≡ b.body = rw heading (take_at b.body rest (data_count b.heading.entries) is.body) in
     same_batch _ _ _ _ heading body
 
-log_from-spelled : (size : ℕ) (log : List Batch) (tail : List (List ℕ)) → size < 2 ^ 32 → AllByRecursion (IsBatch size) log → log_from 0 (flat_map (batch_blocks size) log ++ tail) ≡ log ++ log_from 0 tail
-log_from-spelled size [] tail small all = refl
-log_from-spelled size (b ∷ bs) tail small all =
+log_from-encoded : (size : ℕ) (log : List Batch) (tail : List (List ℕ)) → size < 2 ^ 32 → AllByRecursion (IsBatch size) log → log_from 0 (flat_map (batch_blocks size) log ++ tail) ≡ log ++ log_from 0 tail
+log_from-encoded size [] tail small all = refl
+log_from-encoded size (b ∷ bs) tail small all =
     let block = header_block size b.heading in
     let rest = flat_map (batch_blocks size) bs ++ tail in
     let body = batch_again size b rest small all.0 in
     let heading = header_again size b.heading small all.0.heading in
     let skip : log_from (data_count (heading_in block).entries) (b.body ++ rest) ≡ log_from 0 rest = rw (heading, ← all.0.body) (skip_body b.body rest) in
-    let others = log_from-spelled size bs tail small all.1 in
+    let others = log_from-encoded size bs tail small all.1 in
     let group : (b.body ++ flat_map (batch_blocks size) bs) ++ tail ≡ b.body ++ rest = append_assoc b.body (flat_map (batch_blocks size) bs) tail in
     let enough : data_count (heading_in block).entries ≤ length (b.body ++ rest) = rw heading (omega (arith, all.0.body, length-append b.body rest)) in
     let first = begins_right size b.heading (b.body ++ rest) enough in
@@ -64,7 +64,7 @@ torn_ends size tail small torn =
     let heading = header_again size torn.heading small torn.says in
     let count : data_count (heading_in block).entries ≡ data_count torn.heading.entries = ap (λ (h : Heading). data_count h.entries) heading in
     let more : leb (data_count (heading_in block).entries) (length torn.body) ≡ false = lt-leb _ _ (omega (arith, count, torn.few)) in
-    rw torn.spelled (rw (begins_magic size torn.heading torn.body, more) refl)
+    rw torn.encoded (rw (begins_magic size torn.heading torn.body, more) refl)
 
 tail_ends : (size : ℕ) (is_full : Bool) (tail : List (List ℕ)) → size < 2 ^ 32 → IsTail size is_full tail → log_from 0 tail ≡ []
 tail_ends size false tail small (inl none) = rw none refl
@@ -74,21 +74,21 @@ tail_ends size true tail small end = ap (log_from 0) end ∙ zeros_end size (len
 -- blocks have at most one log
 pub one_log : OneLog
 one_log size is_full blocks log small is =
-    ap log_of is.front.spelled ∙ log_from-spelled size log is.tail small is.front.batches ∙ ap (λ (more : List Batch). log ++ more) (tail_ends size is_full is.tail small is.end) ∙ append-nil log
+    ap log_of is.front.encoded ∙ log_from-encoded size log is.tail small is.front.batches ∙ ap (λ (more : List Batch). log ++ more) (tail_ends size is_full is.tail small is.end) ∙ append-nil log
 
 -- ---- the tail
 
 -- the blocks of a log are as many as its size says
-pub spelled_length : (size : ℕ) (log : List Batch) → AllByRecursion (IsBatch size) log → length (flat_map (batch_blocks size) log) ≡ log_size log
-spelled_length size [] all = refl
-spelled_length size (b ∷ bs) all = omega (arith, length-append b.body (flat_map (batch_blocks size) bs), all.0.body, spelled_length size bs all.1)
+pub encoded_length : (size : ℕ) (log : List Batch) → AllByRecursion (IsBatch size) log → length (flat_map (batch_blocks size) log) ≡ log_size log
+encoded_length size [] all = refl
+encoded_length size (b ∷ bs) all = omega (arith, length-append b.body (flat_map (batch_blocks size) bs), all.0.body, encoded_length size bs all.1)
 
 -- and at most one tail
 pub one_tail : OneTail
 one_tail size is_full blocks log small is =
     let read : log_size (log_of blocks) ≡ log_size log = ap log_size (one_log size is_full blocks log small is) in
-    let long = spelled_length size log is.front.batches in
-    sym (ap (λ (k : ℕ). drop k blocks) read ∙ ap (drop (log_size log)) is.front.spelled ∙ drop_at (flat_map (batch_blocks size) log) is.tail (log_size log) long)
+    let long = encoded_length size log is.front.batches in
+    sym (ap (λ (k : ℕ). drop k blocks) read ∙ ap (drop (log_size log)) is.front.encoded ∙ drop_at (flat_map (batch_blocks size) log) is.tail (log_size log) long)
 
 -- a log with no tail is all of the blocks
 pub whole_log : WholeLog
@@ -100,7 +100,7 @@ whole_log size is_full blocks log is = record { tail = []; front = is; end = non
 
 -- a log's blocks are its batches' and its tail's
 pub count_tail : (size : ℕ) (blocks tail : List (List ℕ)) (log : List Batch) → BeginsWith size blocks log tail → log_of blocks ≡ log → length blocks ≡ log_size (log_of blocks) + length tail
-count_tail size blocks tail log front read = omega (arith, ap length front.spelled, length-append (flat_map (batch_blocks size) log) tail, spelled_length size log front.batches, ap log_size read)
+count_tail size blocks tail log front read = omega (arith, ap length front.encoded, length-append (flat_map (batch_blocks size) log) tail, encoded_length size log front.batches, ap log_size read)
 
 -- blocks that are only batches have no tail
 pub no_tail : NoTail
@@ -108,7 +108,7 @@ no_tail size blocks log small is = record {
   whole = λ none.
       let le = ltb-false (log_size (log_of blocks)) (length blocks) none in
       let nil = nil_from_length is.tail (omega (arith, le, count_tail size blocks is.tail log is.front (one_log size false blocks log small is))) in
-      record { spelled = is.front.spelled ∙ ap (λ (t : List (List ℕ)). flat_map (batch_blocks size) log ++ t) nil; batches = is.front.batches };
+      record { encoded = is.front.encoded ∙ ap (λ (t : List (List ℕ)). flat_map (batch_blocks size) log ++ t) nil; batches = is.front.batches };
   back = λ whole. le-ltb _ _ (omega (arith, count_tail size blocks [] log whole (one_log size false blocks log small (whole_log size false blocks log whole))));
   torn = λ some. torn_part is.end (ltb-true (log_size (log_of blocks)) (length blocks) some);
 }
@@ -121,7 +121,7 @@ no_tail size blocks log small is = record {
 pub untorn_log : UntornLog
 untorn_log size is_full blocks log = record {
   log_of_it = λ is. record { tail = is.tail; front = is.front; end = end is_full is.tail is.end };
-  whole = λ is. record { spelled = is.front.spelled ∙ ap (λ (t : List (List ℕ)). flat_map (batch_blocks size) log ++ t) is.end; batches = is.front.batches };
+  whole = λ is. record { encoded = is.front.encoded ∙ ap (λ (t : List (List ℕ)). flat_map (batch_blocks size) log ++ t) is.end; batches = is.front.batches };
   of_whole = λ is. record { tail = []; front = is; end = none is_full };
   of_full = λ is. record { tail = is.tail; front = is.front; end = is.end };
 }
@@ -141,18 +141,18 @@ all_more size [] b all is = (is, tt)
 all_more size (l ∷ ls) b all is = (all.0, all_more size ls b all.1 is)
 
 -- the blocks are the batches
-spelled_alone : (size : ℕ) (blocks : List (List ℕ)) (log : List Batch) → IsWholeLog size blocks log → blocks ≡ flat_map (batch_blocks size) log
-spelled_alone size blocks log is = is.spelled ∙ append-nil (flat_map (batch_blocks size) log)
+encoded_alone : (size : ℕ) (blocks : List (List ℕ)) (log : List Batch) → IsWholeLog size blocks log → blocks ≡ flat_map (batch_blocks size) log
+encoded_alone size blocks log is = is.encoded ∙ append-nil (flat_map (batch_blocks size) log)
 
 -- an Append of a batch leaves the log with that batch
 pub append_batch : AppendBatch
 append_batch size blocks log b is batch = record {
-  spelled = rw (spelled_alone size blocks log is) (sym (append-nil _ ∙ flat_map-append (batch_blocks size) log (b ∷ []) ∙ simp append-nil));
+  encoded = rw (encoded_alone size blocks log is) (sym (append-nil _ ∙ flat_map-append (batch_blocks size) log (b ∷ []) ∙ simp append-nil));
   batches = all_more size log b is.batches batch;
 }
 
 with_front : (size : ℕ) (blocks tail : List (List ℕ)) (log : List Batch) → IsWholeLog size blocks log → BeginsWith size (blocks ++ tail) log tail
-with_front size blocks tail log is = record { spelled = ap (λ (front : List (List ℕ)). front ++ tail) (spelled_alone size blocks log is); batches = is.batches }
+with_front size blocks tail log is = record { encoded = ap (λ (front : List (List ℕ)). front ++ tail) (encoded_alone size blocks log is); batches = is.batches }
 
 -- blocks after batches alone are their tail
 with_tail : (size : ℕ) (is_full : Bool) (blocks tail : List (List ℕ)) (log : List Batch) → IsWholeLog size blocks log → IsTail size is_full tail → IsLog size is_full (blocks ++ tail) log
@@ -169,7 +169,7 @@ front_tail size (suc j) b is lt = inr (record {
   body = take j b.body;
   says = is.heading;
   few = omega (arith, is.body, length_take j b.body (omega arith));
-  spelled = refl;
+  encoded = refl;
 })
   where
     length_take : (k : ℕ) (xs : List (List ℕ)) → k ≤ length xs → length (take k xs) ≡ k

@@ -59,7 +59,7 @@ pub record ReadsFrom (size : ℕ) (full : Bool) (offset : ℕ) (blocks : List (L
 none_read : (size : ℕ) (full : Bool) (offset : ℕ) (blocks : List (List ℕ)) (r : Reading) → BeginsWithNoBatch size blocks → r ≡ at_end offset (ending_of full blocks) → ReadsFrom size full offset blocks r
 none_read size full offset blocks r none e = record {
   log = [];
-  reads = record { tail = blocks; front = record { spelled = refl; batches = tt }; no_more = none; ending_is = ap (λ (x : Reading). x.ending) e };
+  reads = record { tail = blocks; front = record { encoded = refl; batches = tt }; no_more = none; ending_is = ap (λ (x : Reading). x.ending) e };
   batches = ap (λ (x : Reading). x.batches) e;
   offset_is = ap (λ (x : Reading). x.offset) e ∙ omega arith;
 }
@@ -82,7 +82,7 @@ foreign_read size full offset b bs cause le small all e =
     none batch others is h =
         let first : b ≡ header_block size batch.heading = cc in
         let sized : length b ≡ size = all.0.0 in
-        refused b cause (omega (arith, sized)) e batch.heading (rw sized (record { says = is.heading; spelled = first }))
+        refused b cause (omega (arith, sized)) e batch.heading (rw sized (record { says = is.heading; encoded = first }))
 
 short_read : (size : ℕ) (full : Bool) (offset : ℕ) (b : List ℕ) (bs : List (List ℕ)) → head_size ≤ size → size < 2 ^ 32 → AreBlocks size (b ∷ bs) → header_fault b ≡ None → length bs < data_count (heading_in b).entries
     → ReadsFrom size full offset (b ∷ bs) (read_from size full offset 0 (bytes_of_blocks (b ∷ bs)))
@@ -122,14 +122,14 @@ batch_read size full offset count b bs le all e count-is enough rest =
     let is : IsHeaderBlock size b (heading_in b) = rw long at view in
     let body : length (take count bs) ≡ data_count (heading_in b).entries = omega (arith, length-take count bs, enough, count-is) in
     let batch : Batch = record { heading = heading_in b; body = take count bs } in
-    let joined : bs ≡ take count bs ++ (flat_map (batch_blocks size) rest.log ++ rest.reads.tail) = sym (take-append-drop count bs) ∙ ap (λ (ys : List (List ℕ)). take count bs ++ ys) rest.reads.front.spelled in
+    let joined : bs ≡ take count bs ++ (flat_map (batch_blocks size) rest.log ++ rest.reads.tail) = sym (take-append-drop count bs) ∙ ap (λ (ys : List (List ℕ)). take count bs ++ ys) rest.reads.front.encoded in
     let group : take count bs ++ (flat_map (batch_blocks size) rest.log ++ rest.reads.tail) ≡ (take count bs ++ flat_map (batch_blocks size) rest.log) ++ rest.reads.tail = sym (append_assoc (take count bs) (flat_map (batch_blocks size) rest.log) rest.reads.tail) in
     record {
       log = batch ∷ rest.log;
       reads = record {
         tail = rest.reads.tail;
         front = record {
-          spelled = ap (λ (x : List ℕ). x ∷ bs) is.spelled ∙ ap (λ (ys : List (List ℕ)). header_block size (heading_in b) ∷ ys) (joined ∙ group);
+          encoded = ap (λ (x : List ℕ). x ∷ bs) is.encoded ∙ ap (λ (ys : List (List ℕ)). header_block size (heading_in b) ∷ ys) (joined ∙ group);
           batches = (record { heading = is.says; body = body }, rest.reads.front.batches);
         };
         no_more = rest.reads.no_more;

@@ -87,7 +87,7 @@ header_block block_bytes heading =
 -- a block of `block_bytes` bytes is the header block of this heading
 pub record IsHeaderBlock (block_bytes : ℕ) (block : List ℕ) (heading : Heading) : Type 0 where
   pub says : IsHeading block_bytes heading
-  pub spelled : block ≡ header_block block_bytes heading
+  pub encoded : block ≡ header_block block_bytes heading
 
 -- the block is no header block
 abbrev pub IsNoHeader : List ℕ → Type 0

@@ -43,7 +43,7 @@ zero_block block_bytes = replicate block_bytes 0
 
 -- the blocks are these batches, one after the other, and a tail
 pub record BeginsWith (block_bytes : ℕ) (blocks : List (List ℕ)) (log : List Batch) (tail : List (List ℕ)) : Type 0 where
-  pub spelled : blocks ≡ flat_map (batch_blocks block_bytes) log ++ tail
+  pub encoded : blocks ≡ flat_map (batch_blocks block_bytes) log ++ tail
   pub batches : AllByRecursion (IsBatch block_bytes) log
 
 -- the blocks begin with no batch
@@ -57,7 +57,7 @@ pub record IsTorn (block_bytes : ℕ) (tail : List (List ℕ)) : Type 0 where
   pub body : List (List ℕ)
   pub says : IsHeading block_bytes heading
   pub few : length body < data_count heading.entries
-  pub spelled : tail ≡ header_block block_bytes heading ∷ body
+  pub encoded : tail ≡ header_block block_bytes heading ∷ body
 
 -- what may be after the last batch: in a full zone zero blocks, elsewhere nothing, or a torn tail
 abbrev pub IsTail : ℕ → Bool → List (List ℕ) → Type 0

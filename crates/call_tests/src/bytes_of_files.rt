@@ -35,7 +35,7 @@ fn a_stopping_file_tears_the_next_range(rt: HostRuntime) -> Result<(), Fail> {
     Ok(())
 }
 
-// A file in memory that counts the reads that it is asked.
+/// A file in memory that counts the reads that it is asked.
 #[derive(Drop)]
 struct CountingFile {
     file: MemoryFile,
@@ -77,13 +77,13 @@ impl FileBytes for CountingFile {
     }
 }
 
-// A file of that many bytes that counts its reads, and reads ahead.
+/// A file of that many bytes that counts its reads, and reads ahead.
 fn counted(alloc: Global, len: usize) -> Option<ReadAheadFile<CountingFile>> {
     let file = MemoryFile::new(alloc, len).ok()?;
     Some(ReadAheadFile::new(alloc, CountingFile { file, reads: 0 }))
 }
 
-// Writes one byte, if the file has it.
+/// Writes one byte, if the file has it.
 fn put(file: &mut ReadAheadFile<CountingFile>, at: u64, byte: u8) -> Option<()> {
     if at >= file.len() {
         return None;
@@ -91,7 +91,7 @@ fn put(file: &mut ReadAheadFile<CountingFile>, at: u64, byte: u8) -> Option<()> 
     file.write(at, &[byte]).ok()
 }
 
-// The first of 4096 bytes that are read, if the file has them.
+/// The first of 4096 bytes that are read, if the file has them.
 fn first_of(file: &mut ReadAheadFile<CountingFile>, at: u64) -> Option<u8> {
     let mut room = [0; 4096];
     if file.len() < 4096 || at > file.len() - 4096 {
@@ -101,7 +101,7 @@ fn first_of(file: &mut ReadAheadFile<CountingFile>, at: u64) -> Option<u8> {
     Some(room[0])
 }
 
-// Reads 1024 headers, every other block of a file: how many calls that takes. Each has to have its own number.
+/// Reads 1024 headers, every other block of a file: how many calls that takes. Each has to have its own number.
 fn calls_for_headers(alloc: Global) -> Option<u64> {
     let mut file = counted(alloc, 1 << 23)?;
     for number in 0..1024 {
@@ -115,14 +115,14 @@ fn calls_for_headers(alloc: Global) -> Option<u64> {
     Some(file.into_inner().reads)
 }
 
-// The first call reads one header, the next ones 2, 4, 8, 16 and then 32 of them. The last one reads one more.
+/// The first call reads one header, the next ones 2, 4, 8, 16 and then 32 of them. The last one reads one more.
 #[test]
 fn headers_are_read_together(rt: HostRuntime) -> Result<(), Fail> {
     assert_eq!(rt; calls_for_headers(rt.alloc()), Some(37));
     Ok(())
 }
 
-// Reads that jump: how many calls they take.
+/// Reads that jump: how many calls they take.
 fn calls_for_jumps(alloc: Global) -> Option<u64> {
     let mut file = counted(alloc, 1 << 20)?;
     for at in [0, 500000, 100000, 700000, 300000] {
@@ -175,7 +175,7 @@ fn a_loss_of_power_may_take_a_release_back(rt: HostRuntime) -> Result<(), Fail> 
     Ok(())
 }
 
-// What a file that is only read shows after writes in three of its pages, and what the file within has.
+/// What a file that is only read shows after writes in three of its pages, and what the file within has.
 fn shown_over(alloc: Global) -> Option<bool> {
     let mut file = ReadOnlyFile::new(alloc, MemoryFile::new(alloc, 12_300).ok()?);
     if file.len() < 12_300 {

@@ -4,7 +4,7 @@ use crate::chance::chance;
 use live_index::LiveIndex;
 use std::test::Fail;
 
-// Which zones are named, and the one of them with the fewest where zones 0 and 2 have one.
+/// Which zones are named, and the one of them with the fewest where zones 0 and 2 have one.
 const LEAST: [([bool; 4], Option<u32>); 5] = [
     ([true, true, true, true], Some(1)),
     ([true, false, true, true], Some(3)),
@@ -29,7 +29,7 @@ fn counts_and_finds_the_least(rt: HostRuntime) -> Result<(), Fail> {
     Ok(())
 }
 
-// One live record more or less in a zone, in both. The counts stay below 5, so that many are equal.
+/// One live record more or less in a zone, in both. The counts stay below 5, so that many are equal.
 fn change(index: &mut LiveIndex, counts: &mut [u32; 16], zone: u32, more: bool)
     requires length { length index.old ≡ 16 }
     requires zone { zone < 16 }
@@ -45,7 +45,7 @@ fn change(index: &mut LiveIndex, counts: &mut [u32; 16], zone: u32, more: bool)
     }
 }
 
-// A zone is named where its bit is 1.
+/// A zone is named where its bit is 1.
 fn marks(bits: u32) -> [bool; 16] {
     let mut among = [false; 16];
     for zone in 0..16 {
@@ -54,7 +54,7 @@ fn marks(bits: u32) -> [bool; 16] {
     among
 }
 
-// The zone with the fewest, the lowest of equals, by a look at each.
+/// The zone with the fewest, the lowest of equals, by a look at each.
 fn plain_least(counts: &[u32; 16], among: &[bool; 16]) -> Option<u32> {
     let mut best: Option<(u32, u32)> = None;
     for zone in 0..16 {

@@ -1,10 +1,7 @@
-ghost use Rattle.std.specs.Prelude.{◌≡◌, IfSome, IsTrue, replicate};
-ghost use Rattle.file_drive.specs.Layout.{file_length};
-
-use drive_copies::{load, store_and_load};
-use drive_port::{Device, Halt};
-use file_bytes::{FileBytes, MemoryFile};
-use file_drive::{Boot, System, file_length, open, store};
+use crate::boots::{Before, empty_file};
+use drive_port::Halt;
+use file_bytes::FileBytes;
+use file_drive::{load, open, store, store_and_load};
 use std::alloc::Global;
 use std::io;
 use std::test::Fail;
@@ -21,27 +18,13 @@ const GEOMETRY: Geometry = Geometry {
     open: 2,
 };
 
-#[derive(Drop)]
-struct Booted;
-
-impl System for Booted {
-    ghost boot = { record { first = 1; second = 1 } };
-
-    fn boot(&self) -> Boot {
-        Boot {
-            first: 1,
-            second: 1,
-        }
-    }
-}
-
-// A zone in a state, with blocks of one byte.
+/// A zone in a state, with blocks of one byte.
 fn zone(alloc: Global, state: ZoneState, byte: u8, blocks: usize) -> Option<Zone> {
     let length = blocks.checked_mul(512)?;
     Some(Zone::from_parts(state, Vec::from_elem(alloc, byte, length).ok()?))
 }
 
-// A drive with zones in six states. A Full one has fewer blocks than it may have, and the unusable ones have some.
+/// A drive with zones in six states. A Full one has fewer blocks than it may have, and the unusable ones have some.
 fn in_memory(alloc: Global) -> Option<Drive> {
     let mut zones = Vec::new(alloc);
     zones
@@ -57,19 +40,7 @@ fn in_memory(alloc: Global) -> Option<Drive> {
     Drive::from_zones(alloc, GEOMETRY, zones).ok()
 }
 
-// A file of zeros, as long as a drive wants.
-fn empty_file(alloc: Global, drive: &Drive) -> Option<MemoryFile>
-    ensures usable { IfSome result (λ file. IsTrue file.usable) }
-    ensures zeros { IfSome result (λ file. file.bytes ≡ replicate (file_length drive.now.state.geometry) 0) }
-{
-    let geometry = drive.geometry();
-    if geometry.check().is_err() {
-        return None;
-    }
-    MemoryFile::new(alloc, file_length(&geometry) as usize).ok()
-}
-
-// Whether two drives have the same zones.
+/// Whether two drives have the same zones.
 fn same_zones(drive: &Drive, other: &Drive) -> bool {
     drive.zones().len() == other.zones().len()
         && (0..drive.zones().len()).all(|index| match (drive.zone(index), other.zone(index)) {
@@ -83,7 +54,7 @@ fn same_zones(drive: &Drive, other: &Drive) -> bool {
 fn is_the_same_again(alloc: Global) -> Option<bool> {
     let mut drive = in_memory(alloc)?;
     let file = empty_file(alloc, &drive)?;
-    let again = store_and_load(alloc, file, Booted, &drive).ok()?;
+    let again = store_and_load(alloc, file, Before, &drive).ok()?;
     let opened = same_zones(&drive, &again);
     drive.restart();
     Some(!opened && same_zones(&drive, &again))
@@ -95,7 +66,7 @@ fn a_stored_drive_is_the_same_again(rt: HostRuntime) -> Result<(), Fail> {
     Ok(())
 }
 
-// A file of which nothing can be read from an offset on.
+/// A file of which nothing can be read from an offset on.
 #[derive(Drop)]
 struct Unreadable<F: FileBytes + Drop> {
     file: F,
@@ -139,7 +110,7 @@ impl<F: FileBytes + Drop> FileBytes for Unreadable<F> {
     }
 }
 
-// What a load answers if the blocks of the file cannot be read.
+/// What a load answers if the blocks of the file cannot be read.
 fn loaded_unreadable(alloc: Global) -> Option<bool> {
     let drive = in_memory(alloc)?;
     let mut file = Unreadable {
@@ -147,8 +118,8 @@ fn loaded_unreadable(alloc: Global) -> Option<bool> {
         from: 1 << 20,
     };
     store(&mut file, &drive).ok()?;
-    let found = open(alloc, &mut file, &Booted).ok()?;
-    let loaded = load(alloc, file, Booted, found);
+    let found = open(alloc, &mut file, &Before).ok()?;
+    let loaded = load(alloc, file, Before, found);
     Some(matches!(loaded, Err(Halt::Stopped)))
 }
 

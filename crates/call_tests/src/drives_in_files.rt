@@ -1,9 +1,9 @@
-ghost use Rattle.std.specs.Prelude.{◌≡◌, IfSome, IsTrue, replicate};
-ghost use Rattle.file_drive.specs.Layout.{file_length};
+ghost use Rattle.std.specs.Prelude.{IfSome, IsTrue};
 
+use crate::boots::{After, Before, empty_file};
 use drive_port::{Device, append, finish, read, reset};
 use file_bytes::{FileBytes, MemoryFile, StoppingFile};
-use file_drive::{Boot, FileZones, OpenFault, System, file_length, format, open, serve, store};
+use file_drive::{FileZones, OpenFault, System, file_length, format, open, serve, store};
 use nvme_wire::Command;
 use std::alloc::Global;
 use std::test::Fail;
@@ -20,36 +20,7 @@ const GEOMETRY: Geometry = Geometry {
     open: 4,
 };
 
-// A system before a loss of power, and after it.
-#[derive(Drop)]
-struct Before;
-
-impl System for Before {
-    ghost boot = { record { first = 1; second = 1 } };
-
-    fn boot(&self) -> Boot {
-        Boot {
-            first: 1,
-            second: 1,
-        }
-    }
-}
-
-#[derive(Drop)]
-struct After;
-
-impl System for After {
-    ghost boot = { record { first = 2; second = 1 } };
-
-    fn boot(&self) -> Boot {
-        Boot {
-            first: 2,
-            second: 1,
-        }
-    }
-}
-
-// A file of a fresh drive.
+/// A file of a fresh drive.
 fn formatted(alloc: Global, geometry: &Geometry) -> Option<MemoryFile>
     ensures { IfSome result (λ file. IsTrue file.usable) }
 {
@@ -61,7 +32,7 @@ fn formatted(alloc: Global, geometry: &Geometry) -> Option<MemoryFile>
     Some(file)
 }
 
-// A drive over a file.
+/// A drive over a file.
 fn opened<F: FileBytes + Drop, S: System + Drop>(
     alloc: Global,
     file: F,
@@ -74,7 +45,7 @@ fn opened<F: FileBytes + Drop, S: System + Drop>(
     Some(serve(alloc, file, system, found))
 }
 
-// The file once it lost power, if it may be left with these bytes.
+/// The file once it lost power, if it may be left with these bytes.
 fn after_loss(file: MemoryFile, left: &[u8]) -> Option<MemoryFile>
     ensures { IfSome result (λ file. IsTrue file.usable) }
 {
@@ -91,7 +62,7 @@ fn copied(alloc: Global, bytes: &[u8]) -> Option<Vec<u8>> {
     Some(copy)
 }
 
-// The blocks of two zones, with zeros after those that are written.
+/// The blocks of two zones, with zeros after those that are written.
 fn shown<D: Device>(alloc: Global, drive: &mut D) -> Option<Vec<u8>> {
     let mut room = Vec::new(alloc);
     let mut all = Vec::new(alloc);
@@ -102,7 +73,7 @@ fn shown<D: Device>(alloc: Global, drive: &mut D) -> Option<Vec<u8>> {
     Some(all)
 }
 
-// Appends blocks of one byte to a zone: whether that was answered.
+/// Appends blocks of one byte to a zone: whether that was answered.
 fn put<D: Device>(alloc: Global, drive: &mut D, start: u64, byte: u8, blocks: usize) -> bool {
     if blocks == 0 || blocks > 4 {
         return false;
@@ -124,7 +95,7 @@ fn flush<D: Device>(alloc: Global, drive: &mut D) -> Option<()> {
     Some(())
 }
 
-// A drive with blocks in two zones is killed: whether they are found.
+/// A drive with blocks in two zones is killed: whether they are found.
 fn survives_a_kill(alloc: Global) -> Option<bool> {
     let mut drive = opened(alloc, formatted(alloc, &GEOMETRY)?, Before)?;
     let put_both = put(alloc, &mut drive, 0, 1, 2) && put(alloc, &mut drive, 8, 2, 1);
@@ -141,7 +112,7 @@ fn a_kill_loses_nothing(rt: HostRuntime) -> Result<(), Fail> {
     Ok(())
 }
 
-// A flush, and then a write that a loss of power takes: whether the zones of the flush are found.
+/// A flush, and then a write that a loss of power takes: whether the zones of the flush are found.
 fn survives_a_loss(alloc: Global, tear: bool) -> Option<bool> {
     let mut drive = opened(alloc, formatted(alloc, &GEOMETRY)?, Before)?;
     let put_first = put(alloc, &mut drive, 0, 1, 2);
@@ -172,7 +143,7 @@ fn a_torn_word_is_not_looked_at(rt: HostRuntime) -> Result<(), Fail> {
     Ok(())
 }
 
-// A zone is flushed, reset, and written again: whether a kill leaves its new blocks, and a loss of power the old ones.
+/// A zone is flushed, reset, and written again: whether a kill leaves its new blocks, and a loss of power the old ones.
 fn keeps_old_and_new(alloc: Global) -> Option<bool> {
     let mut drive = opened(alloc, formatted(alloc, &GEOMETRY)?, Before)?;
     let put_old = put(alloc, &mut drive, 0, 1, 2);
@@ -196,12 +167,12 @@ fn a_reset_keeps_what_a_flush_promised(rt: HostRuntime) -> Result<(), Fail> {
     Ok(())
 }
 
-// Whether a file has a byte of this value nowhere.
+/// Whether a file has a byte of this value nowhere.
 fn lacks(bytes: &[u8], value: u8) -> bool {
     bytes.iter().all(|byte| *byte != value)
 }
 
-// Blocks of two zones are flushed, and then one of the two is reset: whether the next flush takes its bytes alone.
+/// Blocks of two zones are flushed, and then one of the two is reset: whether the next flush takes its bytes alone.
 fn gives_room_back(alloc: Global) -> Option<bool> {
     let mut drive = opened(alloc, formatted(alloc, &GEOMETRY)?, Before)?;
     let put_both = put(alloc, &mut drive, 0, 171, 2) && put(alloc, &mut drive, 8, 172, 1);
@@ -218,10 +189,10 @@ fn a_flush_gives_room_back(rt: HostRuntime) -> Result<(), Fail> {
     Ok(())
 }
 
-// How many steps there are.
+/// How many steps there are.
 const STEPS: usize = 7;
 
-// Does one step: whether it was answered.
+/// Does one step: whether it was answered.
 fn step<D: Device>(alloc: Global, drive: &mut D, number: usize) -> bool {
     match number {
         0 => put(alloc, drive, 0, 1, 2),
@@ -233,7 +204,7 @@ fn step<D: Device>(alloc: Global, drive: &mut D, number: usize) -> bool {
     }
 }
 
-// Does the steps up to the first that is not answered: what is shown after it, and after each before it.
+/// Does the steps up to the first that is not answered: what is shown after it, and after each before it.
 fn done<D: Device>(alloc: Global, drive: &mut D) -> Option<Vec<Vec<u8>>> {
     let mut all = Vec::new(alloc);
     all.push(shown(alloc, drive)?).ok()?;
@@ -246,13 +217,13 @@ fn done<D: Device>(alloc: Global, drive: &mut D) -> Option<Vec<Vec<u8>>> {
     Some(all)
 }
 
-// Whether a drive shows what was wanted after one of the steps from one number to another.
+/// Whether a drive shows what was wanted after one of the steps from one number to another.
 fn shows_one_of(shown: &Vec<u8>, wanted: &Vec<Vec<u8>>, first: usize, last: usize) -> bool {
     (first..=last).any(|number| wanted.get(number) == Some(shown))
 }
 
-// A kill at a change of the file. In the same boot the drive is found as after the last step that was answered, or the
-// next. In another boot it is found as after the last flush that was answered, or a later step.
+/// A kill at a change of the file. In the same boot the drive is found as after the last step that was answered, or the
+/// next. In another boot it is found as after the last flush that was answered, or a later step.
 fn survives_a_stop(alloc: Global, changes: u64, wanted: &Vec<Vec<u8>>) -> Option<bool> {
     let drive = opened(alloc, formatted(alloc, &GEOMETRY)?, Before)?;
     let file = drive.into_zones().into_file();
@@ -289,7 +260,7 @@ fn a_kill_at_each_change_loses_nothing(rt: HostRuntime) -> Result<(), Fail> {
     Ok(())
 }
 
-// A drive in memory: an opened zone with two blocks, one Full with all six, one Full with one, and an Empty one.
+/// A drive in memory: an opened zone with two blocks, one Full with all six, one Full with one, and an Empty one.
 fn in_memory(alloc: Global) -> Option<Drive> {
     let mut drive = Drive::new(alloc, GEOMETRY).ok()?;
     let put_all = put(alloc, &mut drive, 0, 1, 2)
@@ -300,20 +271,8 @@ fn in_memory(alloc: Global) -> Option<Drive> {
     if put_all { Some(drive) } else { None }
 }
 
-// A file of zeros, as long as a drive wants.
-fn empty_file(alloc: Global, drive: &Drive) -> Option<MemoryFile>
-    ensures usable { IfSome result (λ file. IsTrue file.usable) }
-    ensures zeros { IfSome result (λ file. file.bytes ≡ replicate (file_length drive.now.state.geometry) 0) }
-{
-    let geometry = drive.geometry();
-    if geometry.check().is_err() {
-        return None;
-    }
-    MemoryFile::new(alloc, file_length(&geometry) as usize).ok()
-}
-
-// Whether a drive in memory that is stored in a file is found there: the blocks, where the next one goes, and a Full
-// zone with one block.
+/// Whether a drive in memory that is stored in a file is found there: the blocks, where the next one goes, and a Full
+/// zone with one block.
 fn is_found_in_its_file(alloc: Global) -> Option<bool> {
     let mut drive = in_memory(alloc)?;
     let mut file = empty_file(alloc, &drive)?;
@@ -334,11 +293,11 @@ fn a_stored_drive_is_found(rt: HostRuntime) -> Result<(), Fail> {
     Ok(())
 }
 
-// How many changes of the file a store of that drive takes: the blocks of four zones, three words in each table, the
-// seven words of the shape, a sync, the first word, and a sync.
+/// How many changes of the file a store of that drive takes: the blocks of four zones, three words in each table, the
+/// seven words of the shape, a sync, the first word, and a sync.
 const CHANGES: u64 = 20;
 
-// What an open says of a file in which that drive was stored up to a change.
+/// What an open says of a file in which that drive was stored up to a change.
 fn opened_after(alloc: Global, changes: u64) -> Option<Result<(), OpenFault>> {
     let drive = in_memory(alloc)?;
     let mut file = StoppingFile::new(empty_file(alloc, &drive)?, changes, 700);
@@ -354,7 +313,7 @@ fn opened_after(alloc: Global, changes: u64) -> Option<Result<(), OpenFault>> {
     }
 }
 
-// Before its first word is written a file is no drive, and after it the whole one.
+/// Before its first word is written a file is no drive, and after it the whole one.
 fn is_told_as_no_drive(alloc: Global) -> bool {
     let unnamed = (0..CHANGES - 1).all(|changes| matches!(
         opened_after(alloc, changes),

@@ -1,7 +1,7 @@
 // A store whose medium fails by chance.
 
 use drive_port::Geometry;
-use nbd_session::{FailingStore, ServedDisk, Store, StoreFault, WriteThrough};
+use nbd_session::{FailingStore, ServeOptions, ServedDisk, Store, StoreFault, WriteThrough};
 use std::alloc::Global;
 use std::process::Abort;
 use std::test::Fail;
@@ -22,17 +22,18 @@ const BLOCKS: u64 = 40;
 
 type Failing = FailingStore<ServedDisk<Drive, WriteThrough>>;
 
-// A disk of blocks of 0x5a.
+/// A disk of blocks of 0x5a.
 fn failing(rt: &impl Abort, alloc: Global, odds: u32) -> Failing {
     let drive = Drive::new(alloc, GEOMETRY).expect(rt, "a drive");
     let Ok(mut disk) = Disk::mount(alloc, drive, BLOCKS) else {
         panic!(rt; "no disk");
     };
     disk.fill(0, BLOCKS, 0x5a).expect(rt, "a fill");
-    FailingStore::new(ServedDisk::new(disk, WriteThrough::new()), 7, odds)
+    let served = ServedDisk::new(disk, WriteThrough::new(), ServeOptions::PLAIN);
+    FailingStore::new(served, 7, odds)
 }
 
-// A write of a block of zeros.
+/// A write of a block of zeros.
 fn put(
     rt: &impl Abort,
     alloc: Global,
@@ -45,7 +46,7 @@ fn put(
     Ok(store.write(first, &zeros))
 }
 
-// In how many of 64 calls the medium fails.
+/// In how many of 64 calls the medium fails.
 fn failures(rt: &impl Abort, alloc: Global, store: &mut Failing) -> Result<u32, Fail> {
     let mut shown = Vec::new(alloc);
     let mut count: u32 = 0;
@@ -64,7 +65,7 @@ fn failures(rt: &impl Abort, alloc: Global, store: &mut Failing) -> Result<u32, 
     Ok(count)
 }
 
-// How many bytes of the disk are 0x5a.
+/// How many bytes of the disk are 0x5a.
 fn kept(rt: &impl Abort, alloc: Global, store: Failing) -> usize {
     let mut below = store.into_store();
     let mut shown = Vec::new(alloc);

@@ -5,7 +5,7 @@ use crate::fakes::FullWriter;
 use disk_files::{FailAfter, LineReader, WriteFault};
 use disk_jobs::{DriveFile, Job, ProgramFault, run_job, write_program_fault};
 use drive_images::{ImageFault, read_image, write_image};
-use drive_journal::{FileFault, Unknown};
+use drive_journal::{ReadFault, Unknown};
 use std::alloc::{AllocError, Global};
 use std::io;
 use std::process::Abort;
@@ -18,7 +18,7 @@ start 4 state Empty pointer 4 capacity 4
 start 8 state Empty pointer 8 capacity 4
 ";
 
-// An image of 1,112 bytes: a drive of three zones, with two written blocks in the first one.
+/// An image of 1,112 bytes: a drive of three zones, with two written blocks in the first one.
 fn image(alloc: Global) -> Result<Vec<u8>, AllocError> {
     let mut bytes = Vec::from_slice(alloc, b"ZNSIMG01\0\x02\0\0\x03\0\0\0\x04\0\0\0\x04\0\0\0")?;
     bytes.extend_from_slice(b"\x02\0\0\0\x02\0\0\0\x01\0\0\0")?;
@@ -29,7 +29,7 @@ fn image(alloc: Global) -> Result<Vec<u8>, AllocError> {
     Ok(bytes)
 }
 
-// Reports an image whose reader fails after `left` bytes, and gives at most `step` of them in one call.
+/// Reports an image whose reader fails after `left` bytes, and gives at most `step` of them in one call.
 fn report(alloc: Global, bytes: &[u8], left: usize, step: usize) -> Result<Vec<u8>, AllocError> {
     let job = Job::Report {
         image: String::new(alloc),
@@ -47,7 +47,7 @@ fn report(alloc: Global, bytes: &[u8], left: usize, step: usize) -> Result<Vec<u
     Ok(written)
 }
 
-// At each byte, and where the image has ended: whether more bytes follow is also asked of the reader.
+/// At each byte, and where the image has ended: whether more bytes follow is also asked of the reader.
 #[test]
 fn refuses_an_image_where_the_reader_fails(rt: HostRuntime) -> Result<(), Fail> {
     let bytes = image(rt.alloc())?;
@@ -65,7 +65,7 @@ fn drive_of(rt: &impl Abort, alloc: Global, bytes: &[u8]) -> Drive {
     read_image(alloc, &mut rest).ok().expect(rt, "a drive")
 }
 
-// Writes a drive to a writer that fails after `left` bytes, and compares what was written with its image.
+/// Writes a drive to a writer that fails after `left` bytes, and compares what was written with its image.
 fn check_front(rt: &impl Abort, alloc: Global, drive: &Drive, bytes: &[u8], left: usize) {
     let mut writer = FailAfter::in_steps(Vec::new(alloc), left, 1 + left % 90);
     let want = if left < bytes.len() {
@@ -89,37 +89,37 @@ fn writes_a_beginning_of_an_image(rt: HostRuntime) -> Result<(), Fail> {
     Ok(())
 }
 
-// The faults of a file, and their lines.
-const FAULT_LINES: [(FileFault, &str); 14] = [
-    (FileFault::Image(ImageFault::Magic), "fault image 1 Magic\n"),
+/// The faults of a file, and their lines.
+const FAULT_LINES: [(ReadFault, &str); 14] = [
+    (ReadFault::Image(ImageFault::Magic), "fault image 1 Magic\n"),
     (
-        FileFault::Image(ImageFault::Geometry),
+        ReadFault::Image(ImageFault::Geometry),
         "fault image 2 Geometry\n",
     ),
-    (FileFault::Image(ImageFault::State), "fault image 3 State\n"),
+    (ReadFault::Image(ImageFault::State), "fault image 3 State\n"),
     (
-        FileFault::Image(ImageFault::Written),
+        ReadFault::Image(ImageFault::Written),
         "fault image 4 Written\n",
     ),
     (
-        FileFault::Image(ImageFault::RestNotZero),
+        ReadFault::Image(ImageFault::RestNotZero),
         "fault image 5 RestNotZero\n",
     ),
     (
-        FileFault::Image(ImageFault::Limits),
+        ReadFault::Image(ImageFault::Limits),
         "fault image 6 Limits\n",
     ),
-    (FileFault::Image(ImageFault::Short), "fault image 7 Short\n"),
-    (FileFault::Image(ImageFault::Long), "fault image 8 Long\n"),
-    (FileFault::Image(ImageFault::Input), "fault image 9 Input\n"),
+    (ReadFault::Image(ImageFault::Short), "fault image 7 Short\n"),
+    (ReadFault::Image(ImageFault::Long), "fault image 8 Long\n"),
+    (ReadFault::Image(ImageFault::Input), "fault image 9 Input\n"),
     (
-        FileFault::Image(ImageFault::OutOfMemory),
+        ReadFault::Image(ImageFault::OutOfMemory),
         "fault image 10 OutOfMemory\n",
     ),
-    (FileFault::Long(88), "fault image 8 Long\n"),
-    (FileFault::Earlier(88), "fault file\n"),
-    (FileFault::Damaged(96), "fault file\n"),
-    (FileFault::Zones, "fault file\n"),
+    (ReadFault::Long(88), "fault image 8 Long\n"),
+    (ReadFault::Earlier(88), "fault file\n"),
+    (ReadFault::Damaged(96), "fault file\n"),
+    (ReadFault::Zones, "fault file\n"),
 ];
 
 #[test]

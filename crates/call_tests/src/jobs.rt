@@ -3,7 +3,6 @@
 
 use crate::runs::FINISH;
 use clap::error::ErrorKind;
-use command_line::{Task, task_of};
 use disk_jobs::{
     DiskSize, Gate, Job, JobInput, LineCount, do_job, explain, size_notes, write_program_fault,
 };
@@ -15,6 +14,7 @@ use std::process::Abort;
 use std::rt::Files;
 use std::test::Fail;
 use zone_states::Geometry;
+use zonedisk_program::{Task, task_of};
 
 const FRESH: &str =
     "zonedisk fresh --block 512 --zones 4 --size 8 --capacity 6 --transfer 4 --active 2 --open 2";
@@ -25,7 +25,7 @@ const DISK: &str =
 const RAW: &str =
     "zonedisk fresh-raw --block 512 --zones 4 --size 8 --capacity 6 --transfer 4 --active 2 --open 2";
 
-// What a command line asks for whose words have one space between them.
+/// What a command line asks for whose words have one space between them.
 pub fn task(rt: &impl Abort, alloc: Global, line: &str) -> Result<Task, clap::Error> {
     let mut words = Vec::new(alloc);
     for word in line.split(' ') {
@@ -35,7 +35,7 @@ pub fn task(rt: &impl Abort, alloc: Global, line: &str) -> Result<Task, clap::Er
     task_of(alloc, &words)
 }
 
-// The job of a command line that has lines.
+/// The job of a command line that has lines.
 fn job(rt: &impl Abort, alloc: Global, line: &str) -> Option<Job> {
     match task(rt, alloc, line) {
         Ok(Task::Lines(job)) => Some(job),
@@ -43,7 +43,7 @@ fn job(rt: &impl Abort, alloc: Global, line: &str) -> Option<Job> {
     }
 }
 
-// How the words of a command line are refused, if they are.
+/// How the words of a command line are refused, if they are.
 pub fn refusal(rt: &impl Abort, alloc: Global, line: &str) -> Option<ErrorKind> {
     match task(rt, alloc, line) {
         Ok(_) => None,
@@ -51,7 +51,7 @@ pub fn refusal(rt: &impl Abort, alloc: Global, line: &str) -> Option<ErrorKind> 
     }
 }
 
-// What a command line writes, with the line of a fault, and the lines that standard error says of that.
+/// What a command line writes, with the line of a fault, and the lines that standard error says of that.
 fn answer<R: Files<File = File> + Abort>(
     rt: &R,
     alloc: Global,
@@ -78,7 +78,7 @@ fn answer<R: Files<File = File> + Abort>(
     (written, told)
 }
 
-// Runs command lines one after the other, each on its input, and compares what they write.
+/// Runs command lines one after the other, each on its input, and compares what they write.
 pub fn check_written<R: Files<File = File> + Abort>(
     rt: &R,
     alloc: Global,
@@ -90,7 +90,7 @@ pub fn check_written<R: Files<File = File> + Abort>(
     }
 }
 
-// What is told of each of these command lines, on its input.
+/// What is told of each of these command lines, on its input.
 fn check_told<R: Files<File = File> + Abort>(rt: &R, alloc: Global, cases: &[(&str, &[u8], &str)]) {
     for (line, lines, text) in cases {
         let (_, told) = answer(rt, alloc, line, lines);
@@ -98,7 +98,7 @@ fn check_told<R: Files<File = File> + Abort>(rt: &R, alloc: Global, cases: &[(&s
     }
 }
 
-// Which words of the command line of a fresh disk are refused, and how.
+/// Which words of the command line of a fresh disk are refused, and how.
 const WORDS: [(&str, Option<ErrorKind>); 19] = [
     ("--blocks 9", None),
     ("--blocks=0009 --report", None),
@@ -139,7 +139,7 @@ fn reads_the_words(rt: HostRuntime) -> Result<(), Fail> {
     Ok(())
 }
 
-// Which other words are refused, and how.
+/// Which other words are refused, and how.
 const OTHER_WORDS: [(&str, Option<ErrorKind>); 34] = [
     ("zonedisk run --zones --blocks=9 --image=a/b", None),
     (
@@ -284,7 +284,7 @@ const LARGE: &str =
 const WIDE: &str =
     "zonedisk fresh --block 512 --zones 4 --size 8 --capacity 9 --transfer 4 --active 2 --open 2 --blocks 9";
 
-// The reports of the zones, and what ends a job.
+/// The reports of the zones, and what ends a job.
 const JOBS: [(&str, &[u8], &[u8]); 5] = [
     (REPORTED, b"fill 0 5 AA\n", SHOWN),
     (DISK, b"fill 0 5 AA\n", b"ok\n"),
@@ -306,7 +306,7 @@ const STOPPED_LATER: &str =
     "zonedisk fresh --block 512 --zones 4 --size 8 --capacity 6 --transfer 4 \
      --active 2 --open 2 --blocks 9 --stop-after 2";
 
-// What standard error says of a fault: with a byte order mark, a carriage return, a tab, and words that are wrong.
+/// What standard error says of a fault: with a byte order mark, a carriage return, a tab, and words that are wrong.
 const TOLD: [(&str, &[u8], &str); 16] = [
     (DISK, b"read 0 1\n", ""),
     (
@@ -383,7 +383,7 @@ fn explains_the_faults(rt: HostRuntime) {
     check_told(&rt, rt.alloc(), &TOLD);
 }
 
-// The front of a line, what follows a million digits, and what is told of them.
+/// The front of a line, what follows a million digits, and what is told of them.
 const LONG_LINES: [(&[u8], &[u8], &str); 3] = [
     (
         b"write 0 ",
@@ -402,7 +402,7 @@ const LONG_LINES: [(&[u8], &[u8], &str); 3] = [
     ),
 ];
 
-// A long line is explained as a short one is, and the lines after it are counted as ever.
+/// A long line is explained as a short one is, and the lines after it are counted as ever.
 #[test]
 fn explains_long_lines(rt: HostRuntime) -> Result<(), Fail> {
     for (first, last, text) in &LONG_LINES {
@@ -414,7 +414,7 @@ fn explains_long_lines(rt: HostRuntime) -> Result<(), Fail> {
     Ok(())
 }
 
-// The drive whose disk has this number of logical blocks.
+/// The drive whose disk has this number of logical blocks.
 const SIZE: DiskSize = DiskSize {
     geometry: Geometry {
         block: 4096,
@@ -428,7 +428,7 @@ const SIZE: DiskSize = DiskSize {
     blocks: 435_147,
 };
 
-// The plan of this drive has 10.03 at 85 percent, and 7.54 at 80 percent.
+/// The plan of this drive has 10.03 at 85 percent, and 7.54 at 80 percent.
 const SLOW: &str =
     "a: 435147 logical blocks are 85 percent of the greatest number: random writes of one block are expected to write \
      10.03 times as much; with 80 percent, 409550 logical blocks, it is 7.54 times\n";
@@ -462,7 +462,7 @@ start 16 state Empty pointer 16 capacity 6
 start 24 state Empty pointer 24 capacity 6
 ";
 
-// The same once a run has restarted the drive and saved it.
+/// The same once a run has restarted the drive and saved it.
 const CLOSED: &[u8] = b"zones 4
 start 0 state Full pointer - capacity 6
 start 8 state Closed pointer 10 capacity 6
@@ -496,7 +496,7 @@ const NVME: &str = "zonedisk nvme --image drive.image";
 
 const COUNTED: &str = "zonedisk run --image drive.image --blocks 9 --zones --statistics";
 
-// The mount reads the two headers of zone 0 and the one of zone 1. The read reads a block.
+/// The mount reads the two headers of zone 0 and the one of zone 1. The read reads a block.
 const COUNTS: &[u8] = b"0 aa*512
 ok
 host blocks 0
@@ -521,10 +521,10 @@ start 16 state Empty pointer 16 capacity 6
 start 24 state Empty pointer 24 capacity 6
 ";
 
-// What a run replies that only reads, to a read and a fill.
+/// What a run replies that only reads, to a read and a fill.
 const REFUSED: &[u8] = b"0 aa*512\nok\nfault line 2\n";
 
-// Jobs on the file that the job before left, and how long it is then: a head of 96 bytes, and the written blocks.
+/// Jobs on the file that the job before left, and how long it is then: a head of 96 bytes, and the written blocks.
 const FILE_JOBS: [(&str, &[u8], &[u8], u64); 16] = [
     (REPORT, b"", b"fault image 7 Short\n", 0),
     (FORMAT, b"", b"ok\n", 96),
@@ -572,7 +572,7 @@ const READ_NARROW: &str = "zonedisk run --image narrow.image --blocks 2 --read-o
 
 const NOT_A_READ: &str = "line 2 would change the disk, and --read-only was given";
 
-// The image of a drive of that shape in which nothing was written: the head, and three empty zones.
+/// The image of a drive of that shape in which nothing was written: the head, and three empty zones.
 fn narrow_image(alloc: Global) -> Result<Vec<u8>, AllocError> {
     let mut bytes = Vec::from_slice(alloc, b"ZNSIMG01\0\x02\0\0\x03\0\0\0\x04\0\0\0\x04\0\0\0")?;
     bytes.extend_from_slice(b"\x02\0\0\0\x02\0\0\0\x01\0\0\0")?;
@@ -583,7 +583,7 @@ fn narrow_image(alloc: Global) -> Result<Vec<u8>, AllocError> {
     Ok(bytes)
 }
 
-// The same after a fill of block 0 with the byte A1: zone 0 is in this state, with a header and the block.
+/// The same after a fill of block 0 with the byte A1: zone 0 is in this state, with a header and the block.
 fn filled_image(alloc: Global, state: u8) -> Result<Vec<u8>, AllocError> {
     let mut bytes = narrow_image(alloc)?;
     bytes.truncate(64);
@@ -601,16 +601,16 @@ fn check_narrow_image<R: Files + Alloc + Abort>(rt: &R, want: &[u8]) {
     assert_eq!(rt; bytes.as_slice(), want);
 }
 
-// The codes of Implicitly Opened and Closed.
+/// The codes of Implicitly Opened and Closed.
 const OPENED_STATE: u8 = 2;
 
 const CLOSED_STATE: u8 = 4;
 
-// What a run that stops before its first command writes.
+/// What a run that stops before its first command writes.
 const HALTED: &[u8] = b"fault mount 10 Halted\n";
 
-// Such a run does not touch a drive at rest. An open zone it closes, as a restart does. A run that only reads does not
-// touch the file.
+/// Such a run does not touch a drive at rest. An open zone it closes, as a restart does. A run that only reads does not
+/// touch the file.
 #[test]
 fn keeps_each_byte_where_a_run_stops_at_once(rt: HostRuntime) -> Result<(), Fail> {
     let empty = narrow_image(rt.alloc())?;
@@ -651,7 +651,7 @@ const FORMAT_FOLDER: &str =
 
 const RUN_KEPT: &str = "zonedisk run --image kept.image --blocks 9";
 
-// A folder is where no image can be, and in the way of the new file, which gets another name.
+/// A folder is where no image can be, and in the way of the new file, which gets another name.
 const BESIDE_A_FOLDER: [(&str, &[u8], &[u8]); 6] = [
     (FORMAT_MISSING, b"", b"ok\nfault file\n"),
     (FORMAT_FOLDER, b"", b"ok\nfault file\n"),
@@ -681,7 +681,7 @@ fn saves_beside_a_folder(rt: HostRuntime) {
 const FORMAT_LONG: &str =
     "zonedisk format --image long.image --block 512 --zones 4 --size 8 --capacity 6 --transfer 4 --active 2 --open 2";
 
-// A name so long that no name of a new file has room for four bytes more.
+/// A name so long that no name of a new file has room for four bytes more.
 fn long_name(rt: &impl Abort, alloc: Global) -> String {
     let mut name = String::new(alloc);
     for _ in 0..252 {
@@ -690,7 +690,7 @@ fn long_name(rt: &impl Abort, alloc: Global) -> String {
     name
 }
 
-// The zones after two fills and a Finish, none of which is in the image.
+/// The zones after two fills and a Finish, none of which is in the image.
 const KEPT: &[u8] = b"zones 4
 start 0 state Closed pointer 4 capacity 6
 start 8 state Empty pointer 8 capacity 6
@@ -698,8 +698,8 @@ start 16 state Full pointer - capacity 6
 start 24 state Empty pointer 24 capacity 6
 ";
 
-// The replies come before the fault. The changes are kept after the image, and the next job finds them. Both the fault
-// of a line and the save are told.
+/// The replies come before the fault. The changes are kept after the image, and the next job finds them. Both the fault
+/// of a line and the save are told.
 #[test]
 fn keeps_the_changes_where_a_save_fails(rt: HostRuntime) -> Result<(), Fail> {
     let alloc = rt.alloc();
@@ -745,7 +745,7 @@ const RUN_SYNCED: &str = "zonedisk run --image read.image --blocks 9 --sync";
 
 const NVME_SYNCED: &str = "zonedisk nvme --image read.image --sync";
 
-// A run that changes nothing does not touch the file of a drive at rest. After a change a new file takes its place.
+/// A run that changes nothing does not touch the file of a drive at rest. After a change a new file takes its place.
 #[test]
 fn leaves_a_file_alone_that_is_only_read(rt: HostRuntime) -> Result<(), Fail> {
     let alloc = rt.alloc();
@@ -769,7 +769,7 @@ const FORCE_TEXT: &str =
     "zonedisk format --force --image text.image --block 512 --zones 4 --size 8 --capacity 6 --transfer 4 \
      --active 2 --open 2";
 
-// A file that is no image is replaced only by force, and one that is locked not at all.
+/// A file that is no image is replaced only by force, and one that is locked not at all.
 #[test]
 fn formats_no_other_file(rt: HostRuntime) -> Result<(), Fail> {
     fs::write(&rt, "text.image", b"not an image".as_slice())?;

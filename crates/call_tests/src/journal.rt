@@ -6,7 +6,7 @@ ghost use Rattle.nvme_wire.specs.Entry.{IsAdmitted};
 use disk_files::{FailAfter, LineReader};
 use disk_runs::run_trace;
 use drive_images::write_image;
-use drive_journal::{FileFault, Held, Journaling, START, Store, Unknown, open_drive};
+use drive_journal::{ChangeStore, Held, Journaling, ReadFault, START, Unknown, open_drive};
 use drive_port::{Device, read_extending};
 use nvme_wire::{Action, Command, Completion, Status};
 use std::alloc::Global;
@@ -24,10 +24,10 @@ const GEOMETRY: Geometry = Geometry {
     open: 2,
 };
 
-// The image of a fresh drive, and where it ends.
+/// The image of a fresh drive, and where it ends.
 const IMAGE: usize = 64 + 3 * 8;
 
-// Where each of the five changes ends.
+/// Where each of the five changes ends.
 const ENDS: [usize; 6] = [
     IMAGE,
     IMAGE + 600,
@@ -37,15 +37,15 @@ const ENDS: [usize; 6] = [
     IMAGE + 1976,
 ];
 
-// How long the file is after the five changes, and where the head of the last of them ends.
+/// How long the file is after the five changes, and where the head of the last of them ends.
 const ALL: usize = IMAGE + 1976;
 
 const LAST_DATA: usize = IMAGE + 1888 + 80;
 
-// The blocks of the first two zones after as many changes.
+/// The blocks of the first two zones after as many changes.
 const BLOCKS: [(usize, usize); 6] = [(0, 0), (1, 0), (1, 1), (2, 1), (2, 1), (0, 1)];
 
-// Submits a command, and tells whether it was done.
+/// Submits a command, and tells whether it was done.
 fn is_done<D: Device>(device: &mut D, command: Command, bytes: &[u8], into: &mut Vec<u8>) -> bool
     requires { IsAdmitted command }
 {
@@ -58,14 +58,14 @@ fn is_done<D: Device>(device: &mut D, command: Command, bytes: &[u8], into: &mut
     }
 }
 
-// An Append of one block to the zone that starts there.
+/// An Append of one block to the zone that starts there.
 fn append_at(zslba: u64) -> Command
     ensures { result ≡ Command.Append zslba 1 }
 {
     Command::Append { zslba, blocks: 1 }
 }
 
-// A command for the zone that starts there.
+/// A command for the zone that starts there.
 fn send_to(slba: u64, action: Action) -> Command
     ensures { result ≡ Command.Send slba action false }
 {
@@ -76,7 +76,7 @@ fn send_to(slba: u64, action: Action) -> Command
     }
 }
 
-// Submits five commands that change the drive, and one that is refused, and counts those that are done.
+/// Submits five commands that change the drive, and one that is refused, and counts those that are done.
 fn run_five<D: Device>(alloc: Global, device: &mut D) -> usize {
     let block = [0xaa; 512];
     let mut into = Vec::new(alloc);
@@ -101,7 +101,7 @@ fn run_five<D: Device>(alloc: Global, device: &mut D) -> usize {
     5
 }
 
-// The file of a fresh drive after the five changes.
+/// The file of a fresh drive after the five changes.
 fn five_changes(alloc: Global) -> Result<Vec<u8>, Fail> {
     let drive = Drive::new(alloc, GEOMETRY)?;
     let mut bytes = Vec::new(alloc);
@@ -112,7 +112,7 @@ fn five_changes(alloc: Global) -> Result<Vec<u8>, Fail> {
     Ok(store.into_inner())
 }
 
-// How many changes are whole in that many bytes of the file.
+/// How many changes are whole in that many bytes of the file.
 fn changes_within(bytes: u64) -> usize
     ensures { result ≤ 5 }
 {
@@ -125,7 +125,7 @@ fn changes_within(bytes: u64) -> usize
     changes.min(5)
 }
 
-// The blocks of the first two zones.
+/// The blocks of the first two zones.
 fn blocks_of(drive: &Drive) -> (usize, usize) {
     let mut blocks = (9, 9);
     if let Some(zone) = drive.zone(0) {
@@ -137,7 +137,7 @@ fn blocks_of(drive: &Drive) -> (usize, usize) {
     blocks
 }
 
-// The file gives the drive after these changes, and is an image if nothing is after it.
+/// The file gives the drive after these changes, and is an image if nothing is after it.
 fn holds(alloc: Global, bytes: &[u8], changes: usize) -> bool
     requires { changes < 6 }
 {
@@ -168,16 +168,17 @@ fn opens_a_file_that_is_cut_anywhere(rt: HostRuntime) -> Result<(), Fail> {
     Ok(())
 }
 
-// Whether a file with the five changes, of which the byte at this place is damaged, is refused with that change's place;
-// or, where nothing follows the damage and the head before it is right, is read as if the last change was cut off.
+/// Whether a file with the five changes, of which the byte at this place is damaged, is refused with that change's
+/// place; or, where nothing follows the damage and the head before it is right, is read as if the last change was cut
+/// off.
 fn tells_damage(alloc: Global, bytes: &[u8], at: usize) -> bool {
     let before = changes_within(at as u64);
     let place = ENDS[before] as u64;
     match open_drive(alloc, &mut &bytes[..]) {
         Ok(opened) => opened.whole == place && before == 4 && at >= LAST_DATA,
-        Err(FileFault::Long(end)) => end == place && at < IMAGE + 8,
+        Err(ReadFault::Long(end)) => end == place && at < IMAGE + 8,
         Err(fault) => {
-            let is_told = fault == FileFault::Damaged(place);
+            let is_told = fault == ReadFault::Damaged(place);
             is_told && at >= IMAGE + 8 && (before < 4 || at < LAST_DATA)
         }
     }
@@ -196,8 +197,8 @@ fn tells_a_damaged_byte_from_a_cut(rt: HostRuntime) -> Result<(), Fail> {
     Ok(())
 }
 
-// The third change of a run was cut off, and a change of another run is in its place. The fourth and the fifth of the
-// first run are still after it, and are not read.
+/// The third change of a run was cut off, and a change of another run is in its place. The fourth and the fifth of the
+/// first run are still after it, and are not read.
 #[test]
 fn does_not_read_the_changes_of_another_run(rt: HostRuntime) -> Result<(), Fail> {
     let alloc = rt.alloc();
@@ -222,7 +223,7 @@ fn does_not_read_the_changes_of_another_run(rt: HostRuntime) -> Result<(), Fail>
     bytes.extend_from_slice(&all[IMAGE + 1800..])?;
     match open_drive(alloc, &mut bytes.as_slice()) {
         Ok(_) => assert!(rt; false),
-        Err(fault) => assert_eq!(rt; fault, FileFault::Damaged(ENDS[3] as u64)),
+        Err(fault) => assert_eq!(rt; fault, ReadFault::Damaged(ENDS[3] as u64)),
     }
     Ok(())
 }
@@ -234,7 +235,7 @@ fn tells_changes_of_the_version_before(rt: HostRuntime) -> Result<(), Fail> {
     bytes[IMAGE + 7] = b'1';
     match open_drive(rt.alloc(), &mut bytes.as_slice()) {
         Ok(_) => assert!(rt; false),
-        Err(fault) => assert_eq!(rt; fault, FileFault::Earlier(IMAGE as u64)),
+        Err(fault) => assert_eq!(rt; fault, ReadFault::Earlier(IMAGE as u64)),
     }
     Ok(())
 }
@@ -249,7 +250,7 @@ fn a_store_that_fails_holds_what_was_answered(rt: HostRuntime) -> Result<(), Fai
         let mut device = Journaling::new(rt.alloc(), drive, Unknown::new(writer), START);
         let answered = run_five(rt.alloc(), &mut device);
         let (_, store) = device.into_parts();
-        assert_eq!(rt; Store::<Drive>::has_failed(&store), left < 1976);
+        assert_eq!(rt; ChangeStore::<Drive>::has_failed(&store), left < 1976);
         let written = store.into_inner().inner;
         assert_eq!(rt; answered, changes_within((IMAGE + left) as u64));
         assert!(rt; holds(rt.alloc(), &written, answered.min(5)));
@@ -275,14 +276,14 @@ fn reads_what_it_wrote(rt: HostRuntime) -> Result<(), Fail> {
 #[test]
 fn a_store_in_memory_holds_what_it_was_given(rt: HostRuntime) -> Result<(), Fail> {
     let mut store = Held::new(rt.alloc(), Vec::new(rt.alloc()), usize::MAX);
-    Store::<Drive>::append(&mut store, b"one")?;
-    Store::<Drive>::append(&mut store, b"two")?;
+    ChangeStore::<Drive>::append(&mut store, b"one")?;
+    ChangeStore::<Drive>::append(&mut store, b"two")?;
     assert_eq!(rt; store.bytes(), b"onetwo".as_slice());
     Ok(())
 }
 
-// The first command is one change after the image, and past the limit. So the image is written anew before the second
-// change, and then there may be twice as many bytes as it has: one more time before the fourth.
+/// The first command is one change after the image, and past the limit. So the image is written anew before the second
+/// change, and then there may be twice as many bytes as it has: one more time before the fourth.
 #[test]
 fn a_store_in_memory_is_written_anew(rt: HostRuntime) -> Result<(), Fail> {
     let drive = Drive::new(rt.alloc(), GEOMETRY)?;
@@ -297,13 +298,13 @@ fn a_store_in_memory_is_written_anew(rt: HostRuntime) -> Result<(), Fail> {
     Ok(())
 }
 
-// The lines of a run, each of which makes one change.
+/// The lines of a run, each of which makes one change.
 const LINES: &[u8] = b"fill 0 1 11\nfill 1 1 22\nfill 0 1 33\ntrim 1 1\nfill 2 1 44\n";
 
-// Where each of the changes ends: a header, and a block of data except for the trim.
+/// Where each of the changes ends: a header, and a block of data except for the trim.
 const LINE_ENDS: [usize; 5] = [1112, 2224, 3336, 3936, 5048];
 
-// What the array reads after as many lines.
+/// What the array reads after as many lines.
 const ARRAYS: [&[u8]; 6] = [
     b"0 00*512\n1 00*512\n2 00*512\nok\n",
     b"0 11*512\n1 00*512\n2 00*512\nok\n",
@@ -313,7 +314,7 @@ const ARRAYS: [&[u8]; 6] = [
     b"0 33*512\n1 00*512\n2 44*512\nok\n",
 ];
 
-// Runs these lines over a device with 5 logical blocks, and shows the replies.
+/// Runs these lines over a device with 5 logical blocks, and shows the replies.
 fn run_lines<D: Device + Drop>(alloc: Global, device: D, lines: &[u8]) -> (D, Vec<u8>) {
     let mut reader = LineReader::new(alloc, lines);
     let mut replies = Vec::new(alloc);
@@ -321,7 +322,7 @@ fn run_lines<D: Device + Drop>(alloc: Global, device: D, lines: &[u8]) -> (D, Ve
     (device, replies)
 }
 
-// A run whose store fails after that many bytes of changes: how many lines were answered, and what the store holds.
+/// A run whose store fails after that many bytes of changes: how many lines were answered, and what the store holds.
 fn run_until(alloc: Global, left: usize) -> Result<(usize, Vec<u8>), Fail> {
     let geometry = Geometry {
         capacity: 6,
@@ -339,7 +340,7 @@ fn run_until(alloc: Global, left: usize) -> Result<(usize, Vec<u8>), Fail> {
     Ok((replies.len() / 3, store.into_inner().inner))
 }
 
-// How many of the lines have their whole changes in that many bytes.
+/// How many of the lines have their whole changes in that many bytes.
 fn lines_within(bytes: usize) -> usize
     ensures { result ≤ 5 }
 {

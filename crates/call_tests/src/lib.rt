@@ -1,8 +1,9 @@
-//! Tests of what only a call can show: readers and writers that fail, files that stop and lose power, command lines
-//! and the files that they leave, counts and places. The worked examples, which `worked_runs` answers, show the rest.
+//! Tests of what only a call can show: readers and writers that fail, files that stop and lose power, devices above a
+//! way, command lines and the files that they leave, counts and places. The rows of `worked_runs`, `nbd_rows` and
+//! `tool_rows` show the rest.
 //!
 //! They are in a crate of their own, since a crate with tests is proved twice: each library is proved once, and its
-//! tests load it. Here is nothing but tests, and the readers and writers that they need.
+//! tests load it. Here is nothing but tests, and what they need.
 //!
 //! # What is promised
 //!
@@ -10,11 +11,15 @@
 #![tactic(auto)]
 
 #[cfg(test)]
+mod boots;
+#[cfg(test)]
 mod bytes_of_files;
 #[cfg(test)]
 mod chance;
 #[cfg(test)]
 mod counts;
+#[cfg(test)]
+mod drive_benches;
 #[cfg(test)]
 mod drive_copying;
 #[cfg(test)]
@@ -24,6 +29,10 @@ mod failing;
 #[cfg(test)]
 mod fakes;
 #[cfg(test)]
+mod first_looks;
+#[cfg(test)]
+mod halting;
+#[cfg(test)]
 mod images;
 #[cfg(test)]
 mod jobs;
@@ -32,8 +41,18 @@ mod journal;
 #[cfg(test)]
 mod places;
 #[cfg(test)]
+mod reads_ahead;
+#[cfg(test)]
 mod runs;
+#[cfg(test)]
+mod shown_zones;
+#[cfg(test)]
+mod small_drives;
 #[cfg(test)]
 mod texts;
 #[cfg(test)]
 mod tools;
+#[cfg(test)]
+mod unsent;
+#[cfg(test)]
+mod watched_ways;

@@ -7,7 +7,7 @@ use std::alloc::{AllocError, Global};
 use std::process::Abort;
 use std::test::Fail;
 
-// The last block is placed, and no other; its zone has that block.
+/// The last block is placed, and no other; its zone has that block.
 fn places_last(rt: &impl Abort, alloc: Global, count: u32) -> Result<(), Fail>
     requires { 2 ≤ count }
 {
@@ -34,7 +34,7 @@ fn places_last(rt: &impl Abort, alloc: Global, count: u32) -> Result<(), Fail>
     Ok(())
 }
 
-// With 2^31 blocks, 64 times: walks over the map would not end within the time that a test has.
+/// With 2^31 blocks, 64 times: walks over the map would not end within the time that a test has.
 #[test]
 fn places_the_last_of_many_blocks(rt: HostRuntime) -> Result<(), Fail> {
     let most = "2147483648".parse()?;
@@ -46,7 +46,7 @@ fn places_the_last_of_many_blocks(rt: HostRuntime) -> Result<(), Fail> {
     Ok(())
 }
 
-// A place in a zone of 4 addresses, or as often none.
+/// A place in a zone of 4 addresses, or as often none.
 fn random_place(state: &mut u64, zone: u32) -> Place
     requires { zone < 65 }
     ensures { place_address result + 1 < 2 ^ 63 }
@@ -59,7 +59,7 @@ fn random_place(state: &mut u64, zone: u32) -> Place
     }
 }
 
-// The zone of 64 that a place is in, if it is in one.
+/// The zone of 64 that a place is in, if it is in one.
 fn plain_zone(place: Place) -> Option<u32> {
     match place {
         Place::Trimmed(address) | Place::At(address) if address < 256 => Some((address / 4) as u32),
@@ -67,7 +67,7 @@ fn plain_zone(place: Place) -> Option<u32> {
     }
 }
 
-// Places a block in both, and says whether it was moved between the same zones. The zone's list may lack room for it.
+/// Places a block in both, and says whether it was moved between the same zones. The zone's list may lack room for it.
 fn place_in_both(
     map: &mut Map,
     places: &mut [Place; 300],
@@ -90,7 +90,7 @@ fn place_in_both(
     Ok(moved == plain)
 }
 
-// How many blocks are in a zone, by a look at each.
+/// How many blocks are in a zone, by a look at each.
 fn plain_live(places: &[Place; 300], zone: u32) -> u32 {
     let mut live = 0_u32;
     for place in places {
@@ -99,7 +99,7 @@ fn plain_live(places: &[Place; 300], zone: u32) -> u32 {
     live
 }
 
-// The first of the blocks from one on that are in a zone, with its place, by a look at each.
+/// The first of the blocks from one on that are in a zone, with its place, by a look at each.
 fn plain_first(places: &[Place; 300], zone: u32, from: u32) -> Option<(u32, Place)> {
     for block in from..300 {
         let place = places[block as usize];
@@ -110,7 +110,7 @@ fn plain_first(places: &[Place; 300], zone: u32, from: u32) -> Option<(u32, Plac
     None
 }
 
-// In 64 zones, and past the last of them. A zone has few blocks, so that often none is left in it.
+/// In 64 zones, and past the last of them. A zone has few blocks, so that often none is left in it.
 #[test]
 fn places_as_a_plain_list(rt: HostRuntime) -> Result<(), Fail> {
     let mut map = Map::new(rt.alloc(), 300, 64, 4);

@@ -12,7 +12,7 @@ use zone_drive::Drive;
 use zone_states::{GeometryFault, ZoneState};
 use zone_translator::{DiskFault, MountFault};
 
-// Zones of 6 blocks in 8, two of which may be active and open; 9 logical blocks are served.
+/// Zones of 6 blocks in 8, two of which may be active and open; 9 logical blocks are served.
 fn drive(rt: &impl Abort, alloc: Global) -> Drive {
     let geometry = Geometry {
         block: 512,
@@ -58,7 +58,7 @@ pub const FINISH: &[u8] =
 
 const RAW_REPLIES: &[u8] = b"00000000000000000000000001000000\n00000000000000000000000007000200\n";
 
-// The reader gives the first bytes of that line and of one without a command.
+/// The reader gives the first bytes of that line and of one without a command.
 #[test]
 fn ends_where_the_reader_of_raw_lines_fails(rt: HostRuntime) -> Result<(), Fail> {
     let mut lines = Vec::from_slice(rt.alloc(), FINISH)?;
@@ -85,7 +85,7 @@ fn ends_where_the_reader_of_raw_lines_fails(rt: HostRuntime) -> Result<(), Fail>
     Ok(())
 }
 
-// Replies are sent if no whole line waits: once for lines that come together, and after each that comes alone.
+/// Replies are sent if no whole line waits: once for lines that come together, and after each that comes alone.
 #[test]
 fn sends_replies_where_no_line_waits(rt: HostRuntime) {
     for (step, flushes) in [(100, [15].as_slice()), (1, [3, 15].as_slice())] {
@@ -101,7 +101,7 @@ fn sends_replies_where_no_line_waits(rt: HostRuntime) {
     }
 }
 
-// The writer takes the first bytes of the replies to a trace, and to two raw lines without a command.
+/// The writer takes the first bytes of the replies to a trace, and to two raw lines without a command.
 #[test]
 fn ends_where_the_writer_fails(rt: HostRuntime) -> Result<(), Fail> {
     let mut lines = Vec::from_slice(rt.alloc(), b"0f00070001000000")?;
@@ -131,7 +131,7 @@ fn ends_where_the_writer_fails(rt: HostRuntime) -> Result<(), Fail> {
     Ok(())
 }
 
-// Faults and their lines. `worked_runs` shows the others.
+/// Faults and their lines. `worked_runs` shows the others.
 const FAULT_LINES: [(RunFault, &str); 7] = [
     (
         RunFault::Long(u64::MAX),
@@ -154,7 +154,7 @@ const FAULT_LINES: [(RunFault, &str); 7] = [
     (RunFault::Memory, "fault memory\n"),
 ];
 
-// Writes the line of a fault to a writer that takes at most `left` bytes, and compares what it took.
+/// Writes the line of a fault to a writer that takes at most `left` bytes, and compares what it took.
 fn check_fault_line(rt: &impl Abort, alloc: Global, fault: RunFault, left: usize, line: &str) {
     let mut writer = FailAfter::in_steps(Vec::new(alloc), left, 7);
     let want = if left < line.len() {
@@ -167,7 +167,7 @@ fn check_fault_line(rt: &impl Abort, alloc: Global, fault: RunFault, left: usize
     assert_eq!(rt; writer.inner.as_slice(), &line.as_bytes()[..taken]);
 }
 
-// The line of a fault, and a writer that takes the line without its line feed.
+/// The line of a fault, and a writer that takes the line without its line feed.
 #[test]
 fn writes_the_line_of_a_fault(rt: HostRuntime) {
     for (fault, line) in &FAULT_LINES {
@@ -176,7 +176,7 @@ fn writes_the_line_of_a_fault(rt: HostRuntime) {
     }
 }
 
-// As text a fault is the name of its variant.
+/// As text a fault is the name of its variant.
 const MESSAGES: [(RunFault, &str); 8] = [
     (RunFault::Line(2), "Line"),
     (RunFault::Long(2), "Long"),

@@ -30,7 +30,7 @@ fn lines<R: Read + Drop>(
 
 const TRACE: &[u8] = b"fill 0 1 AA\nread 0 1";
 
-// What a reader has, how many bytes it gives before it fails, its lines, and how reading them ends.
+/// What a reader has, how many bytes it gives before it fails, its lines, and how reading them ends.
 const READ: [(&[u8], usize, &[u8], Option<LineFault>); 10] = [
     (b"", 9, b"", None),
     (b"\n", 9, b"|", None),
@@ -49,7 +49,7 @@ const READ: [(&[u8], usize, &[u8], Option<LineFault>); 10] = [
     (TRACE, 21, b"fill 0 1 AA|read 0 1|", None),
 ];
 
-// The bytes come in pieces of each size.
+/// The bytes come in pieces of each size.
 #[test]
 fn reads_lines(rt: HostRuntime) -> Result<(), Fail> {
     for (bytes, left, want, fault) in READ {

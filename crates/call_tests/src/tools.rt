@@ -2,17 +2,17 @@
 
 use crate::jobs::{check_written, refusal, task};
 use clap::error::ErrorKind;
-use command_line::Task;
-use entry_forms::EntryFault;
 use std::alloc::{AllocError, Global};
 use std::fs;
 use std::fs::File;
 use std::process::Abort;
 use std::rt::Files;
 use std::test::Fail;
+use tool_forms::EntryFault;
 use tool_jobs::{ToolFault, ToolJob, do_tool_job};
+use zonedisk_program::Task;
 
-// Which words of tools are refused, and how.
+/// Which words of tools are refused, and how.
 const WORDS: [(&str, Option<ErrorKind>); 40] = [
     ("zonedisk export --image a", None),
     (
@@ -126,7 +126,7 @@ fn reads_the_words_of_tools(rt: HostRuntime) {
     }
 }
 
-// What is told of refused words: the word, what is taken in its place, and the usage of the subcommand.
+/// What is told of refused words: the word, what is taken in its place, and the usage of the subcommand.
 const REFUSED_WORDS: [(&str, &str); 7] = [
     (
         "zonedisk report --image a --state half",
@@ -195,7 +195,7 @@ For more information, try '--help'.
     ),
 ];
 
-// The text of a refusal.
+/// The text of a refusal.
 fn told_of(rt: &impl Abort, alloc: Global, line: &str) -> String {
     match task(rt, alloc, line) {
         Ok(_) => String::new(alloc),
@@ -210,7 +210,7 @@ fn tells_refused_words(rt: HostRuntime) {
     }
 }
 
-// The job of a command line that asks for a tool.
+/// The job of a command line that asks for a tool.
 fn tool(rt: &impl Abort, alloc: Global, line: &str) -> Option<ToolJob> {
     match task(rt, alloc, line) {
         Ok(Task::Tool(job)) => Some(job),
@@ -218,7 +218,7 @@ fn tool(rt: &impl Abort, alloc: Global, line: &str) -> Option<ToolJob> {
     }
 }
 
-// The bytes that are asked for, and what `--bytes` says.
+/// The bytes that are asked for, and what `--bytes` says.
 const BYTES: [(&str, u64); 5] = [
     ("7", 7),
     ("1K", 1024),
@@ -239,7 +239,7 @@ fn reads_bytes(rt: HostRuntime) -> Result<(), Fail> {
     Ok(())
 }
 
-// What a tool writes, and whether all is well.
+/// What a tool writes, and whether all is well.
 fn used<R: Files<File = File> + Abort>(
     rt: &R,
     alloc: Global,
@@ -251,7 +251,7 @@ fn used<R: Files<File = File> + Abort>(
     (written, done)
 }
 
-// Compares what tools write, each of which tells whether all is well.
+/// Compares what tools write, each of which tells whether all is well.
 fn check_used<R: Files<File = File> + Abort>(rt: &R, alloc: Global, cases: &[(&str, bool, &[u8])]) {
     for (line, is_well, output) in cases {
         let (written, done) = used(rt, alloc, line);
@@ -260,7 +260,7 @@ fn check_used<R: Files<File = File> + Abort>(rt: &R, alloc: Global, cases: &[(&s
     }
 }
 
-// A raw line that appends a block of ones to the zone that starts at this block.
+/// A raw line that appends a block of ones to the zone that starts at this block.
 fn append_ones(alloc: Global, start: u8) -> Result<Vec<u8>, AllocError> {
     let text = format!(in alloc; "7d00010001000000{:064}{start:02x}{:046} ", 0, 0)?;
     let mut line = Vec::from_slice(alloc, text.as_bytes())?;
@@ -294,13 +294,13 @@ const FRESH_JSON: &[u8] = b"{
 }
 ";
 
-// Both zones are told, and the first of them is why a mount is refused.
+/// Both zones are told, and the first of them is why a mount is refused.
 const FAULTY: &[u8] =
     b"refused: zone 0 holds no batch at block 0: the header does not begin with ZLOGBAT1
 zone 1 holds no batch at block 0: the header does not begin with ZLOGBAT1
 ";
 
-// Both zones were open before the restart.
+/// Both zones were open before the restart.
 const INFO: &[u8] = b"block 512
 zones 4
 capacity 6
@@ -354,8 +354,8 @@ fn checks_a_drive(rt: HostRuntime) -> Result<(), Fail> {
     Ok(())
 }
 
-// The lines of entries: the opcode, the identifier and the namespace first, the address at digit 80, then dwords 12 and
-// 13. Without its option an address is 0, one block is meant, and the buffer of a report has 1,024 dwords.
+/// The lines of entries: the opcode, the identifier and the namespace first, the address at digit 80, then dwords 12
+/// and 13. Without its option an address is 0, one block is meant, and the buffer of a report has 1,024 dwords.
 const ENTRIES: [(&str, bool, &[u8]); 11] = [
     (
         "zonedisk entry append --start 8 --blocks 4 --id 7 --data aABb",
@@ -430,7 +430,7 @@ fn shows_entries(rt: HostRuntime) {
     check_used(&rt, rt.alloc(), &ENTRIES);
 }
 
-// Entries that are refused, and why.
+/// Entries that are refused, and why.
 const NO_ENTRIES: [(&str, EntryFault); 9] = [
     ("zonedisk entry read --data aa", EntryFault::Options),
     ("zonedisk entry flush --start 0", EntryFault::Options),

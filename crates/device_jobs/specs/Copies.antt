@@ -3,13 +3,13 @@ use Rattle.std.specs.Prelude.{◌≡◌, None, Result, Ok, Err}
 use Rattle.drive_port.specs.Drive.{DriveState}
 use Rattle.zone_translator.specs.View.{DiskView, KeepsDisk, disk_array, disk_size}
 use Rattle.disk_runs.specs.Run.{Known}
-use Rattle.mounted_disks.specs.Mounted.{IsNotServed, IsServed}
-use Rattle.block_copies.specs.Copies.{Exports}
-use Rattle.block_copies.specs.declared.fault.ExportFault.{ExportFault}
-use Rattle.copy_jobs.specs.DriveCopies.{blocks_asked}
-use Rattle.copy_jobs.specs.declared.fault.CopyFault.{CopyFault}
-use Rattle.copy_jobs.specs.declared.fault.CopyFault.TheVariants as copies
-use Rattle.copy_jobs.specs.declared.job.ExportJob.{ExportJob}
+use Rattle.job_drives.specs.Mounted.{IsNotServed, IsServed}
+use Rattle.disk_copies.specs.Copies.{Exports}
+use Rattle.disk_copies.specs.declared.stream_fault.ExportFault.{ExportFault}
+use Rattle.disk_copies.specs.DriveCopies.{blocks_asked}
+use Rattle.disk_copies.specs.declared.copy_fault.CopyFault.{CopyFault}
+use Rattle.disk_copies.specs.declared.copy_fault.CopyFault.TheVariants as copies
+use Rattle.disk_copies.specs.declared.job.ExportJob.{ExportJob}
 
 -- a drive is mounted, and its blocks are exported; what is left can be mounted again, with the same array
 pub record ExportsDisk (job : ExportJob) (old : DriveState) (written contents : Known) (result : Result (Unit {0}) ExportFault)

@@ -3,7 +3,7 @@ use Rattle.std.specs.Prelude.{◌≡◌, ℕ, ◌<◌, ◌≤◌, Bool, true, fa
 use Rattle.drive_port.specs.Answering.{FlushAnswers}
 use Rattle.drive_port.specs.Drive.{DriveState}
 use Rattle.drive_port.specs.declared.calls.PortFault.{PortFault}
-use Rattle.mounted_disks.specs.Stop.{stopping}
+use Rattle.job_drives.specs.Stop.{stopping}
 use Rattle.nbd_jobs.specs.Serving.{ServesStopping, SyncsDone}
 use Rattle.nbd_jobs.specs.declared.fault.NbdFault.{NbdFault}
 use Rattle.nbd_jobs.specs.declared.forgetting.Forgotten.{Forgotten}

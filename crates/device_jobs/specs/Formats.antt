@@ -10,8 +10,8 @@ use Rattle.drive_survey.specs.declared.reported.ReportedZone.{ReportedZone}
 use Rattle.disk_files.specs.Output.{AppendsFront}
 use Rattle.disk_files.specs.Reply.{ok_text}
 use Rattle.disk_runs.specs.Run.{Known}
-use Rattle.drive_info.specs.declared.info.DriveInfo.{DriveInfo}
-use Rattle.drive_info.specs.declared.info.Info.{Info}
+use Rattle.drive_inspection.specs.declared.info.DriveInfo.{DriveInfo}
+use Rattle.drive_inspection.specs.declared.info.Info.{Info}
 use Rattle.tool_jobs.specs.declared.fault.ToolFault.{ToolFault}
 use Rattle.tool_jobs.specs.declared.fault.ToolFault.TheVariants as tools
 use Rattle.device_jobs.specs.Looks.{HoldsInfo}

@@ -3,10 +3,10 @@ use Rattle.std.specs.Prelude.{◌≡◌, ℕ, Bool, true, is_none, ⊤}
 use Rattle.zone_states.specs.Geometry.{IsInRange}
 use Rattle.drive_port.specs.Drive.{DriveState}
 use Rattle.drive_array.specs.Reserve.{most_size}
-use Rattle.drive_check.specs.Findings.{AreFindings}
-use Rattle.drive_check.specs.declared.finding.Findings.{Findings}
-use Rattle.drive_info.specs.Info.{IsDriveInfo}
-use Rattle.drive_info.specs.declared.info.DriveInfo.{DriveInfo}
+use Rattle.drive_inspection.specs.Findings.{AreFindings}
+use Rattle.drive_inspection.specs.declared.finding.Findings.{Findings}
+use Rattle.drive_inspection.specs.Info.{IsDriveInfo}
+use Rattle.drive_inspection.specs.declared.info.DriveInfo.{DriveInfo}
 use Rattle.tool_jobs.specs.declared.fault.ToolFault.{ToolFault}
 use Rattle.tool_jobs.specs.declared.fault.ToolFault.TheVariants.{Memory, Stopped}
 

@@ -9,7 +9,7 @@ use Rattle.disk_runs.specs.declared.fault.RunFault.{RunFault}
 use Rattle.disk_runs.specs.declared.fault.RunFault.TheVariants as runs
 use Rattle.disk_runs.specs.declared.taking.Taking.{Taking}
 use Rattle.zone_translator.specs.declared.fault.DiskFault.TheVariants.{Stopped}
-use Rattle.mounted_disks.specs.Stop.{stopping}
+use Rattle.job_drives.specs.Stop.{stopping}
 use Rattle.disk_jobs.specs.Mounted.{TellsMount}
 use Rattle.disk_jobs.specs.Saved.{RunsCounted, RunsTrace}
 use Rattle.disk_jobs.specs.declared.mounting.Mounting.{Mounting}

@@ -3,10 +3,9 @@
 ghost use Rattle.std.specs.Prelude.{◌≡◌};
 ghost use Rattle.device_jobs.specs.Copies.{ExportsDevice};
 
-use block_copies::export_blocks;
-use copy_jobs::{CopyFault, ExportJob, blocks_asked};
+use disk_copies::{CopyFault, ExportJob, blocks_asked, export_blocks};
 use drive_port::Device;
-use mounted_disks::mount_served;
+use job_drives::mount_served;
 use std::alloc::Global;
 use std::io::Write;
 

@@ -3,7 +3,7 @@
 use crate::job::DeviceRun;
 use crate::raw::SendFault;
 use disk_jobs::{AskedLines, JobInput, Mounting, ProgramFault, explain_lines, place};
-use mounted_disks::Stop;
+use job_drives::Stop;
 use std::alloc::{AllocError, Global};
 use std::io::Read;
 

@@ -3,8 +3,8 @@ ghost use Rattle.std.specs.Io.KnownBytes.{Appends};
 ghost use Rattle.disk_files.specs.Output.{AppendsFront};
 
 use disk_files::{WriteFault, write_out};
-use drive_store::SystemError;
-use nvme_identify::IdentifyFault;
+use job_drives::SystemError;
+use passthrough::IdentifyFault;
 use std::io::Write;
 use thiserror::Error;
 use zone_states::GeometryFault;

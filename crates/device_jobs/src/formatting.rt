@@ -14,7 +14,7 @@ ghost use Rattle.device_jobs.specs.Formats.{OnlyEmpties, SaysNoOk, ShowsHolding,
 use crate::format_fault::{FormatFault, Holding, NamedDrive, Written};
 use crate::looking::look;
 use disk_files::{ok_reply, write_out};
-use drive_info::DriveInfo;
+use drive_inspection::DriveInfo;
 use drive_port::{Device, reset};
 use drive_survey::{MountFault, ReportedZone, report_zones};
 use nvme_wire::ZoneState;

@@ -1,6 +1,6 @@
-use copy_jobs::CopyJob;
+use disk_copies::CopyJob;
 use disk_runs::Taking;
-use mounted_disks::Stop;
+use job_drives::Stop;
 use nbd_jobs::NbdJob;
 use nvme_wire::ZoneState;
 use tool_jobs::{CheckJob, InfoJob, PlanForm, ZonesJob};

@@ -6,7 +6,7 @@
 //! let well = check_device(alloc, job.blocks, &mut drive, &job.form, &mut output)?;
 //! ```
 //!
-//! A [`DeviceJob`] is what the words of the command line ask for (`command_line` reads them). [`Devices`] is the way
+//! A [`DeviceJob`] is what the words of the command line ask for (`zonedisk_program` reads them). [`Devices`] is the way
 //! to the drives; a program that has none has [`NoDevices`]. What is done with an open drive is generic: each job
 //! works over every `Device` of `drive_port`, and so over a drive in memory.
 //!
@@ -26,7 +26,7 @@
 //!   session is one of the medium, or a Flush of the drive that the medium counts. [`serve_flushed`] also flushes such
 //!   a drive at the end.
 //! * [`export_device`] exports the blocks of the disk (`specs/Copies.antt`). The array stays. `import_mounted` of
-//!   `copy_jobs` imports them.
+//!   `disk_copies` imports them.
 //! * [`check_device`] finds all faults of the drive, and [`inform_device`] what it holds (`specs/Looks.antt`).
 //!   [`answer_report`] shows its zones (`specs/Reports.antt`), also after a run. No zone is changed, but that a
 //!   controller may close some. [`show_zones`] shows them in other forms (`specs/Shown.antt`). [`plan_device`] plans a
@@ -50,7 +50,7 @@
 //! * Which drive a way opens or makes, and that it does so.
 //! * The texts are tested.
 //!
-//! Tests: the rows of `device_rows`.
+//! Tests: the rows of `tool_rows`.
 #![tactic(auto)]
 
 mod copying;

@@ -1,14 +1,13 @@
 // What the drive behind a device holds, and what it can hold. No zone is changed, but that the controller may close some.
 
 ghost use Rattle.std.specs.Prelude.{◌≡◌, IfErr, IfOk, OnOk};
-ghost use Rattle.drive_check.specs.Findings.{AreFindings};
+ghost use Rattle.drive_inspection.specs.Findings.{AreFindings};
 ghost use Rattle.drive_survey.specs.Reported.{KeepsZones};
 ghost use Rattle.tool_jobs.specs.Telling.{TellsFound, TellsNothing};
 ghost use Rattle.tool_jobs.specs.Plans.{IsPlanOf, IsUnplanned};
 ghost use Rattle.device_jobs.specs.Looks.{AreFindingsOf, HoldsInfo, IsUnasked};
 
-use drive_check::{Findings, check_drive};
-use drive_info::{DriveInfo, inspect_drive};
+use drive_inspection::{DriveInfo, Findings, check_drive, inspect_drive};
 use drive_port::Device;
 use std::alloc::Global;
 use std::io::Write;

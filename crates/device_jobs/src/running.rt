@@ -3,7 +3,7 @@
 ghost use Rattle.std.specs.Prelude.{◌≡◌};
 ghost use Rattle.disk_runs.specs.Run.{exchange};
 ghost use Rattle.disk_jobs.specs.Mounted.{TellsMount};
-ghost use Rattle.mounted_disks.specs.Stop.{stopping};
+ghost use Rattle.job_drives.specs.Stop.{stopping};
 ghost use Rattle.device_jobs.specs.Runs.{AnswersTrace, RunsAsked, ThenReports, run_fault};
 
 use crate::job::DeviceRun;

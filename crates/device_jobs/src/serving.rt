@@ -3,16 +3,15 @@
 ghost use Rattle.std.specs.Prelude.{◌≡◌, is_some};
 ghost use Rattle.drive_port.specs.Stop.{drive_of};
 ghost use Rattle.nbd_session.specs.Streams.{streams};
-ghost use Rattle.mounted_disks.specs.Stop.{stopping};
+ghost use Rattle.job_drives.specs.Stop.{stopping};
 ghost use Rattle.nbd_jobs.specs.Serving.{ServesStopping, TellsSession};
 ghost use Rattle.device_jobs.specs.Durable.{ServesAndFlushes};
 
 use crate::hardening::flush_if;
 use drive_port::{Device, PortFault};
-use kept_drives::KeepFault;
-use mounted_disks::DiskSize;
+use job_drives::KeepFault;
 use nbd_jobs::{
-    BUFFER, Ended, Forgotten, Kept, NbdFault, NbdJob, are_sent, sent_end, serve_stopping,
+    BUFFER, Ended, Kept, NbdFault, NbdJob, SessionTold, are_sent, sent_end, serve_stopping,
 };
 use nbd_session::{Client, Medium};
 use std::alloc::Global;
@@ -21,16 +20,8 @@ use std::io::{BufReader, BufWriter, Read, Write};
 /// How a session over the drive behind a device ended.
 #[derive(Debug, PartialEq, Eq, Drop)]
 pub struct Served {
-    /// The session, with all replies that it sent.
-    pub session: Result<(), NbdFault>,
-    /// What was written and moved, as text, if it was asked for.
-    pub statistics: Option<String>,
-    /// The disk that was served, if it was mounted.
-    pub disk: Option<DiskSize>,
-    /// What was forgotten, if the disk forgets and was served.
-    pub forgotten: Option<Forgotten>,
-    /// How many requests failed by chance, if some were to and the disk was served.
-    pub failed: Option<u64>,
+    /// Of the session, with all replies that it sent.
+    pub told: SessionTold,
     /// Whether the drive was flushed at the end, if that is what a sync of its medium is.
     pub flushed: Result<(), PortFault>,
 }
@@ -52,9 +43,9 @@ pub fn serve_device<D: Device + Drop, M: Medium + Drop, R: Client, W: Write>(
           after = M.syncs result.medium;
           flushes = M.flushes medium;
         })
-        (stopping job.now.stop (D.drive device)) result.result result.forgotten (D.drive result.device) }
-    ensures tells { TellsSession job.now (drive_of (stopping job.now.stop (D.drive device))) result.result
-        (is_some result.statistics) result.disk }
+        (stopping job.now.stop (D.drive device)) result.told.result result.told.forgotten (D.drive result.device) }
+    ensures tells { TellsSession job.now (drive_of (stopping job.now.stop (D.drive device))) result.told.result
+        (is_some result.told.statistics) result.told.disk }
 {
     let kept = Kept {
         device,
@@ -88,9 +79,10 @@ pub fn serve_flushed<D: Device + Drop, M: Medium + Drop, R: Client, W: Write>(
           after = M.syncs result.ended.medium;
           flushes = M.flushes medium;
         })
-        (D.drive device) result.ended.result result.ended.forgotten result.flushed (D.drive result.ended.device) }
-    ensures tells { TellsSession job.now (drive_of (stopping job.now.stop (D.drive device))) result.ended.result
-        (is_some result.ended.statistics) result.ended.disk }
+        (D.drive device) result.ended.told.result result.ended.told.forgotten result.flushed
+        (D.drive result.ended.device) }
+    ensures tells { TellsSession job.now (drive_of (stopping job.now.stop (D.drive device)))
+        result.ended.told.result (is_some result.ended.told.statistics) result.ended.told.disk }
 {
     let flushes = medium.flushes();
     let mut ended = serve_device(alloc, job, device, medium, reader, writer);
@@ -112,11 +104,7 @@ pub fn serve_client<D: Device + Drop, M: Medium + Drop, R: Read + Drop, W: Write
         BufWriter::with_capacity(alloc, BUFFER, output),
     ) else {
         return Served {
-            session: Err(NbdFault::File(KeepFault::Memory)),
-            statistics: None,
-            disk: None,
-            forgotten: None,
-            failed: None,
+            told: SessionTold::unserved(NbdFault::File(KeepFault::Memory)),
             flushed: Ok(()),
         };
     };
@@ -129,12 +117,9 @@ pub fn serve_client<D: Device + Drop, M: Medium + Drop, R: Read + Drop, W: Write
         &mut writer,
     );
     let sent = are_sent(writer.flush());
-    Served {
-        session: sent_end(ended.result, sent),
-        statistics: ended.statistics,
-        disk: ended.disk,
-        forgotten: ended.forgotten,
-        failed: ended.failed,
-        flushed,
-    }
+    let told = SessionTold {
+        result: sent_end(ended.told.result, sent),
+        ..ended.told
+    };
+    Served { told, flushed }
 }

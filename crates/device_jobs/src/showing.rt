@@ -93,7 +93,7 @@ impl Form<ShownDrive> for ZonesForm {
 
     ghost shows = { ShowsDrive };
 
-    // A drive has as many zones as its geometry says.
+    /// A drive has as many zones as its geometry says.
     fn text(&self, alloc: Global, shown: &ShownDrive) -> Result<String, AllocError> {
         if shown.zones.len() as u64 != u64::from(shown.geometry.zones) {
             return Err(AllocError);

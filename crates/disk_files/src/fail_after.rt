@@ -42,7 +42,7 @@ impl<S: Drop> FailAfter<S> {
         FailAfter { inner, left, step }
     }
 
-    // How many of these bytes pass in the next call.
+    /// How many of these bytes pass in the next call.
     fn most(&self, len: usize) -> usize
         ensures left { result ≤ self.now.left }
         ensures len { result ≤ len }

@@ -3,16 +3,16 @@ use Rattle.std.proofs.Common.{◌≡◌, ℕ, true, false, List, length, Some, O
 use Rattle.std.specs.Prelude.{Bool, Result}
 use Rattle.drive_port.specs.Drive.{DriveState}
 use Rattle.drive_port.specs.Stop.{drive_of}
-use Rattle.drive_array.specs.ZoneLogs.{spelled}
+use Rattle.drive_array.specs.ZoneLogs.{encoded}
 use Rattle.zone_translator.specs.Answers.{IsMounted}
 use Rattle.zone_translator.specs.View.{DiskView, disk_size}
 use Rattle.disk_runs.specs.Run.{Known}
 use Rattle.disk_runs.specs.declared.fault.RunFault.{RunFault}
 use Rattle.disk_runs.specs.declared.fault.RunFault.TheVariants as runs
-use Rattle.mounted_disks.specs.DiskSize.{size_of}
-use Rattle.mounted_disks.specs.Stop.{stopping}
-use Rattle.mounted_disks.specs.declared.disk_size.DiskSize.{DiskSize}
-use Rattle.mounted_disks.specs.declared.stop.Stop.{Stop}
+use Rattle.job_drives.specs.DiskSize.{size_of}
+use Rattle.job_drives.specs.Stop.{stopping}
+use Rattle.job_drives.specs.declared.disk_size.DiskSize.{DiskSize}
+use Rattle.job_drives.specs.declared.stop.Stop.{Stop}
 use Rattle.disk_jobs.specs.Mounted.{IsMountFault, TellsJob, TellsMount, disk_on}
 use Rattle.disk_jobs.specs.Saved.{ThenShows}
 use Rattle.disk_jobs.specs.declared.job.Job.{Job}
@@ -22,7 +22,7 @@ use Rattle.disk_jobs.specs.declared.mounting.Mounting.{Mounting}
 -- a disk that was mounted is the one that its drive holds
 held : (old : DriveState) (n : ℕ) (disk : DiskView) → IsMounted old n disk → size_of disk ≡ disk_on n old
 held old n disk m =
-    let blocks : disk_size disk ≡ length (spelled old n) = m.mounts.size ∙ ap (λ (array : List (List ℕ)). length array) m.mounts.array in
+    let blocks : disk_size disk ≡ length (encoded old n) = m.mounts.size ∙ ap (λ (array : List (List ℕ)). length array) m.mounts.array in
     rw (m.kept.geometry, blocks) refl
 
 tells : (n : ℕ) (old : DriveState) (ended : Result (Unit {0}) RunFault) (told : Mounting) (size : DiskSize) → told.disk ≡ Some size → size ≡ disk_on n old → TellsMount n old ended told

@@ -5,9 +5,9 @@ use Rattle.drive_port.specs.Drive.{DriveState}
 use Rattle.disk_runs.specs.Run.{Known}
 use Rattle.drive_journal.specs.Cut.{front_of}
 use Rattle.drive_journal.specs.File.{IsStored, IsStoredWhole}
-use Rattle.kept_drives.specs.Kept.{HoldsFile}
-use Rattle.kept_drives.specs.declared.kept_drive.Begun.{Begun}
-use Rattle.kept_drives.proofs.KeptLaws.{restarted-stored}
+use Rattle.job_drives.specs.Kept.{HoldsFile}
+use Rattle.job_drives.specs.declared.kept_drive.Begun.{Begun}
+use Rattle.job_drives.proofs.KeptLaws.{restarted-stored}
 use Rattle.disk_jobs.specs.Saved.{BeginsOn, StoresDrive, has_changes}
 use Rattle.disk_jobs.specs.declared.job.Job.{Job}
 use Rattle.disk_jobs.specs.declared.job.Job.TheVariants as jobs

@@ -2,11 +2,11 @@
 use Rattle.std.specs.Prelude.{ℕ, ◌-◌, ◌^◌, ◌==◌, ◌&&◌, if◌then◌else◌, not, Bool, false, List, Option, Some, None, string_bytes}
 use Rattle.disk_jobs.specs.declared.job.Job.{Job}
 use Rattle.disk_jobs.specs.declared.job.Job.TheVariants as jobs
-use Rattle.mounted_disks.specs.declared.stop.Stop.{Stop}
+use Rattle.job_drives.specs.declared.stop.Stop.{Stop}
 use Rattle.disk_jobs.specs.declared.saving.Access.{Access}
 use Rattle.disk_jobs.specs.declared.saving.Access.TheVariants as access
-use Rattle.drive_store.specs.declared.changes_output.SentAfter.{SentAfter}
-use Rattle.drive_store.specs.declared.changes_output.SentAfter.TheVariants as sent
+use Rattle.job_drives.specs.declared.changes_output.SentAfter.{SentAfter}
+use Rattle.job_drives.specs.declared.changes_output.SentAfter.TheVariants as sent
 
 -- whether replies wait until the changes before them are on the disk; a run that only reads makes none
 abbrev pub syncs : Job → Bool

@@ -5,8 +5,8 @@ use Rattle.drive_survey.specs.declared.fault.MountFault.TheVariants as mounts
 use Rattle.disk_files.specs.Output.{AppendsFront}
 use Rattle.drive_images.specs.FaultText.{image_fault_text as image_text}
 use Rattle.drive_images.specs.declared.fault.ImageFault.TheVariants as images
-use Rattle.drive_journal.specs.declared.fault.FileFault.{FileFault as ReadFault}
-use Rattle.drive_journal.specs.declared.fault.FileFault.TheVariants as files
+use Rattle.drive_journal.specs.declared.fault.ReadFault.{ReadFault}
+use Rattle.drive_journal.specs.declared.fault.ReadFault.TheVariants as files
 use Rattle.disk_runs.specs.FaultText.{run_fault_text as run_text}
 use Rattle.disk_runs.specs.Run.{Known}
 use Rattle.disk_runs.specs.declared.fault.RunFault.TheVariants as runs

@@ -1,8 +1,8 @@
 -- What is told of the mount of a job.
 use Rattle.std.specs.Prelude.{◌≡◌, ℕ, length, None, Result, Err, IfSome, ⊤}
 use Rattle.drive_port.specs.Drive.{DriveState}
-use Rattle.drive_array.specs.ZoneLogs.{spelled}
-use Rattle.mounted_disks.specs.declared.disk_size.DiskSize.{DiskSize}
+use Rattle.drive_array.specs.ZoneLogs.{encoded}
+use Rattle.job_drives.specs.declared.disk_size.DiskSize.{DiskSize}
 use Rattle.disk_runs.specs.declared.fault.RunFault.{RunFault}
 use Rattle.disk_runs.specs.declared.fault.RunFault.TheVariants as runs
 use Rattle.disk_jobs.specs.declared.job.Job.{Job}
@@ -11,7 +11,7 @@ use Rattle.disk_jobs.specs.declared.mounting.Mounting.{Mounting}
 
 -- the disk that a drive holds: it has the drive's shape, and that many blocks if no header says how many
 abbrev pub disk_on : ℕ → DriveState → DiskSize
-disk_on blocks drive = record { geometry = drive.geometry; blocks = length (spelled drive blocks) }
+disk_on blocks drive = record { geometry = drive.geometry; blocks = length (encoded drive blocks) }
 
 -- a run ended by the refusal of a mount
 abbrev pub IsMountFault : Result (Unit {0}) RunFault → Type 0

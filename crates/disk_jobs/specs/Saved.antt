@@ -29,11 +29,11 @@ use Rattle.disk_runs.specs.declared.taking.Taking.{Taking}
 use Rattle.disk_runs.specs.declared.taking.Taking.TheVariants.{All}
 use Rattle.disk_jobs.specs.declared.fault.ProgramFault.{ProgramFault}
 use Rattle.disk_jobs.specs.declared.fault.ProgramFault.TheVariants as program
-use Rattle.kept_drives.specs.Kept.{IsReadIn, IsRestarted}
-use Rattle.kept_drives.specs.Left.{IsHandedBack}
-use Rattle.kept_drives.specs.declared.kept_drive.Begun.{Begun}
-use Rattle.kept_drives.specs.declared.left.Left.{Left}
-use Rattle.mounted_disks.specs.Stop.{stopping}
+use Rattle.job_drives.specs.Kept.{IsReadIn, IsRestarted}
+use Rattle.job_drives.specs.Left.{IsHandedBack}
+use Rattle.job_drives.specs.declared.kept_drive.Begun.{Begun}
+use Rattle.job_drives.specs.declared.left.Left.{Left}
+use Rattle.job_drives.specs.Stop.{stopping}
 use Rattle.disk_jobs.specs.declared.job.Job.{Job}
 use Rattle.disk_jobs.specs.declared.job.Job.TheVariants as jobs
 use Rattle.disk_jobs.specs.declared.lines.Answered.{Answered}

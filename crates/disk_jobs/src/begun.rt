@@ -13,7 +13,7 @@ use crate::job::Job;
 use disk_files::{ok_reply, write_out};
 use disk_runs::RunFault;
 use drive_port::Device;
-use kept_drives::{Begun, restarted_drive, saved_drive};
+use job_drives::{Begun, restarted_drive, saved_drive};
 use nvme_wire::ReportingOptions;
 use std::alloc::Global;
 use std::io::{Read, Write};

@@ -7,8 +7,8 @@ ghost use Rattle.disk_jobs.specs.declared.fault.ProgramFault.TheVariants as prog
 use disk_files::{WriteFault, write_out};
 use disk_runs::{RunFault, write_fault};
 use drive_images::{ImageFault, image_fault_line};
-use drive_journal::FileFault as ReadFault;
-use drive_store::FileFault;
+use drive_journal::ReadFault;
+use job_drives::FileFault;
 use std::alloc::{AllocError, Global};
 use std::io::Write;
 use thiserror::Error;

@@ -9,11 +9,10 @@ use crate::sending::{Ran, run_sending, send};
 use disk_files::LineReader;
 use disk_runs::RunFault;
 use drive_journal::Unknown;
-use drive_store::{
-    ChangesFile, ChangesOutput, FileFault, ImageFile, Saved, Saving, image_to_read, image_to_save,
-    open_to_format, save,
+use job_drives::{
+    ChangesFile, ChangesOutput, DriveFile, FileFault, Finished, ImageFile, Saved, Saving, finish,
+    first_told, image_to_read, image_to_save, open_to_format, save,
 };
-use kept_drives::{DriveFile, Finished, finish, first_told};
 use std::alloc::Global;
 use std::fs::File;
 use std::io;
@@ -23,7 +22,7 @@ use zone_drive::Drive;
 
 /// How a job ended, and how its drive was saved. Both can fail.
 #[derive(Clone, Copy, Debug, PartialEq, Eq)]
-pub struct Done {
+pub struct LinesDone {
     /// Of the job, with the replies that it sent.
     pub job: Result<(), ProgramFault>,
     /// Of the drive. It is `Ok` where the job leaves none to save.
@@ -32,10 +31,10 @@ pub struct Done {
     pub mounting: Mounting,
 }
 
-impl Done {
+impl LinesDone {
     /// A job that leaves no drive to save.
-    fn unsaved(job: Result<(), ProgramFault>) -> Done {
-        Done {
+    fn unsaved(job: Result<(), ProgramFault>) -> LinesDone {
+        LinesDone {
             job,
             saved: Ok(Saved::IN_PLACE),
             mounting: Mounting::NONE,
@@ -60,7 +59,7 @@ fn mounting(answered: &Option<Answered>) -> Mounting {
 }
 
 /// What a fault of a file is to the program: that memory ran out is told as in a run.
-fn told(fault: FileFault) -> ProgramFault {
+fn file_told(fault: FileFault) -> ProgramFault {
     if fault.is_memory() {
         return ProgramFault::Run(RunFault::Memory);
     }
@@ -123,15 +122,15 @@ fn run_with_changes<F: Files<File = File>, R: Read + Drop, W: Write>(
     (image, bytes): (ImageFile, BufReader<File>),
     input: &mut JobInput<'_, R>,
     output: &mut W,
-) -> Done {
+) -> LinesDone {
     let file = ChangesFile::with_gate(saving, image, input.gate);
     let (answered, ran) = run_over(saving, job, (&file, bytes), &mut input.lines, output);
     let mounting = mounting(&answered);
     let Finished { fault, saved } = finish(file, left_to_save(job, answered));
-    Done {
+    LinesDone {
         // What the lines met of a fault of the file is told as that fault.
         job: first_told(ran, fault.map(ProgramFault::File)),
-        saved: saved.map_err(told),
+        saved: saved.map_err(file_told),
         mounting,
     }
 }
@@ -157,16 +156,16 @@ fn format<F: Files<File = File>, R: Read + Drop, W: Write>(
     job: &Job,
     input: &mut JobInput<'_, R>,
     output: &mut W,
-) -> Done {
+) -> LinesDone {
     let (answered, sent) = run_without_file(saving.alloc, job, &mut input.lines, output);
     let drive = fresh_to_save(sent, answered);
     let (Job::Format { image, force, .. }, Some(drive)) = (job, &drive) else {
-        return Done::unsaved(sent);
+        return LinesDone::unsaved(sent);
     };
     let saved = save_fresh(saving, image, *force, drive);
-    Done {
+    LinesDone {
         job: sent,
-        saved: saved.map_err(told),
+        saved: saved.map_err(file_told),
         mounting: Mounting::NONE,
     }
 }
@@ -181,10 +180,10 @@ pub fn do_job<F: Files<File = File>, R: Read + Drop, W: Write>(
     job: &Job,
     input: &mut JobInput<'_, R>,
     output: &mut W,
-) -> Done {
+) -> LinesDone {
     let Some(path) = job.image() else {
         let (answered, sent) = run_without_file(alloc, job, &mut input.lines, output);
-        return Done {
+        return LinesDone {
             job: sent,
             saved: Ok(Saved::IN_PLACE),
             mounting: mounting(&answered),
@@ -196,6 +195,6 @@ pub fn do_job<F: Files<File = File>, R: Read + Drop, W: Write>(
     }
     match open_image(files, alloc, job, path) {
         Ok(opened) => run_with_changes(&saving, job, opened, input, output),
-        Err(fault) => Done::unsaved(Err(told(fault))),
+        Err(fault) => LinesDone::unsaved(Err(file_told(fault))),
     }
 }

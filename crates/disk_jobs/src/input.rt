@@ -1,6 +1,6 @@
 use crate::line_count::{CountedLines, LineCount};
 use disk_files::LineReader;
-use drive_store::{Gate, GatedInput};
+use job_drives::{Gate, GatedInput};
 use std::alloc::Global;
 use std::io::Read;
 

@@ -2,7 +2,7 @@ ghost use Rattle.std.specs.Prelude.{◌≡◌, IfNone, IfSome, None, Some};
 ghost use Rattle.disk_jobs.specs.Asked.{blocks_asked, explains, image_asked, shows_progress, stop_asked, syncs};
 ghost use Rattle.disk_jobs.specs.Saved.{reads_only};
 
-use mounted_disks::Stop;
+use job_drives::Stop;
 use zone_drive::Habit;
 use zone_states::Geometry;
 

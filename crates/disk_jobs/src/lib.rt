@@ -15,8 +15,8 @@
 //! };
 //! ```
 //!
-//! A [`Job`] is what the words of the command line ask for (`command_line` reads them). [`run_job`] does it, and
-//! [`do_job`] does it on the drive of its file: it locks the file, and saves the drive. [`Done`] says how the job
+//! A [`Job`] is what the words of the command line ask for (`zonedisk_program` reads them). [`run_job`] does it, and
+//! [`do_job`] does it on the drive of its file: it locks the file, and saves the drive. [`LinesDone`] says how the job
 //! ended and how the save did. [`explain`] says what a fault is in a line for people; the input has the one at which a
 //! run ended. [`size_notes`] says what is to be known of the size of the disk. [`Explained`] passes the replies of
 //! `nvme` on, and tells what their statuses are. [`Watched`] says how much of a stream was read or written.
@@ -84,19 +84,17 @@ mod statistics;
 mod status_words;
 mod watched;
 
-pub use drive_store::{FileFault, Gate, Saved, SystemError};
 pub use explanation::{AskedLines, explain, explain_lines, place};
 pub use fault::{ProgramFault, write_program_fault};
-pub use file::{Done, do_job};
+pub use file::{LinesDone, do_job};
 pub use input::JobInput;
 pub use job::Job;
-pub use kept_drives::DriveFile;
+pub use job_drives::{DiskSize, DriveFile, FileFault, Gate, Saved, Stop, SystemError};
 pub use line_count::{CountedLines, LineCount};
 pub use lines::{Answered, TraceRun, run_stopping};
-pub use mounted_disks::{DiskSize, Stop};
 pub use mounting::Mounting;
 pub use notes::{restored_note, size_notes};
-pub use program::{run_job, told as run_told};
+pub use program::{run_job, run_told};
 pub use statistics::run_counted;
 pub use status_words::Explained;
 pub use watched::{Counted, Watched};

@@ -1,7 +1,7 @@
 // The lines of a job, answered over its drive.
 
 ghost use Rattle.std.specs.Prelude.{◌≡◌, false, true};
-ghost use Rattle.mounted_disks.specs.Stop.{stopping};
+ghost use Rattle.job_drives.specs.Stop.{stopping};
 ghost use Rattle.disk_runs.specs.Run.{exchange};
 ghost use Rattle.disk_jobs.specs.Mounted.{TellsJob, TellsMount};
 ghost use Rattle.disk_jobs.specs.Saved.{LeavesDrive, RunsLines, RunsTrace, ThenShows};
@@ -13,10 +13,9 @@ use crate::mounting::Mounting;
 use crate::statistics::run_counted;
 use disk_files::LineReader;
 use disk_runs::{RunFault, Taking, answer_trace, run_raw};
-use drive_journal::Store;
+use drive_journal::ChangeStore;
 use drive_port::Device;
-use kept_drives::{Begun, Left, Stored, leave};
-use mounted_disks::{Stop, stopping};
+use job_drives::{Begun, Left, Stop, Stored, leave, stopping};
 use std::alloc::Global;
 use std::io::{Read, Write};
 use zone_drive::Drive;
@@ -24,7 +23,7 @@ use zone_translator::Disk;
 
 /// What a job begins with: a drive, and the store of its file.
 #[derive(Drop)]
-pub(crate) struct Start<S: Store<Drive> + Drop> {
+pub(crate) struct Start<S: ChangeStore<Drive> + Drop> {
     pub(crate) begun: Begun,
     pub(crate) store: S,
 }
@@ -143,7 +142,7 @@ fn show_after<W: Write>(
 }
 
 /// Answers the lines of a job over a drive that no store keeps.
-pub(crate) fn answer_in_memory<S: Store<Drive> + Drop, R: Read + Drop, W: Write>(
+pub(crate) fn answer_in_memory<S: ChangeStore<Drive> + Drop, R: Read + Drop, W: Write>(
     alloc: Global,
     job: &Job,
     start: Start<S>,
@@ -168,7 +167,7 @@ pub(crate) fn answer_in_memory<S: Store<Drive> + Drop, R: Read + Drop, W: Write>
 }
 
 /// Answers the lines of a job over a drive whose changes go to a store.
-pub(crate) fn answer_kept<S: Store<Drive> + Drop, R: Read + Drop, W: Write>(
+pub(crate) fn answer_kept<S: ChangeStore<Drive> + Drop, R: Read + Drop, W: Write>(
     alloc: Global,
     job: &Job,
     stored: Stored<S>,

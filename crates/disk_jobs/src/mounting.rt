@@ -1,8 +1,8 @@
 ghost use Rattle.std.specs.Prelude.{◌≡◌, None, Some};
-ghost use Rattle.mounted_disks.specs.DiskSize.{size_of};
+ghost use Rattle.job_drives.specs.DiskSize.{size_of};
 
 use drive_port::Device;
-use mounted_disks::DiskSize;
+use job_drives::DiskSize;
 use zone_translator::Disk;
 
 /// What is known of the mount of a job.

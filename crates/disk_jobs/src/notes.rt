@@ -1,4 +1,4 @@
-use mounted_disks::DiskSize;
+use job_drives::DiskSize;
 use std::alloc::{AllocError, Global};
 use write_plan::size_advice;
 

@@ -1,7 +1,7 @@
 ghost use Rattle.std.specs.Prelude.{◌≡◌, Err, IfErr, IfNone, IfSome, OnOk, true};
 ghost use Rattle.drive_journal.specs.Cut.{front_of};
 ghost use Rattle.drive_journal.specs.File.{IsStoredWhole};
-ghost use Rattle.kept_drives.specs.Kept.{HoldsFile};
+ghost use Rattle.job_drives.specs.Kept.{HoldsFile};
 ghost use Rattle.disk_runs.specs.Run.{exchange};
 ghost use Rattle.disk_jobs.specs.Saved.{HasNoDrive, LeavesDrive, LeftByLines, ShowsReport, TellsRun};
 ghost use Rattle.disk_jobs.specs.Saved.{ended_by, has_changes};
@@ -12,9 +12,9 @@ use crate::job::Job;
 use crate::lines::{Answered, Start, answer_in_memory, answer_kept};
 use disk_files::LineReader;
 use disk_runs::RunFault;
-use drive_journal::Store;
+use drive_journal::ChangeStore;
 use drive_port::Device;
-use kept_drives::{DriveFile, Stored, keep};
+use job_drives::{DriveFile, Stored, keep};
 use std::alloc::Global;
 use std::io::{Read, Write};
 use zone_choice::most_blocks;
@@ -23,7 +23,7 @@ use zone_states::Geometry;
 use zone_translator::MountFault;
 
 /// What the fault of a run over a drive of this shape is to the program.
-pub fn told(fault: RunFault, geometry: &Geometry) -> ProgramFault
+pub fn run_told(fault: RunFault, geometry: &Geometry) -> ProgramFault
     ensures tells { TellsRun geometry.now result }
     ensures ended { ended_by (Err result) ≡ Err fault }
 {
@@ -47,7 +47,7 @@ fn has_changes(job: &Job) -> bool
 }
 
 /// Answers the lines of a job over the drive that it begins with.
-fn answer<S: Store<Drive> + Drop, R: Read + Drop, W: Write>(
+fn answer<S: ChangeStore<Drive> + Drop, R: Read + Drop, W: Write>(
     alloc: Global,
     job: &Job,
     start: Start<S>,
@@ -74,7 +74,7 @@ fn answer<S: Store<Drive> + Drop, R: Read + Drop, W: Write>(
 /// Does a job, but for opening and saving its file: reads the file and then the lines of `input`, writes its changes to
 /// the store, and writes to `output`. What is left of the drive is handed back, also after a fault, if the job has one.
 /// A run that only reads changes nothing in the store.
-pub fn run_job<I: Read + Drop, S: Store<Drive> + Drop, R: Read + Drop, W: Write>(
+pub fn run_job<I: Read + Drop, S: ChangeStore<Drive> + Drop, R: Read + Drop, W: Write>(
     alloc: Global,
     job: &Job,
     file: DriveFile<I, S>,
@@ -107,6 +107,6 @@ pub fn run_job<I: Read + Drop, S: Store<Drive> + Drop, R: Read + Drop, W: Write>
     let geometry = answered.left.drive.geometry();
     match result {
         Ok(()) => (Some(answered), store, Ok(())),
-        Err(fault) => (Some(answered), store, Err(told(fault, &geometry))),
+        Err(fault) => (Some(answered), store, Err(run_told(fault, &geometry))),
     }
 }

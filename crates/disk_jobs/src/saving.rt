@@ -5,8 +5,7 @@ ghost use Rattle.disk_jobs.specs.Saved.{fresh_to_save, left_to_save};
 use crate::fault::ProgramFault;
 use crate::job::Job;
 use crate::lines::Answered;
-use drive_store::SentAfter;
-use kept_drives::Left;
+use job_drives::{Left, SentAfter};
 use zone_drive::Drive;
 
 /// How the file of a drive is opened.

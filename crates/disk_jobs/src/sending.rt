@@ -1,7 +1,7 @@
 // A job whose replies wait for what it asks for.
 
 ghost use Rattle.std.specs.Prelude.{◌≡◌};
-ghost use Rattle.kept_drives.specs.Kept.{HoldsFile};
+ghost use Rattle.job_drives.specs.Kept.{HoldsFile};
 ghost use Rattle.disk_jobs.specs.Asked.{sent_after};
 
 use crate::fault::ProgramFault;
@@ -10,9 +10,8 @@ use crate::lines::Answered;
 use crate::program::run_job;
 use disk_files::LineReader;
 use disk_runs::RunFault;
-use drive_journal::Store;
-use drive_store::ChangesOutput;
-use kept_drives::DriveFile;
+use drive_journal::ChangeStore;
+use job_drives::{ChangesOutput, DriveFile};
 use std::alloc::Global;
 use std::fs::File;
 use std::io::{BufWriter, Read, Write};
@@ -24,7 +23,7 @@ pub(crate) type Ran = (Option<Answered>, Result<(), ProgramFault>);
 
 /// An output whose bytes wait for the changes before them.
 pub(crate) trait Waiting: Write {
-    ghost use Rattle.drive_store.specs.declared.changes_output.SentAfter.{SentAfter};
+    ghost use Rattle.job_drives.specs.declared.changes_output.SentAfter.{SentAfter};
 
     /// What they wait for.
     ghost after: { Self → SentAfter };
@@ -42,7 +41,7 @@ pub(crate) fn send<W: Write>(output: &mut W) -> Result<(), ProgramFault> {
 /// Does a job over a file, and sends what it wrote to an output that waits for what the job asks for.
 pub(crate) fn run_sending<
     I: Read + Drop,
-    S: Store<Drive> + Drop,
+    S: ChangeStore<Drive> + Drop,
     R: Read + Drop,
     O: Waiting + Drop,
 >(alloc: Global, job: &Job, file: DriveFile<I, S>, input: &mut LineReader<R>, output: O) -> Ran

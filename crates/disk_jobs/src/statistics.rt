@@ -2,7 +2,7 @@ ghost use Rattle.std.specs.Prelude.{◌≡◌, Ok};
 ghost use Rattle.disk_runs.specs.Run.{exchange};
 ghost use Rattle.disk_jobs.specs.Mounted.{TellsMount};
 ghost use Rattle.disk_jobs.specs.Saved.{RunsCounted, ThenTells};
-ghost use Rattle.mounted_disks.specs.Stop.{stopping};
+ghost use Rattle.job_drives.specs.Stop.{stopping};
 
 use crate::lines::TraceRun;
 use crate::mounting::Mounting;
@@ -10,7 +10,7 @@ use disk_files::{LineReader, write_out};
 use disk_runs::{RunFault, answer_trace};
 use drive_counter::Counter;
 use drive_port::Device;
-use mounted_disks::{statistics_of, stopping};
+use job_drives::{statistics_of, stopping};
 use std::alloc::Global;
 use std::io::{Read, Write};
 use zone_translator::Disk;

@@ -54,7 +54,7 @@ impl<'r, S: Drop, E: Eprint> Watched<'r, S, E> {
         }
     }
 
-    // How much there was.
+    /// How much there was.
     fn amount(&self, counted: Counted) -> u64 {
         match counted {
             Counted::Mebibytes => self.seen >> 20,
@@ -62,7 +62,7 @@ impl<'r, S: Drop, E: Eprint> Watched<'r, S, E> {
         }
     }
 
-    // Counts bytes, and shows how much there was if that is much more than was shown.
+    /// Counts bytes, and shows how much there was if that is much more than was shown.
     fn note(&mut self, bytes: &[u8]) {
         let Some(counted) = self.counted else {
             return;
@@ -81,7 +81,7 @@ impl<'r, S: Drop, E: Eprint> Watched<'r, S, E> {
         }
     }
 
-    // Shows how much there was in all.
+    /// Shows how much there was in all.
     fn end(&mut self) {
         if let Some(counted) = self.counted {
             let (amount, name) = (self.amount(counted), counted.name());

@@ -4,7 +4,7 @@ use Rattle.std.specs.Prelude.{Bool, IfErr, Result}
 use Rattle.zone_states.specs.declared.geometry.Geometry.{Geometry}
 use Rattle.zone_states.specs.declared.geometry.GeometryFault.{GeometryFault}
 use Rattle.drive_port.specs.Drive.{DriveState}
-use Rattle.drive_array.specs.ZoneLogs.{spelled}
+use Rattle.drive_array.specs.ZoneLogs.{encoded}
 use Rattle.drive_array.specs.Reserve.{most_size}
 use Rattle.drive_array.specs.Mountable.{IsMountable}
 use Rattle.remount.specs.Kept.{KeepsMountable}
@@ -260,7 +260,7 @@ disk-of array array' size size' status status' geometry geometry' e f g h = rw (
 -- the disk at first, by the drive that was mounted
 at_first : (n : ℕ) (old : DriveState) (first : DiskView) → MountsDisk old n first → first.drive.geometry ≡ old.geometry → flat_of first ≡ disk_at_first n old
 at_first n old first mounted same =
-    disk-of (spelled first.drive (given_size first)) (spelled old n) (disk_size first) (length (spelled old n)) first.status statuses.Serving first.drive.geometry old.geometry
+    disk-of (encoded first.drive (given_size first)) (encoded old n) (disk_size first) (length (encoded old n)) first.status statuses.Serving first.drive.geometry old.geometry
     mounted.array (mounted.size ∙ ap length mounted.array) mounted.status same
 
 -- and the disk at last

@@ -2,7 +2,7 @@
 use Rattle.std.specs.Prelude.{◌≡◌, ◌⊎◌, ℕ, zero, suc, ◌<◌, ◌≤◌, Bool, true, false, List, length, Option, Some, None, if◌then◌else◌, Result, Ok, Err, IfErr, OnOk, ⊤}
 use Rattle.std.specs.Io.KnownBytes.{Keeps}
 use Rattle.drive_port.specs.Drive.{DriveState}
-use Rattle.drive_array.specs.ZoneLogs.{spelled}
+use Rattle.drive_array.specs.ZoneLogs.{encoded}
 use Rattle.drive_array.specs.Mountable.{IsMountable}
 use Rattle.drive_array.specs.Reserve.{most_size}
 use Rattle.drive_survey.specs.declared.fault.MountFault.{MountFault}
@@ -182,7 +182,7 @@ trace = record {
 -- have more blocks than the size, by which calls are checked.
 abbrev pub disk_on : ℕ → DriveState → ℕ → DiskStatus → FlatDisk
 disk_on n drive size status = record {
-  array = spelled drive n;
+  array = encoded drive n;
   size = size;
   status = status;
   block = drive.geometry.block;
@@ -191,7 +191,7 @@ disk_on n drive size status = record {
 
 -- the disk at first: it serves the array that its drive encodes, of n blocks if no header has a size
 abbrev pub disk_at_first : ℕ → DriveState → FlatDisk
-disk_at_first n drive = disk_on n drive (length (spelled drive n)) statuses.Serving
+disk_at_first n drive = disk_on n drive (length (encoded drive n)) statuses.Serving
 
 -- A run over the disk that a drive keeps, as a flat disk answers its lines in this language. It ends with a disk of some size, which serves or does not.
 abbrev pub RunsFlat : Language FlatDisk → ℕ → Exchange → DriveState → Result (Unit {0}) RunFault → DriveState → Type 0

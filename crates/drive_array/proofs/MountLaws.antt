@@ -102,7 +102,7 @@ logs-set geometry zones zone = map-set (zone_log geometry) zones zone emptied
 -- an empty zone has a log of no batch
 pub emptied-log : (geometry : Geometry) → HasLog geometry emptied
 unfolding zone_log
-emptied-log geometry = record { tail = []; front = record { spelled = refl; batches = tt }; end = inl refl }
+emptied-log geometry = record { tail = []; front = record { encoded = refl; batches = tt }; end = inl refl }
 
 fewer-partial : (zones : List Content) (zone : ℕ) → zone < length zones → count_by is_partly_written (set zones zone emptied) ≤ count_by is_partly_written zones
 fewer-partial zones zone lt =

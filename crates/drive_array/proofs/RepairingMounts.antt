@@ -11,7 +11,7 @@ use Rattle.drive_array.specs.Mountable.{is_partly_written}
 use Rattle.drive_array.specs.Repairing.{IsOnRepair, IsRepairing, RepairBegins, RepairMounts}
 use Rattle.drive_array.specs.Sizes.{array_of}
 use Rattle.drive_array.specs.Spare.{HasSpare, IsVacant}
-use Rattle.drive_array.specs.ZoneLogs.{HasLog, has_torn_tail, log_at, spelled_array, zone_log, zone_logs, zone_tails}
+use Rattle.drive_array.specs.ZoneLogs.{HasLog, has_torn_tail, log_at, encoded_array, zone_log, zone_logs, zone_tails}
 use Rattle.drive_array.proofs.AllLaws.{all-set}
 use Rattle.drive_array.proofs.CountLaws.{at_most, count-zero}
 use Rattle.drive_array.proofs.MountLaws.{emptied-log}
@@ -109,7 +109,7 @@ set-here (t ∷ ts) (suc into) b e = set-here ts into b e
 
 -- a drive on its repair can be mounted
 pub repair_mounts : RepairMounts
-unfolding spelled_array
+unfolding encoded_array
 repair_mounts geometry n torn into base now small is whole =
     let logs = zone_logs geometry base in
     let moves = zone_log geometry is.made in

@@ -9,19 +9,19 @@ use Rattle.drive_port.specs.Contents.{Content, content_of, contents, is_full}
 use Rattle.batch_log.specs.declared.header.Entry.{Entry}
 use Rattle.batch_log.specs.Log.{Batch, IsBatch, batch_blocks, batch_size, data_count, one_unless, zero_block}
 use Rattle.drive_array.specs.Records.{IsNewest, Record, batch_records, entry_content, entry_records, log_records, newest, records, shown, shown_content}
-use Rattle.drive_array.specs.ZoneLogs.{HasLog, drive_logs, spelled, padding, readable, spelled_array, zone_log, zone_logs}
+use Rattle.drive_array.specs.ZoneLogs.{HasLog, drive_logs, encoded, padding, readable, encoded_array, zone_log, zone_logs}
 use Rattle.drive_array.specs.Sizes.{encoded_size}
-use Rattle.drive_array.specs.Laws.{SpelledWhole}
+use Rattle.drive_array.specs.Laws.{EncodedWhole}
 use Rattle.drive_array.proofs.AllLaws.{all-append, all-at, all-parts}
 use Rattle.drive_array.proofs.NewestLaws.{all-among, newest-is}
 use Rattle.drive_array.proofs.SizeLaws.{array_length}
 
 -- ---- its size
 
--- a spelled array has the size of the disk
-pub length-spelled : (drive : DriveState) (n : ℕ) → length (spelled drive n) ≡ encoded_size n (drive_logs drive)
-unfolding spelled_array
-length-spelled drive n = array_length drive.geometry.block n (drive_logs drive)
+-- an encoded array has the size of the disk
+pub length-encoded : (drive : DriveState) (n : ℕ) → length (encoded drive n) ≡ encoded_size n (drive_logs drive)
+unfolding encoded_array
+length-encoded drive n = array_length drive.geometry.block n (drive_logs drive)
 
 abbrev AreWhole : ℕ → List (List ℕ) → Type 0
 AreWhole size blocks = AllByRecursion (λ block. length block ≡ size) blocks
@@ -69,7 +69,7 @@ records-whole geometry first [] lawful logs = tt
 records-whole geometry first (z ∷ zs) lawful logs =
     let size = geometry.block in
     let log = zone_log geometry (content_of z) in
-    let blocks = subst (AreWhole size) logs.0.front.spelled (readable-whole geometry (content_of z) lawful.0.whole) in
+    let blocks = subst (AreWhole size) logs.0.front.encoded (readable-whole geometry (content_of z) lawful.0.whole) in
     let batches = all-parts (λ block. length block ≡ size) (flat_map (batch_blocks size) log) logs.0.tail blocks in
     all-append (SaysWhole size) (log_records first 0 log) (records (suc first) (zone_logs geometry (contents zs)))
     (log-whole size first 0 log batches.0 logs.0.front.batches) (records-whole geometry (suc first) zs lawful.1 logs.1)
@@ -83,9 +83,9 @@ all-mapped P f [] each = tt
 all-mapped P f (x ∷ xs) each = (each x, all-mapped P f xs each)
 
 -- and each of its blocks is whole
-pub whole-spelled : SpelledWhole
-unfolding spelled_array
-whole-spelled drive n mountable =
+pub whole-encoded : EncodedWhole
+unfolding encoded_array
+whole-encoded drive n mountable =
     let size = drive.geometry.block in
     let rs = records 0 (drive_logs drive) in
     let all = records-whole drive.geometry 0 drive.zones mountable.lawful.zones mountable.holds.disk.logs in

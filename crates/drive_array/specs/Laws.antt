@@ -6,7 +6,7 @@ use Rattle.drive_port.specs.Drive.{DriveState}
 use Rattle.drive_port.specs.Run.{restarted}
 use Rattle.drive_port.specs.Contents.{Content, Appends, Finishes, Resets, content_at, is_writable}
 use Rattle.batch_log.specs.Log.{Batch, IsBatch, batch_blocks, log_size}
-use Rattle.drive_array.specs.ZoneLogs.{HasLog, drive_logs, has_torn_tail, log_at, sequences, spelled, zone_logs, zone_tails}
+use Rattle.drive_array.specs.ZoneLogs.{HasLog, drive_logs, has_torn_tail, log_at, sequences, encoded, zone_logs, zone_tails}
 use Rattle.drive_array.specs.Mountable.{AreMountable, AreSound, HoldDisk, IsInside, IsMountable}
 use Rattle.drive_array.specs.Records.{AllBelow, IsNewest, Record, append_log, new_records, newest, over, place, records, shown, without}
 use Rattle.drive_array.specs.Repair.{HasAtMost, IsTornAt, live_records, live_data, moves}
@@ -207,8 +207,8 @@ SpareResets =
 -- ---- the array
 
 -- The array that a drive encodes has the drive's size. On a drive that can be mounted each block of it is a whole block.
-abbrev pub SpelledCount : Type 0
-SpelledCount = (drive : DriveState) (n : ℕ) → length (spelled drive n) ≡ encoded_size n (drive_logs drive)
+abbrev pub EncodedCount : Type 0
+EncodedCount = (drive : DriveState) (n : ℕ) → length (encoded drive n) ≡ encoded_size n (drive_logs drive)
 
-abbrev pub SpelledWhole : Type 0
-SpelledWhole = (drive : DriveState) (n : ℕ) → IsMountable drive n → AllByRecursion (λ block. length block ≡ drive.geometry.block) (spelled drive n)
+abbrev pub EncodedWhole : Type 0
+EncodedWhole = (drive : DriveState) (n : ℕ) → IsMountable drive n → AllByRecursion (λ block. length block ≡ drive.geometry.block) (encoded drive n)

@@ -9,7 +9,7 @@ use Rattle.drive_array.specs.Mountable.{AreMountable, AreSound, is_partly_writte
 use Rattle.drive_array.specs.Records.{Record, batch_records, log_records, newest, records, shown, without}
 use Rattle.drive_array.specs.Sizes.{array_of, encoded_size, larger, log_greatest}
 use Rattle.drive_array.specs.Spare.{IsBefore, IsHalfClean, IsMoveFrom, IsSpare, IsVacant, NoneBelow, first_sequence}
-use Rattle.drive_array.specs.ZoneLogs.{HasLog, has_torn_tail, log_at, sequences, spelled_array, zone_log, zone_logs, zone_tails}
+use Rattle.drive_array.specs.ZoneLogs.{HasLog, has_torn_tail, log_at, sequences, encoded_array, zone_log, zone_logs, zone_tails}
 
 -- a block's newest record is in a zone
 abbrev pub LiesIn : ℕ → Option Record → Type 0
@@ -64,7 +64,7 @@ RepairBegins =
 -- Such a drive can be mounted, with the same array, also with a torn tail after the Moves, unless the torn zone is half clean by then.
 pub record RepairKeeps (geometry : Geometry) (n : ℕ) (base now : List Content) : Type 0 where
   pub mountable : AreMountable geometry now n
-  pub array : spelled_array geometry now n ≡ spelled_array geometry base n
+  pub array : encoded_array geometry now n ≡ encoded_array geometry base n
 
 abbrev pub RepairMounts : Type 0
 RepairMounts =

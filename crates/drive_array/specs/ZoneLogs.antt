@@ -47,8 +47,8 @@ abbrev pub zone_tails : List Content → List Bool
 zone_tails zones = map has_torn_tail zones
 
 -- the array that the zones encode, of n blocks if no header has a size
-unfoldable pub spelled_array : Geometry → List Content → ℕ → List (List ℕ)
-spelled_array geometry zones n = array_of geometry.block n (zone_logs geometry zones)
+unfoldable pub encoded_array : Geometry → List Content → ℕ → List (List ℕ)
+encoded_array geometry zones n = array_of geometry.block n (zone_logs geometry zones)
 
 -- ---- of a drive
 
@@ -56,5 +56,5 @@ abbrev pub drive_logs : DriveState → List (List Batch)
 drive_logs drive = zone_logs drive.geometry (contents drive.zones)
 
 -- the array that a drive encodes, of n blocks if no header has a size
-abbrev pub spelled : DriveState → ℕ → List (List ℕ)
-spelled drive n = spelled_array drive.geometry (contents drive.zones) n
+abbrev pub encoded : DriveState → ℕ → List (List ℕ)
+encoded drive n = encoded_array drive.geometry (contents drive.zones) n

@@ -4,7 +4,7 @@
 ghost use Rattle.drive_array.specs.Laws.{AppendFirst, AppendKeepsSpare, AppendLogs, AppendWrites, ClearingKeeps};
 ghost use Rattle.drive_array.specs.Laws.{EmptySpare, FewFit, FinishLogs, FinishMounts, GreatestIs, LowestResets};
 ghost use Rattle.drive_array.specs.Laws.{NewestIsLive, NextIsLast, OneClearing, RestartMounts, SpareResets};
-ghost use Rattle.drive_array.specs.Laws.{SpelledCount, SpelledWhole, TornLogs, TornMounts, VacantResets};
+ghost use Rattle.drive_array.specs.Laws.{EncodedCount, EncodedWhole, TornLogs, TornMounts, VacantResets};
 ghost use Rattle.drive_array.specs.Repairing.{MoveRepairs, NeededStays, RepairBegins, RepairEnds};
 ghost use Rattle.drive_array.specs.Repairing.{RepairMounts, TornMoveRepairs};
 
@@ -77,9 +77,9 @@ pub fn resets_mount()
 
 /// The encoded array has the drive's size; on a drive that can be mounted each of its blocks is a whole
 /// block.
-pub fn spelled_blocks()
-    ensures count { SpelledCount }
-    ensures whole { SpelledWhole }
+pub fn encoded_blocks()
+    ensures count { EncodedCount }
+    ensures whole { EncodedWhole }
 {}
 
 /// A torn zone of a cleared drive is repaired by Moves to a vacant zone: after each of them, whole or torn,

@@ -34,7 +34,8 @@ mod laws;
 mod reserve;
 
 pub use laws::{
-    append_first, append_logs, append_writes, empty_spare, finish_logs, finish_mounts, greatest_is,
-    newest_is_live, one_clearing, repair_mounts, resets_mount, spelled_blocks, torn_mounts,
+    append_first, append_logs, append_writes, empty_spare, encoded_blocks, finish_logs,
+    finish_mounts, greatest_is, newest_is_live, one_clearing, repair_mounts, resets_mount,
+    torn_mounts,
 };
 pub use reserve::{batch_most, fill, fits_reserve, most_blocks};

@@ -52,7 +52,7 @@ fn geometry_in(head: &[u8; 64]) -> Geometry
     }
 }
 
-// Whether a part of it is out of range.
+/// Whether a part of it is out of range.
 #[tactic(auto, unfolding(crate::specs::Reading::is_out_of_range))]
 fn is_out_of_range(geometry: &Geometry) -> bool
     ensures value { result ≡ is_out_of_range geometry.now }

@@ -15,8 +15,8 @@ use Rattle.drive_journal.specs.File.{HasParts, IsDriveFile, Parts}
 use Rattle.drive_journal.specs.FileFaults.{FailsBehindChanges, FailsBehindImage, IsFileFault, is_of_file}
 use Rattle.drive_journal.specs.Reading.{IsDamaged}
 use Rattle.drive_journal.specs.Tail.{IsCutOff, IsTailFault, begins_as_mark}
-use Rattle.drive_journal.specs.declared.fault.FileFault.{FileFault}
-use Rattle.drive_journal.specs.declared.fault.FileFault.TheVariants.{Damaged, Earlier, Image, Long, Zones}
+use Rattle.drive_journal.specs.declared.fault.ReadFault.{ReadFault}
+use Rattle.drive_journal.specs.declared.fault.ReadFault.TheVariants.{Damaged, Earlier, Image, Long, Zones}
 use Rattle.drive_journal.proofs.CutLaws.{one-reading}
 use Rattle.drive_journal.proofs.NoFaultLaws.{image-no-fault}
 use Rattle.drive_journal.proofs.ReadLaws.{damaged-before, earlier-other}
@@ -33,7 +33,7 @@ missealed-damaged geometry sum bytes more is some =
     subst (IsDamaged geometry sum) (sym text) damaged
 
 -- bytes that begin as a change does have no other fault
-tells-damage : (geometry : Geometry) (sum : Sum) (from at : ℕ) (left : List ℕ) (fault : FileFault) → begins_as_mark left ≡ true → IsTailFault geometry sum from at left fault → fault ≡ Damaged at
+tells-damage : (geometry : Geometry) (sum : Sum) (from at : ℕ) (left : List ℕ) (fault : ReadFault) → begins_as_mark left ≡ true → IsTailFault geometry sum from at left fault → fault ≡ Damaged at
 tells-damage geometry sum from at left (Long place) begins told = absurd (cc (begins, told.2))
 tells-damage geometry sum from at left (Earlier place) begins told = absurd (cc (begins, earlier-other left told.2))
 tells-damage geometry sum from at left (Damaged place) begins told = ap (λ (n : ℕ). Damaged n) told.0
@@ -71,7 +71,7 @@ module _ (bytes : List ℕ) (file : IsDamagedFile bytes) where
   unread drive whole end is = no-parts is.parts is.has
 
   -- a fault after the image is that the change is damaged
-  behind : (fault : FileFault) (image left : List ℕ) (saved : DriveState) → bytes ≡ image ++ left → IsImage image saved → FailsBehindChanges saved.geometry (length image) left fault → fault ≡ Damaged (damaged_at file)
+  behind : (fault : ReadFault) (image left : List ℕ) (saved : DriveState) → bytes ≡ image ++ left → IsImage image saved → FailsBehindChanges saved.geometry (length image) left fault → fault ≡ Damaged (damaged_at file)
   behind fault image left saved text is fails =
       let one = one-image file.image image (journal_bytes start file.changes ++ rest) left file.saved saved file.is_image is (sym file.text ∙ text) in
       let same = one-drive file.image file.saved saved file.is_image (rw (sym one.0) at is) in
@@ -96,7 +96,7 @@ module _ (bytes : List ℕ) (file : IsDamagedFile bytes) where
   behind-image TooLong f of = absurd f.fails.told
 
   -- its fault is that the change is damaged
-  pub damage-told : (fault : FileFault) → IsFileFault bytes fault → is_of_file fault ≡ true → fault ≡ Damaged (damaged_at file)
+  pub damage-told : (fault : ReadFault) → IsFileFault bytes fault → is_of_file fault ≡ true → fault ≡ Damaged (damaged_at file)
   damage-told (Image fault) (inl front) of = absurd (false-true (is_of_bytes fault) (image-no-fault file.image (journal_bytes start file.changes ++ rest) file.saved fault file.is_image (rw file.text at front)) of)
   damage-told (Image fault) (inr f) of = behind-image fault f of
   damage-told (Long at) f of = behind (Long at) f.image f.rest f.saved f.text f.is_image f.fails

@@ -28,8 +28,8 @@ use Rattle.drive_journal.specs.FileFaults.{FailsBehindImage, IsFileFault, IsJour
 use Rattle.drive_journal.specs.Reading.{Replays}
 use Rattle.drive_journal.specs.Replay.{at_rest, replayed}
 use Rattle.drive_journal.specs.Tail.{IsCutOff}
-use Rattle.drive_journal.specs.declared.fault.FileFault.{FileFault}
-use Rattle.drive_journal.specs.declared.fault.FileFault.TheVariants.{Damaged, Earlier, Image, Long, Zones}
+use Rattle.drive_journal.specs.declared.fault.ReadFault.{ReadFault}
+use Rattle.drive_journal.specs.declared.fault.ReadFault.TheVariants.{Damaged, Earlier, Image, Long, Zones}
 use Rattle.drive_journal.specs.declared.replayed.Replayed.{Replayed}
 use Rattle.drive_journal.proofs.CutLaws.{length-change}
 use Rattle.drive_journal.proofs.RestedImageLaws.{is_shut, tells-image}
@@ -131,7 +131,7 @@ module _ (geometry : Geometry) (zones : List StoredZone) (old mid : Option (List
     })
 
   -- bytes after the image have a fault
-  behind : (fault : FileFault) → IfSome mid (λ rest. IsJournalFault geometry (length image) rest fault) → IfSome old (λ bytes. FailsBehindImage bytes fault)
+  behind : (fault : ReadFault) → IfSome mid (λ rest. IsJournalFault geometry (length image) rest fault) → IfSome old (λ bytes. FailsBehindImage bytes fault)
   behind fault fails = by old mid read.text fails
     where
       by : (old mid : Option (List ℕ)) → Consumes old mid image → IfSome mid (λ rest. IsJournalFault geometry (length image) rest fault) → IfSome old (λ bytes. FailsBehindImage bytes fault)
@@ -140,7 +140,7 @@ module _ (geometry : Geometry) (zones : List StoredZone) (old mid : Option (List
       by (Some xs) (Some ys) front fails = record { image = image; saved = unused geometry here; rest = ys; text = front; is_image = image_of geometry zones old mid read; fails = fails }
 
 -- a fault after an image is one of the file
-pub journal-fault : (geometry : Geometry) (zones : List StoredZone) (old mid : Option (List ℕ)) (fault : FileFault) → ReadsImage geometry old mid zones
+pub journal-fault : (geometry : Geometry) (zones : List StoredZone) (old mid : Option (List ℕ)) (fault : ReadFault) → ReadsImage geometry old mid zones
     → IfSome mid (λ rest. IsJournalFault geometry (length (image_bytes geometry (zones_of geometry.block zones))) rest fault) → IfSome old (λ bytes. IsFileFault bytes fault)
 journal-fault geometry zones old mid (Image fault) read fails = some_so old (λ bytes. FailsBehindImage bytes (Image fault)) (λ bytes. IsFileFault bytes (Image fault)) (λ bytes f. inr f) (behind geometry zones old mid read (Image fault) fails)
 journal-fault geometry zones old mid (Long at) read fails = behind geometry zones old mid read (Long at) fails
@@ -150,6 +150,6 @@ journal-fault geometry zones old mid Zones read fails = some_so old (λ bytes. F
     (λ bytes f. absurd f.fails.told) (behind geometry zones old mid read Zones fails)
 
 -- a fault that is handed on
-pub handed-on : {T : Type 0} (r : Result T FileFault) (fault : FileFault) (P : FileFault → Type 0) → IsErrAnd r (λ f. f ≡ fault) → P fault → IfErr r P
+pub handed-on : {T : Type 0} (r : Result T ReadFault) (fault : ReadFault) (P : ReadFault → Type 0) → IsErrAnd r (λ f. f ≡ fault) → P fault → IfErr r P
 handed-on (Ok x) fault P is p = tt
 handed-on (Err f) fault P is p = subst P (sym is) p

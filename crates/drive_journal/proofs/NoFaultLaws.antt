@@ -27,9 +27,9 @@ use Rattle.drive_journal.specs.File.{HasParts, IsStored, Parts, drive_read, rema
 use Rattle.drive_journal.specs.FileFaults.{FailsBehindChanges, FailsBehindImage, IsFileFault, is_of_file}
 use Rattle.drive_journal.specs.Replay.{at_rest}
 use Rattle.drive_journal.specs.Tail.{IsCutOff, IsTailFault}
-use Rattle.drive_journal.specs.declared.fault.FileFault.{FileFault}
-use Rattle.drive_journal.specs.declared.fault.FileFault.TheVariants.{Damaged, Earlier, Image, Zones}
-use Rattle.drive_journal.specs.declared.fault.FileFault.TheVariants as files
+use Rattle.drive_journal.specs.declared.fault.ReadFault.{ReadFault}
+use Rattle.drive_journal.specs.declared.fault.ReadFault.TheVariants.{Damaged, Earlier, Image, Zones}
+use Rattle.drive_journal.specs.declared.fault.ReadFault.TheVariants as files
 use Rattle.drive_journal.proofs.CutLaws.{one-reading}
 use Rattle.drive_journal.proofs.MeaningLaws.{one-file}
 use Rattle.drive_journal.proofs.ReadLaws.{earlier-other}
@@ -90,7 +90,7 @@ image-no-fault image (byte ∷ rest) drive fault is fails = by (is_of_bytes faul
 -- ---- what is after it
 
 -- a change that was cut off has no fault
-no-tail-fault : (geometry : Geometry) (sum : Sum) (from at : ℕ) (cut : List ℕ) (fault : FileFault) → IsCutOff geometry sum cut → IsTailFault geometry sum from at cut fault → ⊥
+no-tail-fault : (geometry : Geometry) (sum : Sum) (from at : ℕ) (cut : List ℕ) (fault : ReadFault) → IsCutOff geometry sum cut → IsTailFault geometry sum from at cut fault → ⊥
 no-tail-fault geometry sum from at cut (files.Long place) is told = absurd (cc (told.2, is.begins))
 no-tail-fault geometry sum from at cut (Earlier place) is told = absurd (cc (earlier-other cut told.2, is.begins))
 no-tail-fault geometry sum from at cut (Damaged place) is told = told.1 is
@@ -98,7 +98,7 @@ no-tail-fault geometry sum from at cut (Image fault) is told = told
 no-tail-fault geometry sum from at cut Zones is told = told
 
 module _ (bytes : List ℕ) (parts : Parts) (has : HasParts bytes parts) where
-  behind-none : (fault : FileFault) (image rest : List ℕ) (saved : DriveState) → bytes ≡ image ++ rest → IsImage image saved → FailsBehindChanges saved.geometry (length image) rest fault → ⊥
+  behind-none : (fault : ReadFault) (image rest : List ℕ) (saved : DriveState) → bytes ≡ image ++ rest → IsImage image saved → FailsBehindChanges saved.geometry (length image) rest fault → ⊥
   behind-none fault image rest saved text is fails =
       let one = one-image image parts.image rest (journal_bytes start parts.changes ++ parts.cut) saved parts.saved is has.is_image (sym text ∙ has.text) in
       let drive = one-drive parts.image saved parts.saved (rw one.0 at is) has.is_image in
@@ -167,7 +167,7 @@ behind-image bytes parts has Short f = absurd (behind-none bytes parts has (Imag
 behind-image bytes parts has Long f = absurd (behind-none bytes parts has (Image Long) f.image f.rest f.saved f.text f.is_image f.fails)
 
 -- what stores a lawful drive has no fault
-pub stored-no-fault : (bytes : List ℕ) (drive : DriveState) (fault : FileFault) → IsStored bytes drive → IsLawful drive → IsFileFault bytes fault → is_of_file fault ≡ false
+pub stored-no-fault : (bytes : List ℕ) (drive : DriveState) (fault : ReadFault) → IsStored bytes drive → IsLawful drive → IsFileFault bytes fault → is_of_file fault ≡ false
 stored-no-fault bytes drive (Image fault) stored lawful (inl front) = image-no-fault stored.parts.image (journal_bytes start stored.parts.changes ++ stored.parts.cut) stored.parts.saved fault stored.has.is_image (rw stored.has.text at front)
 stored-no-fault bytes drive (Image fault) stored lawful (inr behind) = behind-image bytes stored.parts stored.has fault behind
 stored-no-fault bytes drive (files.Long at) stored lawful f = absurd (behind-none bytes stored.parts stored.has (files.Long at) f.image f.rest f.saved f.text f.is_image f.fails)

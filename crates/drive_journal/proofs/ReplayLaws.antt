@@ -15,8 +15,8 @@ use Rattle.drive_journal.specs.FileFaults.{FailsBehindChanges, IsJournalFault}
 use Rattle.drive_journal.specs.Reading.{IsDamaged, ReadsChange, Replays, SoFar}
 use Rattle.drive_journal.specs.Replay.{stored_changed}
 use Rattle.drive_journal.specs.Tail.{IsCutOff, IsTailFault, begins_as_mark}
-use Rattle.drive_journal.specs.declared.fault.FileFault.{FileFault}
-use Rattle.drive_journal.specs.declared.fault.FileFault.TheVariants.{Damaged, Earlier, Long}
+use Rattle.drive_journal.specs.declared.fault.ReadFault.{ReadFault}
+use Rattle.drive_journal.specs.declared.fault.ReadFault.TheVariants.{Damaged, Earlier, Long}
 use Rattle.drive_journal.proofs.CutLaws.{cut-nothing, each-more, journal-more, length-change, sum-more}
 use Rattle.drive_journal.proofs.ReadLaws.{earlier-other, known-so, other-none}
 use Rattle.drive_journal.proofs.StoredLaws.{AreWhole, replayed-zones, stored-more}
@@ -78,7 +78,7 @@ module _ (geometry : Geometry) (old new : Option (List ℕ)) (before after : Lis
   so-far-whole in_range whole = rw so.zones (replayed-zones geometry before so.changes in_range whole so.each).1
 
   -- what is left has a fault
-  fails : (fault : FileFault) → IfSome new (λ rest. HasNoChange geometry sum rest × IsTailFault geometry sum from at rest fault) → IfSome old (λ bytes. FailsBehindChanges geometry from bytes fault)
+  fails : (fault : ReadFault) → IfSome new (λ rest. HasNoChange geometry sum rest × IsTailFault geometry sum from at rest fault) → IfSome old (λ bytes. FailsBehindChanges geometry from bytes fault)
   fails fault left = by old new so.text left
     where
       by : (old new : Option (List ℕ)) → Consumes old new (journal_bytes start so.changes) → IfSome new (λ rest. HasNoChange geometry sum rest × IsTailFault geometry sum from at rest fault) → IfSome old (λ bytes. FailsBehindChanges geometry from bytes fault)

@@ -3,8 +3,8 @@ use Rattle.std.specs.Prelude.{◌≡◌, ◌⊎◌, ℕ, ◌+◌, ◌<◌, ◌�
 use Rattle.std.specs.List.{starts_with}
 use Rattle.zone_states.specs.declared.geometry.Geometry.{Geometry}
 use Rattle.drive_journal.specs.Change.{HasNoChange, IsEntry, Sum, data_length, earlier_mark, head_bytes, mark}
-use Rattle.drive_journal.specs.declared.fault.FileFault.{FileFault}
-use Rattle.drive_journal.specs.declared.fault.FileFault.TheVariants.{Damaged, Earlier, Long}
+use Rattle.drive_journal.specs.declared.fault.ReadFault.{ReadFault}
+use Rattle.drive_journal.specs.declared.fault.ReadFault.TheVariants.{Damaged, Earlier, Long}
 
 -- these bytes begin as the mark does, as far as there are bytes
 abbrev pub begins_as_mark : List ℕ → Bool
@@ -35,7 +35,7 @@ pub record IsCutOff (geometry : Geometry) (sum : Sum) (bytes : List ℕ) : Type 
 
 -- What is wrong with bytes at a place of a file, whose changes would begin at `from`, if no whole change is at their front.
 -- Directly after the image come changes of the version before, or other bytes. All else that was not cut off is damaged.
-abbrev pub IsTailFault : Geometry → Sum → ℕ → ℕ → List ℕ → FileFault → Type 0
+abbrev pub IsTailFault : Geometry → Sum → ℕ → ℕ → List ℕ → ReadFault → Type 0
 IsTailFault geometry sum from at bytes (Earlier place) = (place ≡ at) × (at ≡ from) × (take 8 bytes ≡ earlier_mark)
 IsTailFault geometry sum from at bytes (Long place) =
     (place ≡ at) × (at ≡ from) × (begins_as_mark bytes ≡ false) × (take 8 bytes ≡ earlier_mark → ⊥)

@@ -9,7 +9,7 @@ ghost use Rattle.drive_journal.specs.Change.{beside_bytes, change_bytes, changes
 ghost use Rattle.drive_journal.specs.Change.{sum_over};
 
 use crate::foreseeing::Foreseeing;
-use crate::store::Store;
+use crate::store::ChangeStore;
 use byteorder::{ByteOrder, LittleEndian};
 use disk_files::WriteFault;
 use drive_port::Device;
@@ -69,7 +69,7 @@ pub(crate) fn written_of<'a>(entry: &[u8; 64], bytes: &'a [u8]) -> &'a [u8]
 /// Writes the change of an entry and its data to a store. `sum` is the sum before it, and the sum
 /// after it is returned. The parts are written one after the other, so that the data need not be
 /// copied. After a fault a beginning of the change is written.
-pub(crate) fn write_change<D: Device, S: Store<D>>(
+pub(crate) fn write_change<D: Device, S: ChangeStore<D>>(
     store: &mut S,
     sum: Sum,
     entry: &[u8; 64],

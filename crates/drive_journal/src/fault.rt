@@ -1,6 +1,6 @@
 ghost use Rattle.std.specs.Prelude.{◌≡◌};
 ghost use Rattle.drive_images.specs.declared.fault.ImageFault.TheVariants.{OutOfMemory};
-ghost use Rattle.drive_journal.specs.declared.fault.FileFault.TheVariants.{Image};
+ghost use Rattle.drive_journal.specs.declared.fault.ReadFault.TheVariants.{Image};
 
 use drive_images::ImageFault;
 use std::alloc::AllocError;
@@ -8,7 +8,7 @@ use thiserror::Error;
 
 /// Why no drive is read in a file: the first fault that is met.
 #[derive(Clone, Copy, Debug, PartialEq, Eq, Error)]
-pub enum FileFault {
+pub enum ReadFault {
     /// The file does not begin with an image.
     #[error("{0}")]
     Image(ImageFault),
@@ -26,18 +26,18 @@ pub enum FileFault {
     Zones,
 }
 
-impl From<ImageFault> for FileFault {
+impl From<ImageFault> for ReadFault {
     ghost from_gives = { λ fault file_fault. file_fault ≡ Image fault };
 
-    fn from(fault: ImageFault) -> FileFault {
-        FileFault::Image(fault)
+    fn from(fault: ImageFault) -> ReadFault {
+        ReadFault::Image(fault)
     }
 }
 
-impl From<AllocError> for FileFault {
+impl From<AllocError> for ReadFault {
     ghost from_gives = { λ _ fault. fault ≡ Image OutOfMemory };
 
-    fn from(_error: AllocError) -> FileFault {
-        FileFault::Image(ImageFault::OutOfMemory)
+    fn from(_error: AllocError) -> ReadFault {
+        ReadFault::Image(ImageFault::OutOfMemory)
     }
 }

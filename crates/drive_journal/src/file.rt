@@ -11,7 +11,7 @@ ghost use Rattle.drive_journal.specs.FileFaults.{IsFileFault};
 ghost use Rattle.drive_journal.specs.Replay.{HaveWholeBlocks, at_rest};
 
 use crate::change::Sum;
-use crate::fault::FileFault;
+use crate::fault::ReadFault;
 use crate::replayed::Replayed;
 use crate::replaying::{close_zones, replay};
 use drive_images::{image_length, read_image_front};
@@ -34,7 +34,7 @@ pub struct OpenedDrive {
     pub is_image: bool,
 }
 
-// Closes the open zones, if there were changes.
+/// Closes the open zones, if there were changes.
 fn settle(zones: &mut [Zone], block: u32, has_changes: bool)
     ensures zones { zones_of block zones.new
         ≡ (if has_changes then at_rest (zones_of block zones.old) else zones_of block zones.old) }
@@ -45,14 +45,14 @@ fn settle(zones: &mut [Zone], block: u32, has_changes: bool)
     }
 }
 
-// Whether no zone is open.
+/// Whether no zone is open.
 fn are_shut(zones: &[Zone]) -> bool
     ensures { result ≡ list_all (λ zone. not (is_open zone.state)) zones.now }
 {
     zones.iter().all(|zone| !is_open(zone.state()))
 }
 
-// Whether a file ends with its image, at `from`, and none of these zones is open.
+/// Whether a file ends with its image, at `from`, and none of these zones is open.
 fn is_rested_image(zones: &[Zone], from: u64, end: &Replayed) -> bool
     ensures { result ≡ ((end.now.is_all && (end.now.whole == from))
         && list_all (λ zone. not (is_open zone.state)) zones.now) }
@@ -60,24 +60,24 @@ fn is_rested_image(zones: &[Zone], from: u64, end: &Replayed) -> bool
     end.is_all && end.whole == from && are_shut(zones)
 }
 
-// A drive with these zones, if a drive can have them.
-fn make_drive(alloc: Global, geometry: Geometry, zones: Vec<Zone>) -> Result<Drive, FileFault>
+/// A drive with these zones, if a drive can have them.
+fn make_drive(alloc: Global, geometry: Geometry, zones: Vec<Zone>) -> Result<Drive, ReadFault>
     requires in_range { IsInRange geometry }
     requires whole { HaveWholeBlocks geometry.block zones.items }
     ensures ok { IfOk result (λ drive. drive.state ≡ unused geometry (zones_of geometry.block zones.items)) }
-    ensures err { IfErr result (λ fault. fault ≡ FileFault.Zones) }
+    ensures err { IfErr result (λ fault. fault ≡ ReadFault.Zones) }
     ensures none { OnErr result (IsLawful (unused geometry (zones_of geometry.block zones.items)) → ⊥) }
 {
     match Drive::from_zones(alloc, geometry, zones) {
         Ok(drive) => Ok(drive),
-        Err(_) => Err(FileFault::Zones),
+        Err(_) => Err(ReadFault::Zones),
     }
 }
 
 /// Reads the drive that a file holds: its image, and all changes after it. The drive has completed
 /// no command. If there are changes, its open zones are closed, as after a restart. Else the zones
 /// are as they were saved.
-pub fn open_drive<R: Read>(alloc: Global, reader: &mut R) -> Result<OpenedDrive, FileFault>
+pub fn open_drive<R: Read>(alloc: Global, reader: &mut R) -> Result<OpenedDrive, ReadFault>
     ensures ok { IfOk result (λ opened. IfSome (R.remaining reader.old) (λ bytes.
         IsDriveFile bytes opened.drive.state opened.whole opened.sum)) }
     ensures image { IfOk result (λ opened. IfSome (R.remaining reader.old) (λ bytes.

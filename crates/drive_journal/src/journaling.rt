@@ -7,7 +7,7 @@ ghost use Rattle.drive_journal.specs.Journaling.{AnswersInStep, IsInStep, Writes
 use crate::change::{Sum, keep, make_ready, sum_before, will_change, write_change, written_of};
 use crate::foreseeing::Foreseeing;
 use crate::loss::Loss;
-use crate::store::Store;
+use crate::store::ChangeStore;
 use drive_port::{Device, Geometry, Halt};
 use std::alloc::Global;
 use std::marker::Model;
@@ -20,7 +20,7 @@ use std::marker::Model;
 /// has the change, but there is no memory to do the command, it has stopped too, and shows the drive
 /// after the command.
 #[derive(Drop)]
-pub struct Journaling<D: Foreseeing + Drop, S: Store<D> + Drop> {
+pub struct Journaling<D: Foreseeing + Drop, S: ChangeStore<D> + Drop> {
     device: D,
     store: S,
     loss: Loss,
@@ -31,7 +31,7 @@ pub struct Journaling<D: Foreseeing + Drop, S: Store<D> + Drop> {
     change: Vec<u8>,
 }
 
-impl<D: Foreseeing + Drop, S: Store<D> + Drop> Model for Journaling<D, S> {
+impl<D: Foreseeing + Drop, S: ChangeStore<D> + Drop> Model for Journaling<D, S> {
     ghost use Rattle.std.specs.Prelude.{◌≡◌, true};
     ghost use Rattle.drive_journal.specs.Journaling.{IsInStep, Journaled, changed_data_in, changed_entry_in};
     ghost use Rattle.drive_journal.specs.Journaling.{is_lost, shown_drive};
@@ -56,7 +56,7 @@ impl<D: Foreseeing + Drop, S: Store<D> + Drop> Model for Journaling<D, S> {
     }) × (is_lost j.loss ≡ true → S.failed j.store ≡ true) };
 }
 
-impl<D: Foreseeing + Drop, S: Store<D> + Drop> Journaling<D, S> {
+impl<D: Foreseeing + Drop, S: ChangeStore<D> + Drop> Journaling<D, S> {
     /// A device whose changes go to this store. The store has to hold the drive of the device
     /// already. `sum` is the sum after the changes in the store: `START` if it has none.
     pub fn new(alloc: Global, device: D, store: S, sum: Sum) -> Self
@@ -83,7 +83,7 @@ impl<D: Foreseeing + Drop, S: Store<D> + Drop> Journaling<D, S> {
         (self.device, self.store)
     }
 
-    // Whether a change or a completion was lost.
+    /// Whether a change or a completion was lost.
     fn is_lost(&self) -> bool
         ensures { result ≡ self.now.lost }
     {
@@ -93,7 +93,7 @@ impl<D: Foreseeing + Drop, S: Store<D> + Drop> Journaling<D, S> {
         }
     }
 
-    // Answers an entry. Bytes that come back are added to `into`.
+    /// Answers an entry. Bytes that come back are added to `into`.
     fn answer(
         &mut self,
         entry: &[u8; 64],
@@ -130,7 +130,7 @@ impl<D: Foreseeing + Drop, S: Store<D> + Drop> Journaling<D, S> {
     }
 }
 
-impl<D: Foreseeing + Drop, S: Store<D> + Drop> Device for Journaling<D, S> {
+impl<D: Foreseeing + Drop, S: ChangeStore<D> + Drop> Device for Journaling<D, S> {
     ghost drive = { λ j. j.drive };
 
     fn geometry(&self) -> Geometry {

@@ -14,8 +14,8 @@ ghost use Rattle.drive_journal.specs.FileFaults.{IsFileFault, is_of_file};
 ghost use Rattle.drive_journal.specs.Journaling.{IsInStep, Journaled};
 ghost use Rattle.drive_journal.specs.Moments.{IsOfAMoment, RunsSince};
 ghost use Rattle.drive_journal.specs.Tail.{IsCutOff};
-ghost use Rattle.drive_journal.specs.declared.fault.FileFault.{FileFault};
-ghost use Rattle.drive_journal.specs.declared.fault.FileFault.TheVariants.{Damaged};
+ghost use Rattle.drive_journal.specs.declared.fault.ReadFault.{ReadFault};
+ghost use Rattle.drive_journal.specs.declared.fault.ReadFault.TheVariants.{Damaged};
 
 /// Bytes are read as one list of changes at most, and what is left after it.
 pub fn one_reading()
@@ -58,7 +58,7 @@ pub fn cut_anywhere()
 pub fn damage_is_refused()
     ensures unread { (bytes : List ℕ) (drive : DriveState) (whole : ℕ) (sum : Sum) →
         IsDamagedFile bytes → IsDriveFile bytes drive whole sum → ⊥ }
-    ensures fault { (bytes : List ℕ) (fault : FileFault) → (damaged : IsDamagedFile bytes) →
+    ensures fault { (bytes : List ℕ) (fault : ReadFault) → (damaged : IsDamagedFile bytes) →
         IsFileFault bytes fault → is_of_file fault ≡ true → fault ≡ Damaged (damaged_at damaged) }
 {}
 
@@ -98,6 +98,6 @@ pub fn cut_at_a_moment()
 
 /// What stores a drive is never refused: a drive is read in it, unless the reader fails or memory runs out.
 pub fn stored_has_no_fault()
-    ensures { (bytes : List ℕ) (drive : DriveState) (fault : FileFault) → IsStored bytes drive → IsLawful drive →
+    ensures { (bytes : List ℕ) (drive : DriveState) (fault : ReadFault) → IsStored bytes drive → IsLawful drive →
         IsFileFault bytes fault → is_of_file fault ≡ false }
 {}

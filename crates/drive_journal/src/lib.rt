@@ -27,7 +27,7 @@
 //! * Where the store fails, the device has stopped, and shows the drive as it was before the command. If the store has
 //!   the change and there is no memory to do the command, it has stopped too, and shows the drive with the command
 //!   done. A store says whether it failed.
-//! * A store may write its bytes anew, as the image of the drive, before a change is written (`Store::renew`). Then
+//! * A store may write its bytes anew, as the image of the drive, before a change is written (`ChangeStore::renew`). Then
 //!   the sum starts again.
 //! * [`open_drive`] reads the drive that a file holds (`IsDriveFile` in `specs/File.antt`), restarted if changes
 //!   follow the image, with how many of its bytes are whole and the sum that they end with; or it tells its first
@@ -70,11 +70,11 @@ mod replaying;
 mod store;
 
 pub use change::{START, Sum};
-pub use fault::FileFault;
+pub use fault::ReadFault;
 pub use file::{OpenedDrive, open_drive};
 pub use foreseeing::Foreseeing;
 pub use journaling::Journaling;
 pub use loss::Loss;
 pub use replayed::Replayed;
 pub use replaying::replay;
-pub use store::{Held, Store, Unknown};
+pub use store::{ChangeStore, Held, Unknown};

@@ -7,7 +7,7 @@ ghost use Rattle.drive_journal.specs.Reading.{Replays};
 ghost use Rattle.drive_journal.specs.Replay.{HaveWholeBlocks, at_rest, stored_changed, written_in};
 
 use crate::change::{START, Sum};
-use crate::fault::FileFault;
+use crate::fault::ReadFault;
 use crate::found::Found;
 use crate::read::read_change;
 use crate::replayed::Replayed;
@@ -93,13 +93,13 @@ pub(crate) fn close_zones(block: u32, zones: &mut [Zone])
 
 /// The fault of bytes at `at` that do not begin as a change does. Directly after the image, which
 /// ends at `from`, it is `there`. Further on it is damage.
-fn other_fault(from: u64, at: u64, there: FileFault) -> FileFault
-    ensures { result ≡ (if at == from then there else FileFault.Damaged at) }
+fn other_fault(from: u64, at: u64, there: ReadFault) -> ReadFault
+    ensures { result ≡ (if at == from then there else ReadFault.Damaged at) }
 {
     if at == from {
         there
     } else {
-        FileFault::Damaged(at)
+        ReadFault::Damaged(at)
     }
 }
 
@@ -122,7 +122,7 @@ pub fn replay<R: Read>(
     geometry: &Geometry,
     zones: &mut [Zone],
     from: u64,
-) -> Result<Replayed, FileFault>
+) -> Result<Replayed, ReadFault>
     requires in_range { IsInRange geometry.now }
     requires whole { HaveWholeBlocks geometry.now.block zones.old }
     ensures ok { IfOk result (λ end. Replays geometry.now (R.remaining reader.old) from
@@ -139,15 +139,15 @@ pub fn replay<R: Read>(
             Found::Change(next) => sum = next,
             Found::End => return Ok(ends(at, sum, true)),
             Found::CutOff => return Ok(ends(at, sum, false)),
-            Found::Damaged => return Err(FileFault::Damaged(at)),
-            Found::Earlier => return Err(other_fault(from, at, FileFault::Earlier(at))),
-            Found::Other => return Err(other_fault(from, at, FileFault::Long(at))),
+            Found::Damaged => return Err(ReadFault::Damaged(at)),
+            Found::Earlier => return Err(other_fault(from, at, ReadFault::Earlier(at))),
+            Found::Other => return Err(other_fault(from, at, ReadFault::Long(at))),
         }
         apply_change(geometry, zones, Command::decode(&entry), &bytes)?;
         let Some(next) = at.checked_add(88 + bytes.len() as u64) else {
-            return Err(FileFault::Image(ImageFault::Input));
+            return Err(ReadFault::Image(ImageFault::Input));
         };
         at = next;
     }
-    Err(FileFault::Image(ImageFault::Input))
+    Err(ReadFault::Image(ImageFault::Input))
 }

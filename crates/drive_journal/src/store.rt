@@ -15,7 +15,7 @@ use zone_drive::Drive;
 
 /// Where the changes of a device are written to: bytes in memory, or a file. Of the bytes of a
 /// file contracts say nothing.
-pub trait Store<D: Device> {
+pub trait ChangeStore<D: Device> {
     /// The bytes that it holds, if they are known.
     ghost held: { Self → Option (List ℕ) };
 
@@ -78,7 +78,7 @@ impl<W: Write + Drop> Unknown<W> {
     }
 }
 
-impl<W: Write + Drop, D: Device> Store<D> for Unknown<W> {
+impl<W: Write + Drop, D: Device> ChangeStore<D> for Unknown<W> {
     ghost held = { λ _. None };
 
     ghost failed = { λ u. u.failed };
@@ -103,7 +103,7 @@ impl<W: Write + Drop, D: Device> Store<D> for Unknown<W> {
         false
     }
 
-    // Whoever made the writer has to cut its bytes.
+    /// Whoever made the writer has to cut its bytes.
     fn cut(&mut self, _whole: u64) {}
 }
 
@@ -147,7 +147,7 @@ impl Held {
     }
 }
 
-// The image of a drive.
+/// The image of a drive.
 fn image_of(alloc: Global, drive: &Drive) -> Result<Vec<u8>, WriteFault>
     ensures { IfOk result (λ image. IsStoredWhole image.items drive.now.state start) }
 {
@@ -157,7 +157,7 @@ fn image_of(alloc: Global, drive: &Drive) -> Result<Vec<u8>, WriteFault>
     Ok(image)
 }
 
-impl Store<Drive> for Held {
+impl ChangeStore<Drive> for Held {
     ghost held = { λ h. Some h.bytes.items };
 
     ghost failed = { λ h. h.failed };

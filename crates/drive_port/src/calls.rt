@@ -40,7 +40,7 @@ impl From<Halt> for PortFault {
     }
 }
 
-// What a call answers whose command was completed.
+/// What a call answers whose command was completed.
 #[inline(always)]
 fn answer_of(completion: &[u8; 16]) -> Result<u64, PortFault>
     requires { IsCompletion completion.now }
@@ -55,7 +55,7 @@ fn answer_of(completion: &[u8; 16]) -> Result<u64, PortFault>
     }
 }
 
-// One submit of this command, with command identifier 0.
+/// One submit of this command, with command identifier 0.
 #[inline(always)]
 fn submit<D: Device>(
     device: &mut D,
@@ -74,7 +74,7 @@ fn submit<D: Device>(
     answer_of(&completion)
 }
 
-// One submit of a command that is no Flush.
+/// One submit of a command that is no Flush.
 pub(crate) fn call<D: Device>(
     device: &mut D,
     command: &Command,
@@ -90,7 +90,7 @@ pub(crate) fn call<D: Device>(
     submit(device, command, bytes, into)
 }
 
-// The same without data, with what is returned after what `into` holds.
+/// The same without data, with what is returned after what `into` holds.
 #[inline(always)]
 fn call_extending<D: Device>(
     device: &mut D,
@@ -163,7 +163,7 @@ pub fn read_extending<D: Device>(
     Ok(())
 }
 
-// One Zone Management Send to the zone that starts there.
+/// One Zone Management Send to the zone that starts there.
 fn send<D: Device>(
     alloc: Global,
     device: &mut D,
@@ -207,7 +207,7 @@ pub fn reset<D: Device>(alloc: Global, device: &mut D, zone_start: u64) -> Resul
     send(alloc, device, zone_start, Action::Reset)
 }
 
-// One Flush.
+/// One Flush.
 fn send_flush<D: Device>(alloc: Global, device: &mut D) -> Result<(), PortFault>
     ensures gives { FlushGives (D.drive device.old) result (D.drive device.new) }
     ensures lawful { IsLawful (D.drive device.new) }

@@ -45,7 +45,7 @@ impl<D: Device + Drop> Model for StopAfter<D> {
     ghost invariant = { λ s. s.uncounted ≤ (D.drive s.device).completed };
 }
 
-// Where the torn Append goes.
+/// Where the torn Append goes.
 fn torn_start(
     command: Result<Command, DecodeFault>,
     block: u32,
@@ -110,7 +110,7 @@ impl<D: Device + Drop> StopAfter<D> {
         self.device
     }
 
-    // The command that stops.
+    /// The command that stops.
     fn stop_at(&mut self, entry: &[u8; 64], bytes: &[u8], into: &mut Vec<u8>) -> Halt
         requires going { (drive_of self.old).stopped ≡ false }
         ensures within { TearsAt (torn_at self.old.inner.geometry.block self.old.tear

@@ -84,7 +84,7 @@ small drive zone reported known = at known.geometry.block
 -- a torn tail: a header block, and fewer blocks than its entries need
 torn-tail : (drive : DriveState) (zone : ℕ) (reported : ReportedZone) (block : List ℕ) (others : List (List ℕ)) (heading : Heading) → is_full (content_at (contents drive.zones) zone).usage ≡ false → IsHeaderBlock drive.geometry.block block heading → length others < data_count heading.entries
     → IsTail drive.geometry.block (is_full (content_at (contents drive.zones) zone).usage) (block ∷ others)
-torn-tail drive zone reported block others heading full header few = rw full (inr (record { heading = heading; body = others; says = header.says; few = few; spelled = ap (λ (b : List ℕ). b ∷ others) header.spelled }))
+torn-tail drive zone reported block others heading full header few = rw full (inr (record { heading = heading; body = others; says = header.says; few = few; encoded = ap (λ (b : List ℕ). b ∷ others) header.encoded }))
 
 -- a header that is met leads to one more batch, or to the end of the zone
 met-next : (drive : DriveState) (zone : ℕ) (reported : ReportedZone) (block : List ℕ) (heading : Heading) (old new : HeadsView) (before seen seen' : List ℕ) (next : Option Bool) → Meets drive zone reported old block heading

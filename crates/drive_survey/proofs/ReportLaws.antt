@@ -172,7 +172,8 @@ lawful-closes geometry old new closes lawful = record { written = at closes.stat
     at (inl same) = rw (same, closes.blocks) lawful.written
     at (inr closed) = let held : length old.blocks < geometry.capacity = rw closed.0 at lawful.written in rw (closed.1, closes.blocks) held
 
-lawful-closing : (geometry : Geometry) (old new : List Zone) → IsClosing old new → AllByRecursion (IsLawfulZone geometry) old → AllByRecursion (IsLawfulZone geometry) new
+-- zones that are lawful stay so where a controller closes some
+pub lawful-closing : (geometry : Geometry) (old new : List Zone) → IsClosing old new → AllByRecursion (IsLawfulZone geometry) old → AllByRecursion (IsLawfulZone geometry) new
 lawful-closing geometry [] [] closing all = tt
 lawful-closing geometry [] (n ∷ ns) closing all = absurd closing
 lawful-closing geometry (o ∷ os) [] closing all = absurd closing

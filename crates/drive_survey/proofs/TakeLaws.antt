@@ -11,7 +11,7 @@ use Rattle.batch_log.specs.Header.{Heading, IsHeaderBlock, header_block}
 use Rattle.batch_log.specs.Ending.{Ending, ending_of}
 use Rattle.batch_log.specs.Log.{Batch, BeginsWith, BeginsWithNoBatch, IsBatch, IsLog, IsTail, batch_blocks, data_count, log_of, log_size}
 use Rattle.batch_log.proofs.HeaderLaws.{one_header}
-use Rattle.batch_log.proofs.LogLaws.{count_tail, one_log, spelled_length}
+use Rattle.batch_log.proofs.LogLaws.{count_tail, one_log, encoded_length}
 use Rattle.drive_array.proofs.AllLaws.{all-append}
 use Rattle.drive_array.specs.ZoneLogs.{has_torn_tail, readable, zone_log}
 use Rattle.drive_array.proofs.ZoneLogLaws.{readable-not_full}
@@ -67,8 +67,8 @@ flat-more size (b ∷ bs) batch rest =
 -- what is after the batches
 pub rest-is : (size : ℕ) (blocks rest : List (List ℕ)) (log : List Batch) → BeginsWith size blocks log rest → rest ≡ drop (log_size log) blocks
 rest-is size blocks rest log front =
-    let long = spelled_length size log front.batches in
-    sym (ap (λ (bs : List (List ℕ)). drop (log_size log) bs) front.spelled ∙ ap (λ (n : ℕ). drop n (flat_map (batch_blocks size) log ++ rest)) (sym long) ∙ drop-all-of (flat_map (batch_blocks size) log) rest)
+    let long = encoded_length size log front.batches in
+    sym (ap (λ (bs : List (List ℕ)). drop (log_size log) bs) front.encoded ∙ ap (λ (n : ℕ). drop n (flat_map (batch_blocks size) log ++ rest)) (sym long) ∙ drop-all-of (flat_map (batch_blocks size) log) rest)
 
 -- ---- the front grows
 
@@ -85,9 +85,9 @@ front-more : (size : ℕ) (blocks others : List (List ℕ)) (block : List ℕ) (
 front-more size blocks others block log heading front header enough =
     let batch = batch_with heading others in
     let after = drop (data_count heading.entries) others in
-    let whole : block ∷ others ≡ batch_blocks size batch ++ after = ap (λ (b : List ℕ). b ∷ others) header.spelled ∙ ap (λ (bs : List (List ℕ)). header_block size heading ∷ bs) (split-at (data_count heading.entries) others) in
+    let whole : block ∷ others ≡ batch_blocks size batch ++ after = ap (λ (b : List ℕ). b ∷ others) header.encoded ∙ ap (λ (bs : List (List ℕ)). header_block size heading ∷ bs) (split-at (data_count heading.entries) others) in
     record {
-      spelled = front.spelled ∙ ap (λ (bs : List (List ℕ)). flat_map (batch_blocks size) log ++ bs) whole ∙ flat-more size log batch after;
+      encoded = front.encoded ∙ ap (λ (bs : List (List ℕ)). flat_map (batch_blocks size) log ++ bs) whole ∙ flat-more size log batch after;
       batches = all-append (IsBatch size) log (batch ∷ []) front.batches (record { heading = header.says; body = length-take (data_count heading.entries) others ∙ omega (arith, enough) }, tt);
     }
 
@@ -95,7 +95,7 @@ front-more size blocks others block log heading front header enough =
 
 -- at the start of a zone no header was taken
 pub takes-none : (geometry : Geometry) (content : Content) (before : List ℕ) → Takes geometry content before no_heads before
-takes-none geometry content before = record { log = []; rest = readable geometry content; front = record { spelled = refl; batches = tt }; heads_are = refl; seen_are = refl; none = refl }
+takes-none geometry content before = record { log = []; rest = readable geometry content; front = record { encoded = refl; batches = tt }; heads_are = refl; seen_are = refl; none = refl }
 
 -- a header without a fault, with enough blocks after it, is taken as the next one
 pub takes-more : (geometry : Geometry) (content : Content) (before seen : List ℕ) (heads : HeadsView) (block : List ℕ) (others : List (List ℕ)) (heading : Heading)
@@ -192,15 +192,15 @@ takes-bad geometry content zone before seen heads ending fault no_more is fails 
 
 -- blocks whose first is no header block begin with no batch
 pub none-begins : (size : ℕ) (block : List ℕ) (others : List (List ℕ)) → ((heading : Heading) → IsHeaderBlock size block heading → ⊥) → BeginsWithNoBatch size (block ∷ others)
-none-begins size block others never batch after is spelled =
-    let same : block ≡ header_block size batch.heading = ap (λ (bs : List (List ℕ)). get_or bs 0 []) spelled in
-    never batch.heading (record { says = is.heading; spelled = same })
+none-begins size block others never batch after is encoded =
+    let same : block ≡ header_block size batch.heading = ap (λ (bs : List (List ℕ)). get_or bs 0 []) encoded in
+    never batch.heading (record { says = is.heading; encoded = same })
 
 -- a header block with too few blocks after it begins no batch
 pub short-begins : (size : ℕ) (block : List ℕ) (others : List (List ℕ)) (heading : Heading) → size < 2 ^ 32 → IsHeaderBlock size block heading → length others < data_count heading.entries → BeginsWithNoBatch size (block ∷ others)
-short-begins size block others heading small header few batch after is spelled =
-    let same : block ≡ header_block size batch.heading = ap (λ (bs : List (List ℕ)). get_or bs 0 []) spelled in
-    let one : heading ≡ batch.heading = one_header size heading batch.heading small header.says is.heading (sym header.spelled ∙ same) in
-    let long : length others ≡ length (batch.body ++ after) = ap (λ (bs : List (List ℕ)). length (drop 1 bs)) spelled in
+short-begins size block others heading small header few batch after is encoded =
+    let same : block ≡ header_block size batch.heading = ap (λ (bs : List (List ℕ)). get_or bs 0 []) encoded in
+    let one : heading ≡ batch.heading = one_header size heading batch.heading small header.says is.heading (sym header.encoded ∙ same) in
+    let long : length others ≡ length (batch.body ++ after) = ap (λ (bs : List (List ℕ)). length (drop 1 bs)) encoded in
     let count : data_count heading.entries ≡ data_count batch.heading.entries = ap (λ (h : Heading). data_count h.entries) one in
     absurd (omega (arith, few, long, count, is.body, length-append batch.body after))

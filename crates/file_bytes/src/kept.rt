@@ -56,7 +56,7 @@ impl Kept {
         room.copy_from_slice(&self.bytes[from..from + room.len()]);
     }
 
-    // Whether a change of a range touches what is kept.
+    /// Whether a change of a range touches what is kept.
     fn is_touched(&self, at: u64, count: usize) -> bool
         ensures { result ≡ false → (self.now.start + length self.now.bytes.items ≤ at) ⊎ (at + count ≤ self.now.start) }
     {

@@ -47,12 +47,12 @@ impl Model for MemoryFile {
     ghost invariant = { λ f. AreLeft f.changed.items f.synced.items f.bytes.items };
 }
 
-// The error where memory is missing.
+/// The error where memory is missing.
 pub(crate) fn no_memory() -> io::Error {
     io::ErrorKind::OutOfMemory.into()
 }
 
-// Whether an offset is outside of each range.
+/// Whether an offset is outside of each range.
 fn is_outside(ranges: &[Range], at: u64) -> bool
     ensures { IsTrue result ↔ AllByRecursion (IsOutside at) ranges.now }
 {
@@ -134,7 +134,7 @@ fn copy_of(alloc: Global, bytes: &[u8]) -> Result<Vec<u8>, AllocError>
     Ok(copy)
 }
 
-// Puts a part in the place of the bytes from an offset on.
+/// Puts a part in the place of the bytes from an offset on.
 fn overwrite(bytes: &mut Vec<u8>, at: usize, part: &[u8])
     requires { at + length part.now ≤ length bytes.old.items }
     ensures { bytes.new.items ≡ splice bytes.old.items at (at + length part.now) part.now }
@@ -142,7 +142,7 @@ fn overwrite(bytes: &mut Vec<u8>, at: usize, part: &[u8])
     bytes[at..at + part.len()].copy_from_slice(part);
 }
 
-// Puts zeros in the place of that many bytes from an offset on.
+/// Puts zeros in the place of that many bytes from an offset on.
 fn clear(bytes: &mut Vec<u8>, at: usize, count: usize)
     requires { at + count ≤ length bytes.old.items }
     ensures { bytes.new.items ≡ splice bytes.old.items at (at + count) (replicate count 0) }
@@ -151,7 +151,7 @@ fn clear(bytes: &mut Vec<u8>, at: usize, count: usize)
 }
 
 impl MemoryFile {
-    // Writes these bytes from an offset on. Without memory for that nothing changes.
+    /// Writes these bytes from an offset on. Without memory for that nothing changes.
     fn change(&mut self, at: u64, part: &[u8]) -> Result<(), AllocError>
         requires { at + length part.now ≤ length self.old.bytes }
         ensures written { OnOk result (Holds self.new.bytes at part.now) }
@@ -240,7 +240,7 @@ impl FileBytes for MemoryFile {
         Ok(())
     }
 
-    // The range reads as zeros then. Without memory to note that, nothing changes.
+    /// The range reads as zeros then. Without memory to note that, nothing changes.
     fn release(&mut self, at: u64, count: u64) {
         let range = Range {
             start: at,

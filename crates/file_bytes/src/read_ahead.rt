@@ -8,7 +8,7 @@ use std::alloc::Global;
 use std::io;
 use std::marker::Model;
 
-// Reads ahead into what is kept. Where memory is missing or the read fails, nothing is kept any more.
+/// Reads ahead into what is kept. Where memory is missing or the read fails, nothing is kept any more.
 fn fill<F: FileBytes>(file: &mut F, kept: &mut Kept, at: u64, count: usize) -> bool
     requires within { at + count ≤ length (F.FileBytes.seen file.old) }
     ensures filled { IsTrue result → (kept.new.start ≡ at) × (length kept.new.bytes.items ≡ count) }
@@ -29,7 +29,7 @@ fn fill<F: FileBytes>(file: &mut F, kept: &mut Kept, at: u64, count: usize) -> b
     true
 }
 
-// Reads ahead where that is of use, and takes the bytes that were asked from it. Else it says no.
+/// Reads ahead where that is of use, and takes the bytes that were asked from it. Else it says no.
 fn read_wide<F: FileBytes>(file: &mut F, kept: &mut Kept, at: u64, room: &mut [u8]) -> bool
     requires within { at + length room.old ≤ length (F.FileBytes.seen file.old) }
     requires kept { AreKept (F.FileBytes.seen file.old) kept.old }
@@ -48,7 +48,7 @@ fn read_wide<F: FileBytes>(file: &mut F, kept: &mut Kept, at: u64, room: &mut [u
     true
 }
 
-// Fills `room` from what is kept, or by reading ahead, or by a read of the file as it is.
+/// Fills `room` from what is kept, or by reading ahead, or by a read of the file as it is.
 fn read<F: FileBytes>(file: &mut F, kept: &mut Kept, at: u64, room: &mut [u8]) -> io::Result<()>
     requires within { at + length room.old ≤ length (F.FileBytes.seen file.old) }
     requires kept { AreKept (F.FileBytes.seen file.old) kept.old }

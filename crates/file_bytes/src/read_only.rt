@@ -39,7 +39,7 @@ impl<F: FileBytes + Drop> Model for ReadOnlyFile<F> {
     ghost invariant = { λ f. IsKept (F.seen f.inner) f.size f.pages.keys f.kept.items };
 }
 
-// The bytes of a page of a file, with zeros past the end of the file.
+/// The bytes of a page of a file, with zeros past the end of the file.
 fn page_of<F: FileBytes>(alloc: Global, inner: &mut F, number: u64) -> io::Result<Vec<u8>>
     requires { 4096 * number < length (F.FileBytes.seen inner.old) }
     ensures page { IfOk result (λ page. IsPage (F.FileBytes.seen inner.old) number page.items) }
@@ -55,7 +55,7 @@ fn page_of<F: FileBytes>(alloc: Global, inner: &mut F, number: u64) -> io::Resul
     Ok(page)
 }
 
-// Puts a part of other bytes in the place of the bytes from an offset on.
+/// Puts a part of other bytes in the place of the bytes from an offset on.
 fn put(bytes: &mut [u8], at: usize, others: &[u8], from: usize, count: usize)
     requires room { at + count ≤ length bytes.old }
     requires part { from + count ≤ length others.now }
@@ -64,7 +64,7 @@ fn put(bytes: &mut [u8], at: usize, others: &[u8], from: usize, count: usize)
     bytes[at..at + count].copy_from_slice(&others[from..from + count]);
 }
 
-// The same in a vector, which stays as long as it is.
+/// The same in a vector, which stays as long as it is.
 fn put_in(bytes: &mut Vec<u8>, at: usize, others: &[u8], from: usize, count: usize)
     requires room { at + count ≤ length bytes.old.items }
     requires part { from + count ≤ length others.now }
@@ -73,7 +73,7 @@ fn put_in(bytes: &mut Vec<u8>, at: usize, others: &[u8], from: usize, count: usi
     put(bytes, at, others, from, count);
 }
 
-// How many of the bytes from an offset on are in its page.
+/// How many of the bytes from an offset on are in its page.
 fn count_in_page(at: u64, left: usize) -> usize
     requires { 1 ≤ left }
     ensures some { 1 ≤ result }
@@ -105,7 +105,7 @@ impl<F: FileBytes + Drop> ReadOnlyFile<F> {
         self.inner
     }
 
-    // Where the bytes of a page begin, if it is kept.
+    /// Where the bytes of a page begin, if it is kept.
     fn place_of(&self, number: u64) -> Option<usize>
         ensures { result ≡ place_of self.now.pages number }
     {
@@ -113,7 +113,7 @@ impl<F: FileBytes + Drop> ReadOnlyFile<F> {
         Some(PAGE * slot)
     }
 
-    // Keeps a page. It is shown as before.
+    /// Keeps a page. It is shown as before.
     fn keep_page(&mut self, number: u64) -> io::Result<usize>
         requires { 4096 * number < length (F.FileBytes.seen self.old.inner) }
         ensures inner { F.FileBytes.seen self.new.inner ≡ F.FileBytes.seen self.old.inner }
@@ -135,7 +135,7 @@ impl<F: FileBytes + Drop> ReadOnlyFile<F> {
         Ok(place)
     }
 
-    // Shows more bytes of a room, which are in one page.
+    /// Shows more bytes of a room, which are in one page.
     fn show_more(&self, at: u64, room: &mut [u8], done: usize, count: usize)
         requires small { length (F.FileBytes.seen self.now.inner) < 2 ^ 64 }
         requires one { (at + done) % 4096 + count ≤ 4096 }
@@ -153,7 +153,7 @@ impl<F: FileBytes + Drop> ReadOnlyFile<F> {
         }
     }
 
-    // Puts what is kept over the bytes of the file within.
+    /// Puts what is kept over the bytes of the file within.
     fn show(&self, at: u64, room: &mut [u8])
         requires small { length (F.FileBytes.seen self.now.inner) < 2 ^ 64 }
         requires read { Holds (F.FileBytes.seen self.now.inner) at room.old }
@@ -167,7 +167,7 @@ impl<F: FileBytes + Drop> ReadOnlyFile<F> {
         }
     }
 
-    // Writes more of these bytes, which are in one page.
+    /// Writes more of these bytes, which are in one page.
     fn write_more(&mut self, at: u64, bytes: &[u8], done: usize, count: usize) -> io::Result<()>
         requires small { length (F.FileBytes.seen self.old.inner) < 2 ^ 64 }
         requires some { 1 ≤ count }
@@ -224,10 +224,10 @@ impl<F: FileBytes + Drop> FileBytes for ReadOnlyFile<F> {
         self.write_more(at, &word.to_le_bytes(), 0, 8)
     }
 
-    // Nothing of it takes room on the disk.
+    /// Nothing of it takes room on the disk.
     fn release(&mut self, _at: u64, _count: u64) {}
 
-    // A loss of power leaves nothing of what is in memory, and the file within is as it was.
+    /// A loss of power leaves nothing of what is in memory, and the file within is as it was.
     fn sync(&mut self) -> io::Result<()> {
         Ok(())
     }

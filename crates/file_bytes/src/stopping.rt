@@ -44,12 +44,12 @@ impl<F: FileBytes + Drop> StoppingFile<F> {
     }
 }
 
-// The error of a file that has stopped.
+/// The error of a file that has stopped.
 fn stopped() -> io::Error {
     io::Error::other("the file has stopped")
 }
 
-// Takes one change of those that are left, or none if none is left.
+/// Takes one change of those that are left, or none if none is left.
 fn take_change(changes: &mut u64) -> bool
     ensures some { IsTrue result ↔ (1 ≤ changes.old) }
     ensures left { changes.new ≡ changes.old - 1 }
@@ -149,7 +149,7 @@ impl<F: FileBytes + Drop> FileBytes for StoppingFile<F> {
         Err(stopped())
     }
 
-    // Nothing is given back any more once the file has stopped.
+    /// Nothing is given back any more once the file has stopped.
     fn release(&mut self, at: u64, count: u64)
         requires { at + count ≤ length (F.FileBytes.seen self.old.inner) }
         ensures others { SameBeside at count (F.FileBytes.seen self.old.inner) (F.FileBytes.seen self.new.inner) }

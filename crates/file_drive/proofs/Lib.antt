@@ -14,3 +14,4 @@ mod OpenedLaws
 pub mod FindsLaws
 mod FormatLaws
 pub mod StoringLaws
+mod LoadLaws

@@ -16,7 +16,7 @@ use zone_drive::Resources;
 use zone_states::Action;
 
 impl<F: FileBytes + Drop, S: System + Drop> FileZones<F, S> {
-    // Writes the words that the zones have after an action on all of them, in the live table that is not picked.
+    /// Writes the words that the zones have after an action on all of them, in the live table that is not picked.
     fn write_spare(&mut self, action: Action) -> Result<(), Halt>
         ensures shape { self.new.shape ≡ self.old.shape }
         ensures entries { self.new.entries ≡ self.old.entries }
@@ -45,7 +45,7 @@ impl<F: FileBytes + Drop, S: System + Drop> FileZones<F, S> {
         Ok(())
     }
 
-    // Picks that table.
+    /// Picks that table.
     fn pick_spare(&mut self, action: Action) -> Result<(), Halt>
         requires { IsSpared F.seen action self.old }
         ensures shape { self.new.shape ≡ self.old.shape }

@@ -10,7 +10,7 @@ use drive_port::Halt;
 use file_bytes::FileBytes;
 
 impl<F: FileBytes + Drop, S: System + Drop> FileZones<F, S> {
-    // Writes bytes behind the written ones of a zone, in its place. No table counts them yet, nor did the last flush.
+    /// Writes bytes behind the written ones of a zone, in its place. No table counts them yet, nor did the last flush.
     pub(crate) fn write_data(&mut self, index: usize, bytes: &[u8]) -> Result<(), Halt>
         requires in_range { index < length self.old.entries }
         requires room { (entry_at self.old.entries index).written * self.old.shape.block + length bytes.now

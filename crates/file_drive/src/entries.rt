@@ -12,7 +12,7 @@ use std::alloc::{AllocError, Global};
 use zone_drive::{Resources, may_hold};
 use zone_states::Geometry;
 
-// Whether a table may have this word for a zone.
+/// Whether a table may have this word for a zone.
 fn is_word(geometry: &Geometry, word: u64) -> bool
     ensures { IsTrue result ↔ IsWord geometry.now word }
 {
@@ -20,7 +20,7 @@ fn is_word(geometry: &Geometry, word: u64) -> bool
     entry.word() == word && entry.written <= geometry.capacity
 }
 
-// Refuses a table that has a word which no zone has. The first one is named.
+/// Refuses a table that has a word which no zone has. The first one is named.
 fn check_words(geometry: &Geometry, words: &[u64]) -> Result<(), OpenFault>
     requires { length words.now ≤ 65536 }
     ensures ok { OnOk result (AllByRecursion (IsWord geometry.now) words.now) }
@@ -34,7 +34,7 @@ fn check_words(geometry: &Geometry, words: &[u64]) -> Result<(), OpenFault>
     Ok(())
 }
 
-// Refuses zones of which one has more blocks than its state allows. The first one is named.
+/// Refuses zones of which one has more blocks than its state allows. The first one is named.
 fn check_entries(geometry: &Geometry, entries: &[Entry]) -> Result<(), OpenFault>
     requires { length entries.now ≤ 65536 }
     ensures ok { OnOk result (AllByRecursion (Holds geometry.now) entries.now) }
@@ -49,7 +49,7 @@ fn check_entries(geometry: &Geometry, entries: &[Entry]) -> Result<(), OpenFault
     Ok(())
 }
 
-// The entries that the words of a table stand for.
+/// The entries that the words of a table stand for.
 fn entries_of(alloc: Global, words: &[u64]) -> Result<Vec<Entry>, AllocError>
     ensures { IfOk result (λ entries. entries.items ≡ map entry_of words.now) }
 {
@@ -60,7 +60,7 @@ fn entries_of(alloc: Global, words: &[u64]) -> Result<Vec<Entry>, AllocError>
     Ok(entries)
 }
 
-// Refuses zones if too many of them are active or open.
+/// Refuses zones if too many of them are active or open.
 fn check_limits(geometry: &Geometry, entries: &[Entry]) -> Result<(), OpenFault>
     requires { length entries.now ≤ 65536 }
     ensures ok { OnOk result (AreFew geometry.now entries.now) }

@@ -26,8 +26,8 @@ fn restarted(state: ZoneState) -> ZoneState
     }
 }
 
-// The number of a state in a table. It is that of the standard, except that Empty has 0. So in a
-// table of zeros all zones are Empty.
+/// The number of a state in a table. It is that of the standard, except that Empty has 0. So in a
+/// table of zeros all zones are Empty.
 fn table_code(state: ZoneState) -> u8
     ensures { result ≡ table_code state }
 {
@@ -37,7 +37,7 @@ fn table_code(state: ZoneState) -> u8
     state.code()
 }
 
-// The state that a number in a table means. A number that means none gives Offline.
+/// The state that a number in a table means. A number that means none gives Offline.
 fn state_from(code: u64) -> ZoneState
     ensures { result ≡ state_from code }
 {
@@ -101,8 +101,8 @@ impl Entry {
         moved || flushed.written <= self.written
     }
 
-    // Whether the zone is in its second place after an action. If the last flush has blocks of the
-    // zone, a Reset takes the other place than the one of these blocks.
+    /// Whether the zone is in its second place after an action. If the last flush has blocks of the
+    /// zone, a Reset takes the other place than the one of these blocks.
     fn second_after(self, action: Action, flushed: Entry) -> bool
         ensures { result ≡ second_after action flushed self }
     {

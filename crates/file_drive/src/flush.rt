@@ -12,7 +12,7 @@ use file_bytes::FileBytes;
 use std::mem::swap;
 
 impl<F: FileBytes + Drop, S: System + Drop> FileZones<F, S> {
-    // Writes the words of the zones to the flushed table that is not picked, and syncs the file.
+    /// Writes the words of the zones to the flushed table that is not picked, and syncs the file.
     fn write_other(&mut self) -> Result<(), Halt>
         ensures shape { self.new.shape ≡ self.old.shape }
         ensures entries { self.new.entries ≡ self.old.entries }
@@ -44,7 +44,7 @@ impl<F: FileBytes + Drop, S: System + Drop> FileZones<F, S> {
         Ok(())
     }
 
-    // Picks that table, and syncs the file. If that fails, a loss of power may leave either table picked.
+    /// Picks that table, and syncs the file. If that fails, a loss of power may leave either table picked.
     fn pick_other(&mut self) -> Result<(), Halt>
         requires { IsReady F.seen F.may_leave self.old }
         ensures shape { self.new.shape ≡ self.old.shape }

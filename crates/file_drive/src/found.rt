@@ -28,7 +28,7 @@ pub fn is_same_boot(served: Boot, boot: Boot) -> bool
     boot.second != 0 && served.first == boot.first && served.second == boot.second
 }
 
-// The words of the table that counts: the live one in the same boot, and else the flushed one.
+/// The words of the table that counts: the live one in the same boot, and else the flushed one.
 fn counting(tables: &Tables, is_same_boot: bool) -> &[u64]
     ensures { result.now ≡ (if is_same_boot then tables.now.current.items else tables.now.safe.items) }
 {

@@ -14,7 +14,7 @@ use file_bytes::FileBytes;
 use std::io;
 use zone_states::Geometry;
 
-// The words of the head that say the shape of a drive.
+/// The words of the head that say the shape of a drive.
 fn shape_words(geometry: &Geometry) -> [u64; 8]
     ensures { result ≡ shape_words geometry.now }
 {
@@ -30,7 +30,7 @@ fn shape_words(geometry: &Geometry) -> [u64; 8]
     ]
 }
 
-// Writes words, one after the other.
+/// Writes words, one after the other.
 fn put_words<F: FileBytes>(file: &mut F, at: u64, words: &[u64]) -> io::Result<()>
     requires aligned { at % 8 ≡ 0 }
     requires within { at + 8 * length words.now ≤ length (F.FileBytes.seen file.old) }
@@ -47,7 +47,7 @@ fn put_words<F: FileBytes>(file: &mut F, at: u64, words: &[u64]) -> io::Result<(
     Ok(())
 }
 
-// Writes the first word of the head, and syncs the file.
+/// Writes the first word of the head, and syncs the file.
 fn put_magic<F: FileBytes>(file: &mut F) -> io::Result<()>
     requires within { 8 ≤ length (F.FileBytes.seen file.old) }
     requires usable { IsTrue (F.FileBytes.is_usable file.old) }

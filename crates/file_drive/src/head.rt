@@ -13,7 +13,7 @@ use file_bytes::FileBytes;
 use std::alloc::Global;
 use zone_states::Geometry;
 
-// The eight bytes that a drive in a file begins with, ZNSDRV01, as a word.
+/// The eight bytes that a drive in a file begins with, ZNSDRV01, as a word.
 pub const MAGIC: u64 = 0x3130_5652_4453_4e5a;
 
 /// The words of the head that say the shape of the drive, and the first word of the boot.
@@ -27,7 +27,7 @@ pub struct Head {
     pub boot: Boot,
 }
 
-// Refuses a file that does not begin as a drive in a file does.
+/// Refuses a file that does not begin as a drive in a file does.
 fn check_magic(word: u64) -> Result<(), OpenFault>
     ensures ok { OnOk result (word ≡ magic) }
     ensures err { IfErr result (IsMagicFault word) }
@@ -41,14 +41,14 @@ fn check_magic(word: u64) -> Result<(), OpenFault>
     Err(OpenFault::NotADrive)
 }
 
-// A word as a number of 32 bits: the largest of them where it is larger.
+/// A word as a number of 32 bits: the largest of them where it is larger.
 fn narrow(word: u64) -> u32
     ensures { result ≡ narrow word }
 {
     word.min(u64::from(u32::MAX)) as u32
 }
 
-// The shape that the words of a head say.
+/// The shape that the words of a head say.
 fn shape_of(words: &[u64]) -> Geometry
     requires { length words.now ≡ 10 }
     ensures { result ≡ shape_said words.now }
@@ -64,7 +64,7 @@ fn shape_of(words: &[u64]) -> Geometry
     }
 }
 
-// Refuses a length that is not the one that a drive of this shape has in a file.
+/// Refuses a length that is not the one that a drive of this shape has in a file.
 fn check_length(geometry: &Geometry, length: u64) -> Result<(), OpenFault>
     requires { IsInRange geometry.now }
     ensures ok { OnOk result (length ≡ file_length geometry.now) }

@@ -13,7 +13,7 @@ use file_bytes::FileBytes;
 use zone_states::Action;
 
 impl<F: FileBytes + Drop, S: System + Drop> FileZones<F, S> {
-    // Writes bytes after a zone's, as a Write or an Append does that passed its checks.
+    /// Writes bytes after a zone's, as a Write or an Append does that passed its checks.
     pub(crate) fn append(&mut self, index: usize, bytes: &[u8]) -> Result<(), Halt>
         requires in_range { index < length (filed F.seen self.old) }
         requires checks { None ≡ first_failing (append_bytes_checks self.old.shape
@@ -32,8 +32,8 @@ impl<F: FileBytes + Drop, S: System + Drop> FileZones<F, S> {
         Ok(())
     }
 
-    // Does an action on one zone. A Reset moves it out of a place where the last flush has blocks of it. The room of the
-    // blocks that it takes comes back at a flush.
+    /// Does an action on one zone. A Reset moves it out of a place where the last flush has blocks of it. The room of
+    /// the blocks that it takes comes back at a flush.
     pub(crate) fn act(&mut self, index: usize, action: Action) -> Result<(), Halt>
         requires { index < length (filed F.seen self.old) }
         ensures shape { self.new.shape ≡ self.old.shape }
@@ -50,7 +50,7 @@ impl<F: FileBytes + Drop, S: System + Drop> FileZones<F, S> {
         Ok(())
     }
 
-    // Closes a zone, as a restart does, so that its word stays. A zone that is not open stays as it is.
+    /// Closes a zone, as a restart does, so that its word stays. A zone that is not open stays as it is.
     pub(crate) fn close_one(&mut self, index: usize)
         requires { index < length (filed F.seen self.old) }
         ensures shape { self.new.shape ≡ self.old.shape }

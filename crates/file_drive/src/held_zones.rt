@@ -48,7 +48,7 @@ impl<F: FileBytes + Drop, S: System + Drop> HeldZones for FileZones<F, S> {
         self.read_zone(index, from, len, into)
     }
 
-    // The file has room for all blocks.
+    /// The file has room for all blocks.
     fn reserve(&mut self, _index: usize, _bytes: usize) -> Result<(), AllocError> {
         Ok(())
     }
@@ -71,7 +71,7 @@ impl<F: FileBytes + Drop, S: System + Drop> HeldZones for FileZones<F, S> {
         }
     }
 
-    // It looks at the counts of the groups, and at the zones of the groups that have such a zone.
+    /// It looks at the counts of the groups, and at the zones of the groups that have such a zone.
     fn close_implicit(&mut self) {
         while let Some(low) = self.lowest_implicit() {
             self.close_one(low);

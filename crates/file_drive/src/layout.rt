@@ -10,7 +10,7 @@ pub const AT_LIVE: u64 = 4096;
 /// The word that picks a flushed table.
 pub const AT_FLUSHED: u64 = 8192;
 
-// A number of bytes up to a whole number of such pieces.
+/// A number of bytes up to a whole number of such pieces.
 fn rounded(piece: u64, bytes: u64) -> u64
     requires some { 1 ≤ piece }
     requires few { bytes < 4611686018427387904 }

@@ -8,6 +8,8 @@
 //! let found = open(alloc, &mut file, &system)?;
 //! let mut drive = serve(alloc, file, system, found);
 //! append(alloc, &mut drive, 0, &[1; 1024])?;
+//! store(&mut file, &other)?;                      // the zones of a drive in memory
+//! let again = load(alloc, file, system, found)?;  // and back: the same drive, as a restart leaves it
 //! ```
 //!
 //! # What is promised
@@ -29,13 +31,17 @@
 //! * An open finds the zones of the table that counts, or tells by name why a file is no drive. Whatever it answers, a
 //!   system in this boot finds the same zones later. A system in another boot finds the same, or the zones of the last
 //!   flush (`open`, `unnoticed`).
+//! * `copy_zones` gives a drive in memory with just the zones that are held: their states, and the bytes of their
+//!   written blocks. A report does not tell how many blocks of a Full zone are written, so no Read could find that.
+//!   `load` does it with the zones of a file that was opened. What `store` made of zones, `load` gives back as a
+//!   restart leaves them (`store_and_load`). Only a call on the file, or missing memory, is in its way.
 //!
 //! # What is not proved
 //!
 //! * That a file of the system keeps the contract of `file_bytes`, and that two boots have two identifiers:
 //!   `ports/linux` says what that rests on.
-//! * That a drive stops, and `format`, `store` and `open` fail, only where a call on the file failed: a body that
-//!   always stops meets any contract. Tests try it.
+//! * That a drive stops, and `format`, `store`, `open` and `load` fail, only where a call on the file failed: a body
+//!   that always stops meets any contract. Tests try it.
 //! * That the room of blocks that a Reset took comes back after a flush: a file may keep it by contract. A test counts
 //!   it.
 //!
@@ -68,6 +74,7 @@
 mod all;
 mod append;
 mod boot;
+mod copying;
 mod entries;
 mod entry;
 mod fault;
@@ -77,7 +84,9 @@ mod fresh;
 mod head;
 mod held;
 mod held_zones;
+mod laws;
 mod layout;
+mod loading;
 mod opening;
 mod reading;
 mod releasing;
@@ -88,12 +97,15 @@ mod words;
 mod zones;
 
 pub use boot::{Boot, System};
+pub use copying::copy_zones;
 pub use entry::Entry;
 pub use fault::OpenFault;
 pub use found::Found;
 pub use fresh::format;
 pub use head::Head;
+pub use laws::store_and_load;
 pub use layout::file_length;
+pub use loading::load;
 pub use opening::open;
 pub use serving::serve;
 pub use storing::{store, store_zones};

@@ -18,12 +18,12 @@ use file_bytes::FileBytes;
 use std::alloc::Global;
 use std::io;
 
-// The first and the second word of the boot in a file.
+/// The first and the second word of the boot in a file.
 const AT_FIRST: u64 = 64;
 
 const AT_SECOND: u64 = 72;
 
-// Writes the first word of the boot.
+/// Writes the first word of the boot.
 fn put_first<F: FileBytes>(file: &mut F, found: &mut Found, word: u64) -> io::Result<()>
     requires { IsRead (F.FileBytes.seen file.old) found.old }
     ensures read { IsRead (F.FileBytes.seen file.new) found.new }
@@ -40,7 +40,7 @@ fn put_first<F: FileBytes>(file: &mut F, found: &mut Found, word: u64) -> io::Re
     Ok(())
 }
 
-// Writes the second word of the boot.
+/// Writes the second word of the boot.
 fn put_second<F: FileBytes>(file: &mut F, found: &mut Found, word: u64) -> io::Result<()>
     requires { IsRead (F.FileBytes.seen file.old) found.old }
     ensures read { IsRead (F.FileBytes.seen file.new) found.new }
@@ -57,7 +57,7 @@ fn put_second<F: FileBytes>(file: &mut F, found: &mut Found, word: u64) -> io::R
     Ok(())
 }
 
-// Writes the words of the zones in the live table.
+/// Writes the words of the zones in the live table.
 fn put_live<F: FileBytes>(file: &mut F, found: &mut Found) -> io::Result<()>
     requires read { IsRead (F.FileBytes.seen file.old) found.old }
     requires count { length found.old.entries.items ≡ found.old.head.geometry.zones }
@@ -84,8 +84,8 @@ fn put_live<F: FileBytes>(file: &mut F, found: &mut Found) -> io::Result<()>
     )
 }
 
-// Makes a file ready for this boot, by writing what was found to its live table. The second word
-// of the boot is 0 in the meantime. So the file belongs to no boot until the last word is written.
+/// Makes a file ready for this boot, by writing what was found to its live table. The second word
+/// of the boot is 0 in the meantime. So the file belongs to no boot until the last word is written.
 fn take_over<F: FileBytes>(file: &mut F, found: &mut Found, boot: Boot) -> io::Result<()>
     requires read { IsRead (F.FileBytes.seen file.old) found.old }
     requires count { length found.old.entries.items ≡ found.old.head.geometry.zones }
@@ -111,7 +111,7 @@ fn take_over<F: FileBytes>(file: &mut F, found: &mut Found, boot: Boot) -> io::R
     Ok(())
 }
 
-// Makes a file that was read and synced ready for this boot.
+/// Makes a file that was read and synced ready for this boot.
 fn make_ready<F: FileBytes>(file: &mut F, found: &mut Found, boot: Boot) -> io::Result<()>
     requires found { IsFound boot (F.FileBytes.seen file.old) found.old }
     requires synced { Only (F.FileBytes.seen file.old) (F.FileBytes.may_leave file.old) }

@@ -10,8 +10,8 @@ use crate::zones::FileZones;
 use drive_port::Halt;
 use file_bytes::FileBytes;
 
-// Puts bytes of the file after what `into` holds, and zeros where there are fewer than asked for. Where memory is
-// missing the file is not called.
+/// Puts bytes of the file after what `into` holds, and zeros where there are fewer than asked for. Where memory is
+/// missing the file is not called.
 fn read_with_zeros<F: FileBytes>(
     file: &mut F,
     at: u64,
@@ -42,7 +42,7 @@ fn read_with_zeros<F: FileBytes>(
 }
 
 impl<F: FileBytes + Drop, S: System + Drop> FileZones<F, S> {
-    // How many bytes of a zone are written.
+    /// How many bytes of a zone are written.
     pub(crate) fn length_of(&self, index: usize) -> usize
         requires { index < length (filed F.seen self.now) }
         ensures { result ≡ length (stored_at (filed F.seen self.now) index).bytes }
@@ -50,7 +50,8 @@ impl<F: FileBytes + Drop, S: System + Drop> FileZones<F, S> {
         self.entries[index].written as usize * self.geometry.block as usize
     }
 
-    // Puts that many bytes of a zone, from an offset in it on, after what `into` holds: zeros where nothing is written.
+    /// Puts that many bytes of a zone, from an offset in it on, after what `into` holds: zeros where nothing is
+    /// written.
     pub(crate) fn read_zone(
         &mut self,
         index: usize,

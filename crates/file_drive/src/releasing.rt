@@ -22,8 +22,8 @@ pub fn note_all_freed(freed: &mut Vec<usize>, before: &[u64], entries: &[Entry])
 }
 
 impl<F: FileBytes + Drop, S: System + Drop> FileZones<F, S> {
-    // Notes a zone from which a Reset took blocks. If memory for that is missing, it is left out.
-    // At most as many are noted as there are zones.
+    /// Notes a zone from which a Reset took blocks. If memory for that is missing, it is left out.
+    /// At most as many are noted as there are zones.
     pub(crate) fn note_freed(&mut self, index: usize, is_freed: bool)
         ensures { self.new ≡ self.old }
     {
@@ -32,8 +32,8 @@ impl<F: FileBytes + Drop, S: System + Drop> FileZones<F, S> {
         }
     }
 
-    // Gives the room of one of the two places of a zone back to the file system. It does nothing
-    // if the zone or the last flush has a block there.
+    /// Gives the room of one of the two places of a zone back to the file system. It does nothing
+    /// if the zone or the last flush has a block there.
     fn release_place(&mut self, index: usize, second: bool)
         ensures shape { self.new.shape ≡ self.old.shape }
         ensures zones { filed F.seen self.new ≡ filed F.seen self.old }

@@ -21,7 +21,7 @@ use std::io;
 use zone_drive::Drive;
 use zone_states::{Geometry, Zone};
 
-// The entry of a zone in memory, once its blocks are in the first of its two places.
+/// The entry of a zone in memory, once its blocks are in the first of its two places.
 fn stored_entry(geometry: &Geometry, zone: &Zone) -> Entry
     requires { length zone.now.bytes / geometry.now.block < 2 ^ 32 }
     ensures { result ≡ stored_entry geometry.now zone.now }
@@ -33,7 +33,7 @@ fn stored_entry(geometry: &Geometry, zone: &Zone) -> Entry
     }
 }
 
-// Writes the blocks of each zone to its first place, by one write for each zone.
+/// Writes the blocks of each zone to its first place, by one write for each zone.
 fn put_blocks<F: FileBytes>(file: &mut F, geometry: &Geometry, zones: &[Zone]) -> io::Result<()>
     requires in_range { IsInRange geometry.now }
     requires zones { AreZones geometry.now zones.now }
@@ -54,7 +54,7 @@ fn put_blocks<F: FileBytes>(file: &mut F, geometry: &Geometry, zones: &[Zone]) -
     Ok(())
 }
 
-// Writes the words of the zones to a table that has only zeros.
+/// Writes the words of the zones to a table that has only zeros.
 fn put_table<F: FileBytes>(
     file: &mut F,
     geometry: &Geometry,

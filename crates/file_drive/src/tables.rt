@@ -26,7 +26,7 @@ pub struct Tables {
     pub other: Vec<u64>,
 }
 
-// The word at an offset, the lowest byte first.
+/// The word at an offset, the lowest byte first.
 fn word_at(bytes: &[u8], at: usize) -> u64
     requires { at + 8 ≤ length bytes.now }
     ensures { result ≡ word_in bytes.now at }
@@ -36,7 +36,7 @@ fn word_at(bytes: &[u8], at: usize) -> u64
     u64::from_le_bytes(word)
 }
 
-// The words that these bytes are.
+/// The words that these bytes are.
 fn words_of(alloc: Global, bytes: &[u8]) -> Result<Vec<u64>, AllocError>
     ensures { IfOk result (λ words. words.items ≡ words_in bytes.now 0 (length bytes.now / 8)) }
 {
@@ -68,7 +68,7 @@ pub fn read_words<F: FileBytes>(
     Ok(words_of(alloc, &bytes)?)
 }
 
-// Reads one word.
+/// Reads one word.
 fn read_word<F: FileBytes>(alloc: Global, file: &mut F, at: u64) -> Result<u64, OpenFault>
     requires { at + 8 ≤ length (F.FileBytes.seen file.old) }
     ensures ok { IfOk result (λ word. word ≡ word_in (F.FileBytes.seen file.old) at) }

@@ -28,8 +28,8 @@ pub fn put_word<F: FileBytes>(file: &mut F, at: u64, known: u64, word: u64) -> i
     Ok(())
 }
 
-// Writes the word of a zone to a table in the file. `words` are the words that the table has,
-// before and after.
+/// Writes the word of a zone to a table in the file. `words` are the words that the table has,
+/// before and after.
 fn put_in_table<F: FileBytes>(
     file: &mut F,
     at: u64,

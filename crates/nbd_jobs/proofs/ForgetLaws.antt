@@ -1,6 +1,6 @@
 -- A session over a disk that forgets: what it leaves.
 use Rattle.std.proofs.Common.{◌≡◌, ℕ, List, [], ◌∷◌, ◌++◌, length, get_or, Result, Ok, Err, true, false, refl, ap, sym, inl, inr, ◌∙◌}
-use Rattle.std.specs.Prelude.{◌&&◌, ◌||◌, not, Bool, IfOk}
+use Rattle.std.specs.Prelude.{◌&&◌, not, Bool, IfOk}
 use Rattle.nbd_wire.specs.declared.error_code.ErrorCode.{ErrorCode}
 use Rattle.nbd_wire.specs.declared.request.Request.{Request}
 use Rattle.zone_translator.proofs.KeepingLaws.{keeps_again, keeps_same}
@@ -22,7 +22,7 @@ use Rattle.nbd_session.specs.declared.fault.StoreFault.{StoreFault}
 use Rattle.nbd_session.specs.declared.fault.StoreFault.TheVariants.{Disk, Medium}
 use Rattle.nbd_session.specs.declared.phase.Phase.{Phase}
 use Rattle.nbd_session.specs.declared.phase.Phase.TheVariants as phases
-use Rattle.nbd_session.proofs.FailingLaws.{syncs_failing}
+use Rattle.nbd_session.proofs.FailingLaws.{mode-failing, syncs_failing}
 use Rattle.nbd_session.proofs.ModeLaws.{at_most-grows}
 use Rattle.volatile_cache.specs.Laws.{IsSettled, LeavesOut}
 use Rattle.volatile_cache.specs.Outcomes.{cached, deferring}
@@ -89,15 +89,6 @@ forgets forget bytes old below new mine told serves kept count leaves kept' mode
 }
 
 -- ---- a medium that fails in requests
-
-mode-failing : (may : Bool) (old new : StoreView) → KeepsMode old new → KeepsMode (failing may old) (failing may new)
-mode-failing may old new m = record {
-  read_only = m.read_only;
-  cleans = m.cleans;
-  flushes = m.flushes;
-  defers = m.defers;
-  fails = ap (λ (below : Bool). may || below) m.fails;
-}
 
 cut-failing : (may : Bool) (forget : Forget) (below new : StoreView) (mine : List Pending) (lost : Result ℕ StoreFault) → IsCut forget below mine lost new → IsCut forget (failing may below) mine lost (failing may new)
 cut-failing may forget below new mine lost c = record { outcome = c.outcome; done = c.done; count = c.count; chosen = c.chosen }

@@ -2,7 +2,7 @@
 use Rattle.std.proofs.Common.{◌≡◌, ℕ, true, false, Option, inl, inr}
 use Rattle.std.specs.Prelude.{Bool}
 use Rattle.drive_port.specs.Drive.{DriveState}
-use Rattle.mounted_disks.specs.Mounted.{IsServed, given_of}
+use Rattle.job_drives.specs.Mounted.{IsServed, given_of}
 use Rattle.zone_translator.specs.Laws.{CanMountAgain}
 use Rattle.zone_translator.specs.View.{DiskView}
 use Rattle.zone_translator.proofs.AgainLaws.{called-can, mounted-can}

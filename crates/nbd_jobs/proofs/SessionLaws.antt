@@ -13,9 +13,9 @@ use Rattle.zone_translator.specs.Answers.{Answers}
 use Rattle.zone_translator.specs.Flat.{Begun, FlatDisk, flush, known_answer, with_nothing}
 use Rattle.zone_translator.specs.View.{DiskView, flat_of, given_size}
 use Rattle.zone_translator.specs.declared.fault.DiskFault.{DiskFault}
-use Rattle.mounted_disks.specs.DiskSize.{size_of}
-use Rattle.mounted_disks.specs.Mounted.{IsServed}
-use Rattle.mounted_disks.specs.declared.disk_size.DiskSize.{DiskSize}
+use Rattle.job_drives.specs.DiskSize.{size_of}
+use Rattle.job_drives.specs.Mounted.{IsServed}
+use Rattle.job_drives.specs.declared.disk_size.DiskSize.{DiskSize}
 use Rattle.nbd_jobs.specs.Begun.{BeginsBy, IsBegun, IsNotBegun}
 use Rattle.nbd_jobs.specs.Failing.{fails_in_requests}
 use Rattle.nbd_jobs.specs.Forgetting.{ServesStore}

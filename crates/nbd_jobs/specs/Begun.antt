@@ -1,7 +1,7 @@
 -- The disk with which a session begins, and why none does.
 use Rattle.std.specs.Prelude.{◌≡◌, ℕ, Bool, true, false, Option, Ok, Err}
 use Rattle.drive_port.specs.Drive.{DriveState}
-use Rattle.mounted_disks.specs.Mounted.{IsNotServed, IsServed}
+use Rattle.job_drives.specs.Mounted.{IsNotServed, IsServed}
 use Rattle.zone_translator.specs.Answers.{Answers}
 use Rattle.zone_translator.specs.Flat.{flush}
 use Rattle.zone_translator.specs.View.{DiskView}

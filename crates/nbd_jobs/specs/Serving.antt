@@ -3,14 +3,14 @@ use Rattle.std.specs.Prelude.{◌≡◌, ◌&&◌, not, Bool, true, false, ℕ, 
 use Rattle.std.specs.Io.KnownBytes.{Keeps}
 use Rattle.drive_port.specs.Drive.{DriveState}
 use Rattle.drive_port.specs.Stop.{Stopping, drive_of}
-use Rattle.kept_drives.specs.Kept.{IsRestarted}
-use Rattle.kept_drives.specs.Left.{IsUnread}
-use Rattle.kept_drives.specs.declared.kept_drive.Begun.{Begun}
+use Rattle.job_drives.specs.Kept.{IsRestarted}
+use Rattle.job_drives.specs.Left.{IsUnread}
+use Rattle.job_drives.specs.declared.kept_drive.Begun.{Begun}
 use Rattle.zone_translator.specs.View.{DiskView, KeepsDisk}
-use Rattle.mounted_disks.specs.DiskSize.{size_of}
-use Rattle.mounted_disks.specs.Mounted.{IsServed}
-use Rattle.mounted_disks.specs.Stop.{stopping}
-use Rattle.mounted_disks.specs.declared.disk_size.DiskSize.{DiskSize}
+use Rattle.job_drives.specs.DiskSize.{size_of}
+use Rattle.job_drives.specs.Mounted.{IsServed}
+use Rattle.job_drives.specs.Stop.{stopping}
+use Rattle.job_drives.specs.declared.disk_size.DiskSize.{DiskSize}
 use Rattle.nbd_session.specs.Failing.{failing}
 use Rattle.nbd_session.specs.Served.{since_of}
 use Rattle.nbd_session.specs.Session.{session}

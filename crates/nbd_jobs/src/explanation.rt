@@ -1,7 +1,7 @@
 use crate::fault::NbdFault;
 use crate::forgetting::Forgotten;
 use crate::job::NbdJob;
-use mounted_disks::NoDiskFault;
+use job_drives::NoDiskFault;
 use nbd_session::SessionEnd;
 use std::alloc::{AllocError, Global};
 

@@ -1,6 +1,4 @@
-use drive_store::FileFault;
-use kept_drives::KeepFault;
-use mounted_disks::NoDiskFault;
+use job_drives::{FileFault, KeepFault, NoDiskFault};
 use nbd_session::SessionFault;
 use thiserror::Error;
 use zone_translator::DiskFault;

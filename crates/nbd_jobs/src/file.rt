@@ -1,14 +1,14 @@
 // The file of a served drive: it is opened and locked, and saved at the end if the drive is not only read.
 
-use crate::done::Done;
+use crate::done::{SessionDone, SessionTold};
 use crate::fault::NbdFault;
 use crate::job::NbdJob;
 use crate::saving::{sent_end, told_in_session};
 use crate::serving::{ServedFile, serve_drive, serve_read_only};
-use drive_store::{
-    ChangesFile, ChangesOutput, Saved, Saving, SentAfter, image_to_read, image_to_save,
+use job_drives::{
+    ChangesFile, ChangesOutput, Finished, KeepFault, Left, Saved, Saving, SentAfter, finish,
+    first_told, image_to_read, image_to_save,
 };
-use kept_drives::{Finished, KeepFault, Left, finish, first_told};
 use nbd_session::{Medium, MediumFault, SyncCount};
 use std::alloc::Global;
 use std::fs::File;
@@ -63,7 +63,7 @@ fn serve_file<F: Files<File = File>, R: Read + Drop, W: Write>(
     (file, bytes): (&ChangesFile<'_, F>, BufReader<File>),
     input: R,
     output: &mut W,
-) -> (Option<Left>, Done) {
+) -> (Option<Left>, SessionDone) {
     let served = ServedFile {
         bytes,
         store: file.store(),
@@ -77,19 +77,19 @@ fn serve_file<F: Files<File = File>, R: Read + Drop, W: Write>(
         BufReader::with_capacity(alloc, BUFFER, input),
         BufWriter::with_capacity(alloc, BUFFER, sent),
     ) else {
-        return (None, Done::unserved(NbdFault::File(KeepFault::Memory)));
+        return (
+            None,
+            SessionDone::unserved(NbdFault::File(KeepFault::Memory)),
+        );
     };
     let after = serve_drive(alloc, job, served, &mut reader, &mut writer);
     let sent = are_sent(writer.flush());
-    let done = Done {
-        session: sent_end(after.result, sent),
-        saved: Ok(Saved::IN_PLACE),
-        statistics: after.statistics,
-        disk: after.disk,
-        forgotten: after.forgotten,
-        failed: after.failed,
+    let told = SessionTold {
+        result: sent_end(after.told.result, sent),
+        ..after.told
     };
-    (after.left, done)
+    let saved = Ok(Saved::IN_PLACE);
+    (after.left, SessionDone { told, saved })
 }
 
 /// Serves the drive in a file, and saves it once the session has ended, also after a fault. No other program can read
@@ -100,19 +100,22 @@ fn serve_and_save<F: Files<File = File>, R: Read + Drop, W: Write>(
     job: &NbdJob,
     input: R,
     output: &mut W,
-) -> Done {
+) -> SessionDone {
     let saving = Saving { files, alloc };
     let (image, bytes) = match image_to_save(files, alloc, &job.image) {
         Ok(opened) => opened,
-        Err(fault) => return Done::unserved(NbdFault::from(fault)),
+        Err(fault) => return SessionDone::unserved(NbdFault::from(fault)),
     };
     let file = ChangesFile::new(&saving, image);
     let (left, done) = serve_file(alloc, job, (&file, bytes), input, output);
     let Finished { fault, saved } = finish(file, left);
-    Done {
-        session: first_told(done.session, fault.map(told_in_session)),
+    let told = SessionTold {
+        result: first_told(done.told.result, fault.map(told_in_session)),
+        ..done.told
+    };
+    SessionDone {
+        told,
         saved: saved.map_err(NbdFault::from),
-        ..done
     }
 }
 
@@ -124,22 +127,26 @@ fn serve_unchanged<F: Files<File = File>, R: Read + Drop, W: Write>(
     job: &NbdJob,
     input: R,
     output: &mut W,
-) -> Done {
+) -> SessionDone {
     let (_image, mut bytes) = match image_to_read(files, alloc, &job.image) {
         Ok(opened) => opened,
-        Err(fault) => return Done::unserved(NbdFault::from(fault)),
+        Err(fault) => return SessionDone::unserved(NbdFault::from(fault)),
     };
     let (Ok(mut reader), Ok(mut writer)) = (
         BufReader::with_capacity(alloc, BUFFER, input),
         BufWriter::with_capacity(alloc, BUFFER, output),
     ) else {
-        return Done::unserved(NbdFault::File(KeepFault::Memory));
+        return SessionDone::unserved(NbdFault::File(KeepFault::Memory));
     };
     let done = serve_read_only(alloc, job, &mut bytes, &mut reader, &mut writer);
     let sent = are_sent(writer.flush());
-    Done {
-        session: sent_end(done.session, sent),
-        ..done
+    let told = SessionTold {
+        result: sent_end(done.told.result, sent),
+        ..done.told
+    };
+    SessionDone {
+        told,
+        saved: done.saved,
     }
 }
 
@@ -151,7 +158,7 @@ pub fn do_nbd_job<F: Files<File = File>, R: Read + Drop, W: Write>(
     job: &NbdJob,
     input: R,
     output: &mut W,
-) -> Done {
+) -> SessionDone {
     if job.read_only {
         return serve_unchanged(files, alloc, job, input, output);
     }

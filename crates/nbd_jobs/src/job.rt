@@ -1,4 +1,4 @@
-use mounted_disks::Stop;
+use job_drives::Stop;
 use zone_drive::Habit;
 
 /// That a disk forgets: what is written to it stays in a cache until it is synced, and may be lost before.

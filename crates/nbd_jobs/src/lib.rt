@@ -61,7 +61,7 @@ mod mounted;
 mod saving;
 mod serving;
 
-pub use done::Done;
+pub use done::{SessionDone, SessionTold};
 pub use explanation::{explain, failed_note, forgotten_note};
 pub use fault::NbdFault;
 pub use file::{BUFFER, are_sent, do_nbd_job};

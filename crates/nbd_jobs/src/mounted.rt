@@ -5,7 +5,7 @@ ghost use Rattle.nbd_jobs.specs.Begun.{IsBegun, IsNotBegun};
 
 use crate::fault::NbdFault;
 use drive_port::Device;
-use mounted_disks::mount_served;
+use job_drives::mount_served;
 use std::alloc::Global;
 use zone_translator::Disk;
 

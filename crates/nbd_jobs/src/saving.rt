@@ -1,11 +1,10 @@
 ghost use Rattle.std.specs.Prelude.{◌≡◌};
-ghost use Rattle.kept_drives.specs.declared.keep_fault.KeepFault.TheVariants as keeps;
+ghost use Rattle.job_drives.specs.declared.keep_fault.KeepFault.TheVariants as keeps;
 ghost use Rattle.nbd_jobs.specs.declared.fault.NbdFault.TheVariants as nbd;
 ghost use Rattle.nbd_jobs.specs.Serving.{sent_end};
 
 use crate::fault::NbdFault;
-use drive_store::FileFault;
-use kept_drives::KeepFault;
+use job_drives::{FileFault, KeepFault};
 use nbd_session::SessionFault;
 
 /// How a session ended, once what was written for the client was sent, if it could be.

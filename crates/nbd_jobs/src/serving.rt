@@ -1,26 +1,27 @@
 // A session over the drive of a store.
 
-ghost use Rattle.std.specs.Prelude.{◌≡◌, ◌&&◌, IfNone, IfSome, Ok, false, is_some, not};
+ghost use Rattle.std.specs.Prelude.{◌≡◌, IfNone, IfSome, Ok, false, is_some};
 ghost use Rattle.nbd_session.specs.Streams.{streams};
 ghost use Rattle.drive_port.specs.Stop.{drive_of};
-ghost use Rattle.kept_drives.specs.Kept.{HoldsFile};
-ghost use Rattle.kept_drives.specs.Left.{LeavesFile};
-ghost use Rattle.mounted_disks.specs.Stop.{stopping};
+ghost use Rattle.job_drives.specs.Kept.{HoldsFile};
+ghost use Rattle.job_drives.specs.Left.{LeavesFile};
+ghost use Rattle.job_drives.specs.Stop.{stopping};
 ghost use Rattle.nbd_jobs.specs.Serving.{HoldsNoDrive, ReadsFile, ServesDrive, ServesKept, ServesStopping};
 ghost use Rattle.nbd_jobs.specs.Serving.{TellsSession, session_end};
 
-use crate::done::Done;
+use crate::done::{SessionDone, SessionTold};
 use crate::fault::NbdFault;
 use crate::forgetting::{Forgotten, serve_store};
 use crate::job::NbdJob;
 use crate::mounted::mount_flushed;
 use drive_counter::Counter;
-use drive_journal::Store;
+use drive_journal::ChangeStore;
 use drive_port::Device;
-use drive_store::Saved;
-use kept_drives::{DriveFile, KeepFault, Left, keep_restarted, leave, restarted_drive};
-use mounted_disks::{DiskSize, statistics_of, stopping};
-use nbd_session::{Client, Medium, ServedDisk, SessionFault, WriteThrough};
+use job_drives::{
+    DiskSize, DriveFile, KeepFault, Left, Saved, keep_restarted, leave, restarted_drive,
+    statistics_of, stopping,
+};
+use nbd_session::{Client, Medium, ServeOptions, ServedDisk, SessionFault, WriteThrough};
 use std::alloc::Global;
 use std::io::{Read, Write};
 use zone_drive::Drive;
@@ -28,63 +29,28 @@ use zone_translator::Disk;
 
 /// The file of a served drive: what it holds, the store of its changes, and what makes them durable.
 #[derive(Drop)]
-pub struct ServedFile<I: Read + Drop, S: Store<Drive> + Drop, M: Medium + Drop> {
+pub struct ServedFile<I: Read + Drop, S: ChangeStore<Drive> + Drop, M: Medium + Drop> {
     pub bytes: I,
     pub store: S,
     pub medium: M,
 }
 
-/// What is left of a device and its medium once its session has ended, what was counted, what was mounted, what
-/// was forgotten, and how many requests failed.
+/// What is left of a device and its medium once its session has ended, and what is told of it.
 #[derive(Drop)]
 pub struct Ended<D: Device + Drop, M: Medium + Drop> {
     pub device: D,
     pub medium: M,
-    pub statistics: Option<String>,
-    pub disk: Option<DiskSize>,
-    pub forgotten: Option<Forgotten>,
-    pub failed: Option<u64>,
-    pub result: Result<(), NbdFault>,
+    pub told: SessionTold,
 }
 
 /// What is left of the file of a served drive, once its session has ended.
 #[derive(Drop)]
-pub struct AfterSession<S: Store<Drive> + Drop, M: Medium + Drop> {
+pub struct AfterSession<S: ChangeStore<Drive> + Drop, M: Medium + Drop> {
     /// What is left of the drive, if the file held one.
     pub left: Option<Left>,
     pub store: S,
     pub medium: M,
-    /// What was written and moved, as text, if it was asked for.
-    pub statistics: Option<String>,
-    /// The disk that was served, if it was mounted.
-    pub disk: Option<DiskSize>,
-    /// What was forgotten, if the disk forgets and was served.
-    pub forgotten: Option<Forgotten>,
-    /// How many requests failed by chance, if some were to and the disk was served.
-    pub failed: Option<u64>,
-    /// How the session ended.
-    pub result: Result<(), NbdFault>,
-}
-
-/// A disk to be served. If it is read only, no turn of cleaning is taken.
-fn served<D: Device + Drop, M: Medium + Drop>(
-    disk: Disk<D>,
-    medium: M,
-    read_only: bool,
-    cleans: bool,
-) -> ServedDisk<D, M>
-    ensures disk { result.disk ≡ disk }
-    ensures medium { result.medium ≡ medium }
-    ensures read_only { result.read_only ≡ read_only }
-    ensures cleans { result.cleans ≡ (cleans && not read_only) }
-{
-    if read_only {
-        return ServedDisk::reading(disk, medium);
-    }
-    if cleans {
-        return ServedDisk::cleaning(disk, medium);
-    }
-    ServedDisk::new(disk, medium)
+    pub told: SessionTold,
 }
 
 /// What was written and moved, if the job asks for it and there is memory for the text.
@@ -134,9 +100,9 @@ fn serve_counted<D: Device + Drop, M: Medium + Drop, R: Client, W: Write>(
           after = M.syncs result.medium;
           flushes = M.flushes kept.medium;
         })
-        (D.drive kept.device) result.result result.forgotten (D.drive result.device) }
-    ensures tells { TellsSession job.now (D.drive kept.device) result.result
-        (is_some result.statistics) result.disk }
+        (D.drive kept.device) result.told.result result.told.forgotten (D.drive result.device) }
+    ensures tells { TellsSession job.now (D.drive kept.device) result.told.result
+        (is_some result.told.statistics) result.told.disk }
 {
     let flushes = kept.medium.flushes();
     let disk = match mount_flushed(alloc, Counter::new(kept.device), job.blocks, flushes) {
@@ -145,27 +111,29 @@ fn serve_counted<D: Device + Drop, M: Medium + Drop, R: Client, W: Write>(
             return Ended {
                 device: counter.into_inner(),
                 medium: kept.medium,
-                statistics: None,
-                disk: None,
-                forgotten: None,
-                failed: None,
-                result: Err(fault),
+                told: SessionTold::unserved(fault),
             };
         }
     };
     let size = DiskSize::of(&disk);
-    let store = served(disk, kept.medium, kept.read_only, job.idle);
+    let options = ServeOptions {
+        read_only: kept.read_only,
+        cleans: job.idle,
+    };
+    let store = ServedDisk::new(disk, kept.medium, options);
     let after = serve_store(alloc, job.fail, job.forget, store, reader, writer);
     let (disk, medium) = after.store.into_parts();
     let statistics = shown_statistics(alloc, job, &disk);
     Ended {
         device: disk.into_device().into_inner(),
         medium,
-        statistics,
-        disk: Some(size),
-        forgotten: after.forgotten,
-        failed: after.failed,
-        result: session_end(after.result),
+        told: SessionTold {
+            result: session_end(after.result),
+            statistics,
+            disk: Some(size),
+            forgotten: after.forgotten,
+            failed: after.failed,
+        },
     }
 }
 
@@ -184,9 +152,9 @@ pub fn serve_stopping<D: Device + Drop, M: Medium + Drop, R: Client, W: Write>(
           after = M.syncs result.medium;
           flushes = M.flushes kept.medium;
         })
-        (stopping job.now.stop (D.drive kept.device)) result.result result.forgotten (D.drive result.device) }
-    ensures tells { TellsSession job.now (drive_of (stopping job.now.stop (D.drive kept.device))) result.result
-        (is_some result.statistics) result.disk }
+        (stopping job.now.stop (D.drive kept.device)) result.told.result result.told.forgotten (D.drive result.device) }
+    ensures tells { TellsSession job.now (drive_of (stopping job.now.stop (D.drive kept.device))) result.told.result
+        (is_some result.told.statistics) result.told.disk }
 {
     let stopping = Kept {
         device: stopping(kept.device, job.stop),
@@ -197,18 +165,20 @@ pub fn serve_stopping<D: Device + Drop, M: Medium + Drop, R: Client, W: Write>(
     Ended {
         device: ended.device.into_inner(),
         medium: ended.medium,
-        statistics: ended.statistics,
-        disk: ended.disk,
-        forgotten: ended.forgotten,
-        failed: ended.failed,
-        result: ended.result,
+        told: ended.told,
     }
 }
 
 /// Serves the drive of a file to one client, which sends to `reader` and gets what `writer` takes. The changes of the
 /// drive go to the store, and each sync is one of the medium. What is left of the drive is handed back, also after a
 /// fault, if the file holds one. The disk is written whatever `job.read_only` says.
-pub fn serve_drive<I: Read + Drop, S: Store<Drive> + Drop, M: Medium + Drop, R: Client, W: Write>(
+pub fn serve_drive<
+    I: Read + Drop,
+    S: ChangeStore<Drive> + Drop,
+    M: Medium + Drop,
+    R: Client,
+    W: Write,
+>(
     alloc: Global,
     job: &NbdJob,
     file: ServedFile<I, S, M>,
@@ -226,7 +196,7 @@ pub fn serve_drive<I: Read + Drop, S: Store<Drive> + Drop, M: Medium + Drop, R: 
           after = M.syncs result.medium;
           flushes = M.flushes file.medium;
         })
-        result.result (is_some result.statistics) result.disk result.forgotten)
+        result.told.result (is_some result.told.statistics) result.told.disk result.told.forgotten)
         (I.remaining file.bytes) job.now.habit left (S.held result.store) (S.failed result.store)) }
     // Without a drive nothing is read of the client, and nothing is written.
     ensures none { IfNone result.left (HoldsNoDrive (I.remaining file.bytes)
@@ -236,7 +206,7 @@ pub fn serve_drive<I: Read + Drop, S: Store<Drive> + Drop, M: Medium + Drop, R: 
           after = M.syncs result.medium;
           flushes = M.flushes file.medium;
         })
-        result.result result.forgotten) }
+        result.told.result result.told.forgotten) }
     ensures unused { IfNone result.left (S.held result.store ≡ S.held file.store) }
 {
     let ServedFile {
@@ -251,11 +221,7 @@ pub fn serve_drive<I: Read + Drop, S: Store<Drive> + Drop, M: Medium + Drop, R: 
                 left: None,
                 store,
                 medium,
-                statistics: None,
-                disk: None,
-                forgotten: None,
-                failed: None,
-                result: Err(NbdFault::File(KeepFault::Image(fault))),
+                told: SessionTold::unserved(NbdFault::File(KeepFault::Image(fault))),
             };
         }
     };
@@ -270,11 +236,7 @@ pub fn serve_drive<I: Read + Drop, S: Store<Drive> + Drop, M: Medium + Drop, R: 
         left: Some(left),
         store,
         medium: ended.medium,
-        statistics: ended.statistics,
-        disk: ended.disk,
-        forgotten: ended.forgotten,
-        failed: ended.failed,
-        result: ended.result,
+        told: ended.told,
     }
 }
 
@@ -287,17 +249,17 @@ pub fn serve_read_only<I: Read, R: Client, W: Write>(
     bytes: &mut I,
     reader: &mut R,
     writer: &mut W,
-) -> Done
+) -> SessionDone
     // What the client sent is answered by the disk of the drive in the file, which is read only.
     ensures reads { ReadsFile job.now (I.remaining bytes.old)
         (streams (R.remaining reader.old) (R.remaining reader.new) (W.contents writer.old) (W.contents writer.new))
-        result.session result.forgotten }
+        result.told.result result.told.forgotten }
     // There is no drive to save.
     ensures saved { result.saved ≡ Ok (record { is_restored = false }) }
 {
     let begun = match restarted_drive(alloc, bytes, job.habit) {
         Ok(begun) => begun,
-        Err(fault) => return Done::unserved(NbdFault::File(KeepFault::Image(fault))),
+        Err(fault) => return SessionDone::unserved(NbdFault::File(KeepFault::Image(fault))),
     };
     let kept = Kept {
         device: begun.drive,
@@ -305,12 +267,8 @@ pub fn serve_read_only<I: Read, R: Client, W: Write>(
         read_only: true,
     };
     let ended = serve_stopping(alloc, job, kept, reader, writer);
-    Done {
-        session: ended.result,
+    SessionDone {
+        told: ended.told,
         saved: Ok(Saved::IN_PLACE),
-        statistics: ended.statistics,
-        disk: ended.disk,
-        forgotten: ended.forgotten,
-        failed: ended.failed,
     }
 }

@@ -100,10 +100,11 @@ pub fn show_kept(
     let ended = serve_drive(alloc, job, served, &mut &*input, &mut sent);
     *file = Vec::from_slice(alloc, ended.store.bytes())?;
     show_replies(&sent, out)?;
-    show_counts(&ended.statistics, out)?;
-    show_forgotten(alloc, job, ended.forgotten, out)?;
-    show_failed(alloc, ended.failed, out)?;
-    show_end(ended.result, out)
+    let told = ended.told;
+    show_counts(&told.statistics, out)?;
+    show_forgotten(alloc, job, told.forgotten, out)?;
+    show_failed(alloc, told.failed, out)?;
+    show_end(told.result, out)
 }
 
 /// Serves the drive in a file read only. Shows what the server sent, how many requests failed if some were to, and how
@@ -118,6 +119,6 @@ pub fn show_read_only(
     let mut sent = Vec::new(alloc);
     let done = serve_read_only(alloc, job, &mut &*file, &mut &*input, &mut sent);
     show_replies(&sent, out)?;
-    show_failed(alloc, done.failed, out)?;
-    show_end(done.session, out)
+    show_failed(alloc, done.told.failed, out)?;
+    show_end(done.told.result, out)
 }

@@ -4,7 +4,9 @@ use crate::fault::RowsFault;
 use crate::show::show_replies;
 use disk_files::FailAfter;
 use drive_port::{Geometry, StopAfter};
-use nbd_session::{FailingStore, Medium, MediumFault, ServedDisk, SessionFault, SyncCount, serve};
+use nbd_session::{
+    FailingStore, Medium, MediumFault, ServeOptions, ServedDisk, SessionFault, SyncCount, serve,
+};
 use std::alloc::Global;
 use std::io::Write;
 use zone_drive::Drive;
@@ -106,7 +108,7 @@ fn run_session<W: Write>(
         syncs: SyncCount::new(),
         is_worn: setting.is_worn,
     };
-    let served = ServedDisk::new(disk, medium);
+    let served = ServedDisk::new(disk, medium, ServeOptions::PLAIN);
     let mut store = FailingStore::new(served, setting.seed, setting.odds);
     let mut reader = input;
     let result = serve(alloc, &mut reader, output, &mut store);

@@ -28,7 +28,7 @@ past_end-refused (WriteZeroes first n hole) none = omega (arith, none)
 past_end-refused Flush none = omega (arith, none)
 
 -- a refusal is not told as success
-refused : (wanted : Asked) (fault : DiskFault) → error_code (error_of wanted fault) ≡ 0 → ⊥
+pub refused : (wanted : Asked) (fault : DiskFault) → error_code (error_of wanted fault) ≡ 0 → ⊥
 refused wanted disk.OutOfRange none = past_end-refused wanted none
 refused wanted disk.OutOfMemory none = omega (arith, none)
 refused wanted disk.Stopped none = omega (arith, none)

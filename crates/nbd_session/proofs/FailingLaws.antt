@@ -14,7 +14,8 @@ below-fails : (may below : Bool) → below ≡ true → (may || below) ≡ true
 below-fails true below is = refl
 below-fails false below is = is
 
-mode-failing : (may : Bool) (old new : StoreView) → KeepsMode old new → KeepsMode (failing may old) (failing may new)
+-- so its mode is kept where that of the store below is
+pub mode-failing : (may : Bool) (old new : StoreView) → KeepsMode old new → KeepsMode (failing may old) (failing may new)
 mode-failing may old new m = record {
   read_only = m.read_only;
   cleans = m.cleans;

@@ -5,7 +5,7 @@
 //! fails by chance.
 //!
 //! ```text
-//! let mut store = ServedDisk::new(disk, medium);
+//! let mut store = ServedDisk::new(disk, medium, ServeOptions::PLAIN);
 //! let result = nbd_session::serve(alloc, &mut input, &mut output, &mut store);
 //! let (disk, medium) = store.into_parts();
 //! ```
@@ -36,12 +36,12 @@
 //! * With the medium [`DriveFlush`] a sync is a Flush of the drive, and a loss of power leaves the array of the last
 //!   one: what it leaves can be mounted, and the mount finds it, however the session ends (`laws::loss_is_found`). Any
 //!   other medium's word stands for it.
-//! * After each request a store that cleans ([`ServedDisk::cleaning`]) takes one turn of cleaning. That changes no
+//! * After each request a store that cleans ([`ServeOptions::cleans`]) takes one turn of cleaning. That changes no
 //!   block, and adds no array that a loss of power may leave. Any other store does nothing then.
 //! * Where the medium fails the request is answered by `EIO`. Nothing is done then, and nothing shown, unless the
 //!   request was to be durable: then its sync may have failed (`laws::failed_is_undone`). The medium of a
 //!   [`ServedDisk`] fails only in a sync. [`FailingStore`] is a store whose medium fails by chance, for tests.
-//! * The client is told whether a store is read only ([`ServedDisk::reading`]). If so, a WRITE, a TRIM and a
+//! * The client is told whether a store is read only ([`ServeOptions::read_only`]). If so, a WRITE, a TRIM and a
 //!   WRITE_ZEROES are refused by `EPERM`, no other request is refused for it, and no turn is taken. The array stays as
 //!   it is, whatever the client sends (`laws::read_only_keeps_array`).
 //! * [`serve_at_most`] ends after so many requests, and does not read the next one. It tells how a session ended.
@@ -90,6 +90,6 @@ pub use fault::{MediumFault, SessionFault, StoreFault};
 pub use medium::{DriveFlush, Medium, SyncCount, WriteThrough};
 pub use option_answer::OptionAnswer;
 pub use phase::Phase;
-pub use served_disk::ServedDisk;
+pub use served_disk::{ServeOptions, ServedDisk};
 pub use serving::{serve, serve_at_most};
 pub use store::{Store, is_known};

@@ -1,4 +1,4 @@
-ghost use Rattle.std.specs.Prelude.{◌≡◌, false, true, None};
+ghost use Rattle.std.specs.Prelude.{◌≡◌, ◌&&◌, None, false, not, true};
 ghost use Rattle.zone_translator.specs.Flat.{answer_while};
 ghost use Rattle.nbd_session.specs.Served.{store_of};
 ghost use Rattle.nbd_session.specs.Store.{Syncs};
@@ -9,6 +9,24 @@ use crate::store::Store;
 use drive_port::Device;
 use std::marker::Model;
 use zone_translator::{Disk, DiskFault, DiskStatus};
+
+/// What a served disk does for its client.
+#[derive(Clone, Copy, Debug, PartialEq, Eq)]
+pub struct ServeOptions {
+    /// Whether what would change the disk is refused. Then no turn of cleaning is taken.
+    pub read_only: bool,
+    /// Whether a turn of cleaning is taken after each request that is answered, if one is due. So more is moved, and
+    /// fewer writes wait for a clean.
+    pub cleans: bool,
+}
+
+impl ServeOptions {
+    /// Requests may change the disk, and no turn is taken.
+    pub const PLAIN: ServeOptions = ServeOptions {
+        read_only: false,
+        cleans: false,
+    };
+}
 
 /// A disk, and the medium that keeps its drive.
 #[derive(Drop)]
@@ -22,57 +40,26 @@ pub struct ServedDisk<D: Device + Drop, M: Medium + Drop> {
 }
 
 impl<D: Device + Drop, M: Medium + Drop> Model for ServedDisk<D, M> {
-    ghost use Rattle.nbd_session.specs.Served.{Served};
+    ghost use Rattle.nbd_session.specs.Served.{ServedView};
 
-    ghost Value = { Served M };
+    ghost Value = { ServedView M };
 
     ghost view = { λ s. record { disk = s.disk; medium = s.medium; read_only = s.read_only; cleans = s.cleans } };
 }
 
 impl<D: Device + Drop, M: Medium + Drop> ServedDisk<D, M> {
     /// This disk, whose drive this medium keeps.
-    pub fn new(disk: Disk<D>, medium: M) -> ServedDisk<D, M>
+    pub fn new(disk: Disk<D>, medium: M, options: ServeOptions) -> ServedDisk<D, M>
         ensures disk { result.disk ≡ disk }
         ensures medium { result.medium ≡ medium }
-        ensures read_only { result.read_only ≡ false }
-        ensures cleans { result.cleans ≡ false }
+        ensures read_only { result.read_only ≡ options.read_only }
+        ensures cleans { result.cleans ≡ (options.cleans && not options.read_only) }
     {
         ServedDisk {
             disk,
             medium,
-            cleans: false,
-            read_only: false,
-        }
-    }
-
-    /// The same, and after each request that is answered a turn of cleaning is taken, if one is due. So more is moved,
-    /// and fewer writes wait for a clean.
-    pub fn cleaning(disk: Disk<D>, medium: M) -> ServedDisk<D, M>
-        ensures disk { result.disk ≡ disk }
-        ensures medium { result.medium ≡ medium }
-        ensures read_only { result.read_only ≡ false }
-        ensures cleans { result.cleans ≡ true }
-    {
-        ServedDisk {
-            disk,
-            medium,
-            cleans: true,
-            read_only: false,
-        }
-    }
-
-    /// This disk, which is only read: what would change it is refused, and no turn of cleaning is taken.
-    pub fn reading(disk: Disk<D>, medium: M) -> ServedDisk<D, M>
-        ensures disk { result.disk ≡ disk }
-        ensures medium { result.medium ≡ medium }
-        ensures read_only { result.read_only ≡ true }
-        ensures cleans { result.cleans ≡ false }
-    {
-        ServedDisk {
-            disk,
-            medium,
-            cleans: false,
-            read_only: true,
+            cleans: options.cleans && !options.read_only,
+            read_only: options.read_only,
         }
     }
 

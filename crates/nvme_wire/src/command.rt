@@ -20,7 +20,7 @@ pub enum Action {
 }
 
 impl Action {
-    // The Zone Send Action field.
+    /// The Zone Send Action field.
     pub(crate) fn code(self) -> u8
         ensures { result ≡ action_code self }
     {
@@ -58,7 +58,7 @@ pub enum ReportingOptions {
 }
 
 impl ReportingOptions {
-    // The number in the field.
+    /// The number in the field.
     pub(crate) fn code(self) -> u8
         ensures { result ≡ options_code self }
     {

@@ -20,7 +20,7 @@ pub struct Descriptor {
     pub pointer: Option<u64>,
 }
 
-// The write pointer that a word is for a zone in this state.
+/// The write pointer that a word is for a zone in this state.
 fn pointer_of(
     state: ZoneState,
     start: u64,

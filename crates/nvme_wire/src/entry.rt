@@ -41,7 +41,7 @@ fn dwords_at(entry: &[u8; 64]) -> u64
     u64::from(LittleEndian::read_u32(&entry[48..52])) + 1
 }
 
-// An entry to namespace 1 whose dwords 12 and 13 are zero.
+/// An entry to namespace 1 whose dwords 12 and 13 are zero.
 #[inline(always)]
 fn entry_to(opcode: Opcode, id: u16, address: u64) -> [u8; 64]
     ensures { result ≡ entry_with opcode id address none none }
@@ -54,7 +54,7 @@ fn entry_to(opcode: Opcode, id: u16, address: u64) -> [u8; 64]
     out
 }
 
-// The entry of a command that transfers blocks, counted from one.
+/// The entry of a command that transfers blocks, counted from one.
 #[inline(always)]
 fn blocks_entry(opcode: Opcode, id: u16, address: u64, blocks: u32) -> [u8; 64]
     requires some { 1 ≤ blocks }
@@ -66,7 +66,7 @@ fn blocks_entry(opcode: Opcode, id: u16, address: u64, blocks: u32) -> [u8; 64]
     out
 }
 
-// Decodes a Zone Management Send, after its opcode and its namespace.
+/// Decodes a Zone Management Send, after its opcode and its namespace.
 fn decode_send(entry: &[u8; 64]) -> Result<Command, DecodeFault>
     ensures value { result ≡ decoded (Some Opcode.Send) true entry.now }
     ensures admitted { IfOk result IsAdmitted }
@@ -83,7 +83,7 @@ fn decode_send(entry: &[u8; 64]) -> Result<Command, DecodeFault>
     }
 }
 
-// Decodes a Zone Management Receive, after its opcode and its namespace.
+/// Decodes a Zone Management Receive, after its opcode and its namespace.
 fn decode_receive(entry: &[u8; 64]) -> Result<Command, DecodeFault>
     ensures value { result ≡ decoded (Some Opcode.Receive) true entry.now }
     ensures admitted { IfOk result IsAdmitted }

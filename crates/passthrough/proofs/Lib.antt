@@ -11,3 +11,4 @@ pub mod ShowLaws
 mod ShowingLaws
 mod SparedLaws
 pub mod ThroughLaws
+pub mod LimitLaws

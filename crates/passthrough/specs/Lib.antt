@@ -4,3 +4,7 @@ pub mod Premise
 pub mod Reading
 pub mod Seen
 pub mod Showing
+pub mod Fields
+pub mod Shape
+pub mod Faults
+pub mod Identity

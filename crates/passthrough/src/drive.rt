@@ -122,7 +122,7 @@ impl<P: Passthrough + Drop> PassthroughDrive<P> {
         &self.way
     }
 
-    // Does the command of an entry. What it returns goes after what `into` holds.
+    /// Does the command of an entry. What it returns goes after what `into` holds.
     fn perform(&mut self, entry: &[u8; 64], bytes: &[u8], into: &mut Vec<u8>) -> Result<Reply, Halt>
         requires going { self.old.stopped ≡ false }
         ensures ok { IfOk result (λ reply. Adds into.old.items
@@ -166,7 +166,7 @@ impl<P: Passthrough + Drop> PassthroughDrive<P> {
         }
     }
 
-    // Counts a command that was completed.
+    /// Counts a command that was completed.
     fn count(&mut self, command: Result<Command, DecodeFault>, status: Status)
         requires { self.old.stopped ≡ false }
         ensures counted { self.new ≡ counted self.old command status }
@@ -185,7 +185,7 @@ impl<P: Passthrough + Drop> PassthroughDrive<P> {
         }
     }
 
-    // Answers an entry as `submit_extending` does, with data.
+    /// Answers an entry as `submit_extending` does, with data.
     fn answer(
         &mut self,
         entry: &[u8; 64],

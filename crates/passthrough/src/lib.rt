@@ -1,4 +1,5 @@
-//! A zoned drive behind a way that takes single commands, as an operating system passes them through to a drive.
+//! A zoned drive behind a way that takes single commands, as an operating system passes them through to a drive; and
+//! its shape, by Identify.
 //!
 //! ```text
 //! // `way` leads to a drive of this geometry. `report` is its first report, of all zones.
@@ -14,6 +15,17 @@
 //! [`PassthroughDrive`] makes a device of a way. [`ReadAhead`] is a way above a way. [`Through`] is a way to any
 //! device, so the contract of a way can be met, and all of this can be tried over a drive in memory.
 //!
+//! What the drive says of itself by Identify gives its geometry, or why a disk does not work on it. Read are four
+//! pages of 4,096 bytes, and the capacity of the first zone of a report. `specs/Fields.antt` names each field with its
+//! standard: Base 2.0, NVM 1.0 or ZNS 1.1, as `docs/zones.md` calls them.
+//!
+//! ```text
+//! let geometry = geometry_of(&pages, 4000, 126 * 4096)?;
+//! assert_eq!(geometry.zones, 32);
+//! let identity = Identity::of(alloc, &pages, &geometry)?;
+//! assert_eq!(identity.model.as_str(), "QEMU NVMe Ctrl");
+//! ```
+//!
 //! # What is promised
 //!
 //! * A [`PassthroughDrive`] keeps the contract of a device, whatever the drive answers. It keeps a table of what was
@@ -28,16 +40,32 @@
 //! * It sends no Write, no Open, no Offline and no action to all zones. These stop the device. A disk needs none of
 //!   them, and a real drive may do half of some.
 //! * [`ReadAhead`] answers a Read by what the zones hold, and never reads past the end that it is given.
+//! * The geometry of [`geometry_of`] is in range, and is what the pages say (`specs/Shape.antt`). Its blocks have no
+//!   metadata and no protection information, and read as zeros until they are written. The capacity of its zones does
+//!   not vary, only the host makes them Full, and their descriptors have no extension. Else the first test that fails
+//!   is named with its number, in the order of [`IdentifyFault`] (`specs/Faults.antt`); none exactly if all pass.
+//! * An [`Identity`] has the model and serial number of the drive, without white space at their ends, and the bytes of
+//!   the namespace. A byte that is not printable ASCII is shown as `?` (`specs/Identity.antt`).
+//! * [`Pages::has_write_cache`] tells whether the drive has a volatile write cache.
+//!
+//! # What is assumed of Identify
+//!
+//! * MDTS and ZASL count in the smallest memory pages of the controller (CAP.MPSMIN), which Identify does not say.
+//!   They are taken to have 4 KiB, the least that the standard allows. A drive with larger ones may move more.
+//! * All zones have the capacity of the first one. ZOC only says that it does not vary; a report says it of each zone.
+//! * Bits 6:5 of FLBAS are read always, as Linux does. A drive with 16 formats or fewer has zeros there.
 //!
 //! # What is not proved
 //!
 //! * That the device asks for a report of a zone after a Finish and a Reset, and how many commands are sent with
-//!   [`ReadAhead`]: `passthrough_rows` counts them.
+//!   [`ReadAhead`]: `call_tests` counts them.
 //! * Which fault of a first report is named.
 //! * A Flush that a drive refused, and that a way told as done, is refused by no contract: a drive of this profile has
 //!   no volatile write cache.
+//! * That the fields of Identify are where drives have them. It is tested over pages of QEMU's drives.
+//! * The texts of the faults are tested.
 //!
-//! Tests: `passthrough_rows`.
+//! Tests: `call_tests`, and the rows of `tool_rows`, over the pages of QEMU's drives.
 #![tactic(auto)]
 
 mod acting;
@@ -45,21 +73,31 @@ mod appending;
 mod asking;
 mod drive;
 mod first_report;
+mod identify_fault;
+mod identity;
 mod kept;
+mod limits;
 mod looking;
+mod number;
+mod pages;
 mod passthrough;
 mod read_ahead;
 mod reading;
 mod reporting;
 mod run;
 mod seen_zone;
+mod shape;
 mod showing;
 mod table;
 mod through;
 
 pub use drive::PassthroughDrive;
 pub use first_report::{ShownFault, zones_shown};
+pub use identify_fault::IdentifyFault;
+pub use identity::Identity;
+pub use pages::Pages;
 pub use passthrough::Passthrough;
 pub use read_ahead::ReadAhead;
 pub use seen_zone::SeenZone;
+pub use shape::geometry_of;
 pub use through::Through;

@@ -20,7 +20,7 @@ use Rattle.drive_port.proofs.ClosingLaws.{content_at-contents}
 use Rattle.zone_choice.specs.Agreement.{IsShut}
 use Rattle.drive_array.specs.ZoneLogs.{HasLog, drive_logs, has_torn_tail, log_at, zone_tails}
 use Rattle.zone_choice.specs.Changes.{IsHalt}
-use Rattle.zone_choice.proofs.AgreementLaws.{spelled_same}
+use Rattle.zone_choice.proofs.AgreementLaws.{encoded_same}
 use Rattle.drive_array.proofs.AllLaws.{all-at}
 use Rattle.zone_choice.proofs.CommandLaws.{start-below, zone-start}
 use Rattle.zone_choice.proofs.OpenLaws.{close-opens, closing-opens}
@@ -75,7 +75,7 @@ mountable-same n old new same lawful refused durable = record {
   refused = refused;
   durable = durable;
   mountable = λ m. record { lawful = lawful; holds = rw (same.geometry, same.contents) m.holds };
-  array = λ m. spelled_same old new n same;
+  array = λ m. encoded_same old new n same;
 }
 
 -- if contents stay and no zone is opened, a drive stays mountable with its array

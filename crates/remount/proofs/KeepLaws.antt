@@ -4,7 +4,7 @@ use Rattle.std.proofs.lemmas.List.{set-get_or}
 use Rattle.drive_port.specs.Contents.{Content, Finishes, Resets, content_at, contents, is_writable, nothing}
 use Rattle.drive_port.specs.Drive.{DriveState, IsLawful}
 use Rattle.batch_log.specs.Log.{Batch}
-use Rattle.drive_array.specs.ZoneLogs.{HasLog, drive_logs, has_torn_tail, spelled, spelled_array, zone_logs}
+use Rattle.drive_array.specs.ZoneLogs.{HasLog, drive_logs, has_torn_tail, encoded, encoded_array, zone_logs}
 use Rattle.drive_array.specs.Laws.{ResetMounts}
 use Rattle.drive_array.specs.Mountable.{IsMountable}
 use Rattle.drive_array.specs.Records.{without}
@@ -37,12 +37,12 @@ keeps-mountable-both n a b c p q = record {
 same-mountable : (n : ℕ) (old new : DriveState) → new.geometry ≡ old.geometry → IsLawful new → contents new.zones ≡ contents old.zones → IsMountable old n → IsMountable new n
 same-mountable n old new geometry lawful same is = record { lawful = lawful; holds = rw (geometry, same) is.holds }
 
-same-array : (n : ℕ) (old new : DriveState) → new.geometry ≡ old.geometry → contents new.zones ≡ contents old.zones → spelled new n ≡ spelled old n
+same-array : (n : ℕ) (old new : DriveState) → new.geometry ≡ old.geometry → contents new.zones ≡ contents old.zones → encoded new n ≡ encoded old n
 same-array n old new geometry same = rw (geometry, same) refl
 
 -- what the logs encode
-logs-array : (n : ℕ) (old new : DriveState) → new.geometry ≡ old.geometry → array_of old.geometry.block n (zone_logs old.geometry (contents new.zones)) ≡ array_of old.geometry.block n (drive_logs old) → spelled new n ≡ spelled old n
-unfolding spelled_array
+logs-array : (n : ℕ) (old new : DriveState) → new.geometry ≡ old.geometry → array_of old.geometry.block n (zone_logs old.geometry (contents new.zones)) ≡ array_of old.geometry.block n (drive_logs old) → encoded new n ≡ encoded old n
+unfolding encoded_array
 logs-array n old new geometry same = rw geometry same
 
 -- ---- a Reset
@@ -71,7 +71,7 @@ reset-keeps n old new zone may change = record {
     | inl same ↦ same-mountable n old new change.geometry change.lawful same is
     | inr resets ↦ record { lawful = change.lawful; holds = rw change.geometry (reset-mounts n old new zone may resets is).mountable }
   ];
-  array = λ is. elim change.contents_are as (λ _. spelled new n ≡ spelled old n) [
+  array = λ is. elim change.contents_are as (λ _. encoded new n ≡ encoded old n) [
     | inl same ↦ same-array n old new change.geometry same
     | inr resets ↦ logs-array n old new change.geometry (ap (array_of old.geometry.block n) (reset-mounts n old new zone may resets is).logs ∙ spare-array old.geometry.block n (drive_logs old) zone may)
   ];
@@ -85,7 +85,7 @@ pub record CanFinishZone (drive : DriveState) (zone : ℕ) : Type 0 where
   pub writable : is_writable (content_at (contents drive.zones) zone).usage ≡ true
   pub whole : has_torn_tail (content_at (contents drive.zones) zone) ≡ false
 
-finish-array : (n : ℕ) (old new : DriveState) (zone : ℕ) → new.geometry ≡ old.geometry → CanFinishZone old zone → Finishes (contents old.zones) (contents new.zones) zone → IsMountable old n → spelled new n ≡ spelled old n
+finish-array : (n : ℕ) (old new : DriveState) (zone : ℕ) → new.geometry ≡ old.geometry → CanFinishZone old zone → Finishes (contents old.zones) (contents new.zones) zone → IsMountable old n → encoded new n ≡ encoded old n
 finish-array n old new zone geometry can finishes is =
     let has = all-at (HasLog old.geometry) (contents old.zones) zone nothing is.holds.disk.logs finishes.in_range in
     let kept = finish_logs old.geometry (contents old.zones) (contents new.zones) zone can.small has can.writable can.whole finishes in
@@ -105,7 +105,7 @@ finish-keeps n old new zone Changes can change = record {
         record { lawful = change.lawful; holds = rw change.geometry (finish_mounts old.geometry (contents old.zones) (contents new.zones) n zone c.1.small is.holds c.1.writable c.1.whole c.0) }
         )
   ];
-  array = λ is. elim change.contents_are as (λ _. spelled new n ≡ spelled old n) [
+  array = λ is. elim change.contents_are as (λ _. encoded new n ≡ encoded old n) [
     | inl same ↦ same-array n old new change.geometry same
     | inr changes ↦ (let c = can (contents old.zones) (contents new.zones) changes in finish-array n old new zone change.geometry c.1 c.0 is)
   ];

@@ -12,7 +12,7 @@ use Rattle.drive_port.specs.Contents.{content_at, content_of, contents, nothing}
 use Rattle.drive_port.specs.Drive.{DriveState}
 use Rattle.nvme_wire.specs.declared.zone_state.ZoneState.TheVariants as states
 use Rattle.batch_log.specs.Log.{Batch, batch_blocks, log_size, zero_block}
-use Rattle.batch_log.proofs.LogLaws.{spelled_length}
+use Rattle.batch_log.proofs.LogLaws.{encoded_length}
 use Rattle.logical_map.specs.Live.{blocks_in, lies_in}
 use Rattle.logical_map.specs.declared.place.Place.{Place}
 use Rattle.logical_map.specs.declared.place.Place.TheVariants as places
@@ -49,7 +49,7 @@ drive-few drive n logs survey zone known lt =
     let one = known.zones.each zone r (slice_get-get_or survey.zones.items zone none_reported (omega (arith, lt, known.zones.count))) in
     let few = known-few drive zone r one in
     let same : log_at (drive_logs drive) zone ≡ zone_log g content = get_or-map (zone_log g) (contents drive.zones) zone nothing in
-    let total : length (readable g content) ≡ log_size (zone_log g content) + length has.tail = ap length has.front.spelled ∙ omega (arith, length-append (flat_map (batch_blocks g.block) (zone_log g content)) has.tail, spelled_length g.block (zone_log g content) has.front.batches) in
+    let total : length (readable g content) ≡ log_size (zone_log g content) + length has.tail = ap length has.front.encoded ∙ omega (arith, length-append (flat_map (batch_blocks g.block) (zone_log g content)) has.tail, encoded_length g.block (zone_log g content) has.front.batches) in
     omega (arith, total, few, one.blocks, ap log_size same)
 
 -- the records that are known are within their zones

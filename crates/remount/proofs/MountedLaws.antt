@@ -14,7 +14,7 @@ use Rattle.drive_port.specs.Drive.{DriveState, IsLawful}
 use Rattle.drive_port.specs.Step.{nowhere, zone_at}
 use Rattle.drive_port.proofs.ClosingLaws.{content_at-contents}
 use Rattle.batch_log.specs.Log.{Batch, batch_blocks, log_size}
-use Rattle.batch_log.proofs.LogLaws.{spelled_length}
+use Rattle.batch_log.proofs.LogLaws.{encoded_length}
 use Rattle.logical_map.specs.Places.{MapView}
 use Rattle.zone_choice.specs.declared.roles.Filling.{Filling}
 use Rattle.zone_choice.specs.Agreement.{Agrees, HoldsFilling, IsSealed, RolesAgree, TellsOpen, mounted}
@@ -124,7 +124,7 @@ partly-holds drive n survey from f knows repaired found =
     let untorn : has_torn_tail c ≡ false = sym (tail-at (contents drive.zones) f.zone lt) ∙ repaired.whole f.zone in
     let log = zone_log drive.geometry c in
     let whole = whole-blocks drive.geometry c knows.zones.lawful.geometry.block not_full has untorn in
-    let count : log_size log ≡ length c.blocks = sym (ap length (whole.spelled ∙ append-nil (flat_map (batch_blocks drive.geometry.block) log)) ∙ spelled_length drive.geometry.block log whole.batches) in
+    let count : log_size log ≡ length c.blocks = sym (ap length (whole.encoded ∙ append-nil (flat_map (batch_blocks drive.geometry.block) log)) ∙ encoded_length drive.geometry.block log whole.batches) in
     let usage : c.usage ≡ active = known.usage ∙ is in
     let some = some-blocks r.blocks parts.1 in
     record {

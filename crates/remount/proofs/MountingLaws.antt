@@ -14,7 +14,7 @@ use Rattle.zone_choice.specs.declared.roles.Filling.{Filling}
 use Rattle.zone_choice.specs.declared.roles.Second.TheVariants.{Next}
 use Rattle.zone_choice.specs.Roles.{AreApart, IsOccupied, fillings, is_filling_at, mounted_as}
 use Rattle.drive_survey.specs.declared.reported.ReportedZone.{ReportedZone}
-use Rattle.remount.specs.Mount.{AreInOrder}
+use Rattle.remount.specs.Mount.{HostIsBelow}
 use Rattle.remount.specs.Mounting.{FindsNext, FindsPartly, IsLowestPartly, empties, is_empty_reported, is_partly_at}
 use Rattle.drive_survey.specs.Survey.{is_partly_reported}
 use Rattle.drive_array.proofs.AllLaws.{count-cons}
@@ -102,7 +102,7 @@ apart-mounted reported zones (Some h) (Some n) first second = record {
 }
 
 -- a next zone comes only with a host zone, and has the greater number
-pub order-mounted : (reported : List ReportedZone) (zones : ℕ) (host next : Option Filling) → FindsPartly reported 0 zones host → FindsNext reported zones host next → AreInOrder host (option_map Next next)
+pub order-mounted : (reported : List ReportedZone) (zones : ℕ) (host next : Option Filling) → FindsPartly reported 0 zones host → FindsNext reported zones host next → HostIsBelow host (option_map Next next)
 order-mounted reported zones None None first second = tt
 order-mounted reported zones None (Some n) first second = absurd (cc)
 order-mounted reported zones (Some h) None first second = tt

@@ -53,7 +53,7 @@ begins-as block_bytes builder large says is =
 
 -- the block with which a built batch begins is a header block of its heading
 pub header-block : (block_bytes : ℕ) (builder : BuilderView) (front : List ℕ) → IsHeading block_bytes builder.heading → BeginsAs block_bytes builder front → IsHeaderBlock (length front) front builder.heading
-header-block block_bytes builder front says b = rw b.long (record { says = says; spelled = b.is })
+header-block block_bytes builder front says b = rw b.long (record { says = says; encoded = b.is })
 
 -- the heading that is read from a built batch is its own
 pub read-again : (block_bytes : ℕ) (builder : BuilderView) (front : List ℕ) (heading : Heading) → block_bytes < 2 ^ 32 → IsHeading block_bytes builder.heading → BeginsAs block_bytes builder front → heading ≡ heading_in front → heading ≡ builder.heading

@@ -11,7 +11,7 @@ use Rattle.drive_port.specs.Contents.{Content, Usage, active, content_at, conten
 use Rattle.drive_port.specs.Drive.{DriveState}
 use Rattle.batch_log.specs.Log.{Batch, log_size, zero_block}
 use Rattle.drive_array.specs.ZoneLogs.{drive_logs, has_torn_tail, log_at, padding, readable, zone_log, zone_tails}
-use Rattle.drive_array.proofs.WholeLaws.{length-spelled}
+use Rattle.drive_array.proofs.WholeLaws.{length-encoded}
 use Rattle.drive_array.proofs.RepairingMounts.{emptied-nothing}
 use Rattle.zone_choice.proofs.OpenLaws.{emptied-shut, settled-shut}
 use Rattle.remount.specs.declared.repair.moves.MovePlan.{MovePlan}
@@ -173,9 +173,9 @@ noted-knows n start new plan made heads written before after e heads-are noted k
     let logs = logs-emptied n start new plan made e in
     let one : ScannedZone = record { heads = heads; is_torn = false } in
     let two : ScannedZone = record { heads = no_heads; is_torn = false } in
-    let spelled_heads : heads_in after.scanned.items ≡ set (set (map heads_of (drive_logs start)) plan.into (heads_of made)) plan.torn (heads_of []) =
+    let encoded_heads : heads_in after.scanned.items ≡ set (set (map heads_of (drive_logs start)) plan.into (heads_of made)) plan.torn (heads_of []) =
     ap heads_in scanned-are ∙ heads-set (set before.scanned.items plan.into one) plan.torn two ∙ ap (λ (hs : List HeadsView). set hs plan.torn no_heads) (heads-set before.scanned.items plan.into one ∙ ap (λ (hs : List HeadsView). set hs plan.into heads) known.heads ∙ ap (λ (h : HeadsView). set (map heads_of (drive_logs start)) plan.into h) heads-are) in
-    let spelled_tails : tails_in after.scanned.items ≡ set (set (zone_tails (contents start.zones)) plan.into false) plan.torn false =
+    let encoded_tails : tails_in after.scanned.items ≡ set (set (zone_tails (contents start.zones)) plan.into false) plan.torn false =
     ap tails_in scanned-are ∙ tails-set' (set before.scanned.items plan.into one) plan.torn two ∙ ap (λ (ts : List Bool). set ts plan.torn false) (tails-set' before.scanned.items plan.into one ∙ ap (λ (ts : List Bool). set ts plan.into false) known.tails) in
     record {
       all_logs = disk.logs;
@@ -183,7 +183,7 @@ noted-knows n start new plan made heads written before after e heads-are noted k
       part = λ zone. inl refl;
       sound = disk.sound;
       reserve = disk.reserve;
-      size_is = size-is ∙ known.size_is ∙ sym (length-spelled start n) ∙ ap length (sym e.array) ∙ length-spelled new n;
+      size_is = size-is ∙ known.size_is ∙ sym (length-encoded start n) ∙ ap length (sym e.array) ∙ length-encoded new n;
       given_is = given-is ∙ known.given_is;
       zones = record {
         geometry = rw e.geometry e.range;
@@ -191,8 +191,8 @@ noted-knows n start new plan made heads written before after e heads-are noted k
         count = ap length zones-are ∙ length-set (set before.zones.items plan.into written) plan.torn empty_report ∙ length-set before.zones.items plan.into written ∙ known.zones.count ∙ sym (new-count n start new plan made e);
         each = each-known n start new plan made heads written before.zones.items after.zones.items e heads-are noted known.zones zones-are;
       };
-      heads = spelled_heads ∙ sym (ap (map heads_of) logs ∙ map-set heads_of (set (drive_logs start) plan.into made) plan.torn [] ∙ ap (λ (hs : List HeadsView). set hs plan.torn (heads_of [])) (map-set heads_of (drive_logs start) plan.into made));
-      tails = spelled_tails ∙ sym (tails-emptied n start new plan made e);
+      heads = encoded_heads ∙ sym (ap (map heads_of) logs ∙ map-set heads_of (set (drive_logs start) plan.into made) plan.torn [] ∙ ap (λ (hs : List HeadsView). set hs plan.torn (heads_of [])) (map-set heads_of (drive_logs start) plan.into made));
+      tails = encoded_tails ∙ sym (tails-emptied n start new plan made e);
     }
 
 -- with the repair noted, each vacant zone is still reported Empty

@@ -6,7 +6,7 @@ use Rattle.std.proofs.lemmas.List.{get_or_past, length-append, length-map}
 use Rattle.nvme_wire.specs.declared.zone_state.ZoneState.TheVariants.{Empty}
 use Rattle.zone_states.specs.declared.geometry.Geometry.{Geometry}
 use Rattle.batch_log.specs.Log.{Batch, IsBatch, batch_blocks, log_size}
-use Rattle.batch_log.proofs.LogLaws.{spelled_length}
+use Rattle.batch_log.proofs.LogLaws.{encoded_length}
 use Rattle.logical_map.specs.declared.place.Place.{Place}
 use Rattle.drive_port.specs.Contents.{content_at, content_of, contents, nothing}
 use Rattle.drive_port.specs.Drive.{DriveState}
@@ -37,8 +37,8 @@ use Rattle.drive_survey.proofs.ReadLaws.{known-few}
 -- ---- a zone's log fits in the zone
 
 has-short : (geometry : Geometry) (blocks : List (List ℕ)) (log : List Batch) (tail : List (List ℕ)) → blocks ≡ flat_map (batch_blocks geometry.block) log ++ tail → AllByRecursion (IsBatch geometry.block) log → log_size log ≤ length blocks
-has-short geometry blocks log tail spelled batches =
-    omega (arith, ap length spelled, length-append (flat_map (batch_blocks geometry.block) log) tail, spelled_length geometry.block log batches)
+has-short geometry blocks log tail encoded batches =
+    omega (arith, ap length encoded, length-append (flat_map (batch_blocks geometry.block) log) tail, encoded_length geometry.block log batches)
 
 drive-short : (drive : DriveState) (reported : List ReportedZone) (zone : ℕ) → AreKnown drive reported → AllByRecursion (HasLog drive.geometry) (contents drive.zones) → log_size (log_at (drive_logs drive) zone) ≤ drive.geometry.size
 drive-short drive reported zone known all = by (cases_lt zone (length drive.zones))
@@ -52,7 +52,7 @@ drive-short drive reported zone known all = by (cases_lt zone (length drive.zone
         let d : ReportedZone = get_or reported zone (record { state = Empty; blocks = 0 }) in
         let k = known.each zone d (there-is reported zone (record { state = Empty; blocks = 0 }) (omega (arith, lt, known.count))) in
         let has = all-at (HasLog drive.geometry) (contents drive.zones) zone nothing all (omega (arith, lt, length-map drive.zones content_of)) in
-        let fits = has-short drive.geometry (readable drive.geometry (content_at (contents drive.zones) zone)) (zone_log drive.geometry (content_at (contents drive.zones) zone)) has.tail has.front.spelled has.front.batches in
+        let fits = has-short drive.geometry (readable drive.geometry (content_at (contents drive.zones) zone)) (zone_log drive.geometry (content_at (contents drive.zones) zone)) has.tail has.front.encoded has.front.batches in
         rw (log_at-zone drive.geometry (contents drive.zones) zone) (omega (arith, fits, k.blocks, known-few drive zone d k, known.geometry.capacity))
 
 part-short : (drive : DriveState) (n : ℕ) (logs : List (List Batch)) (survey : Survey) (zone : ℕ) → Knows drive n logs survey → log_size (log_at logs zone) ≤ drive.geometry.size

@@ -77,7 +77,7 @@ ends-fine geometry content zone offset log rest fault long small is front none f
     by ended x f = absurd (cc)
     by torn x f = absurd (cc)
     by (failed cause) x f =
-        let same = one_front geometry.block log (zone_log geometry content) rest is.tail small front.batches is.front.batches none (tail_none geometry.block (is_full content.usage) is.tail small is.end) (sym front.spelled ∙ is.front.spelled) in
+        let same = one_front geometry.block log (zone_log geometry content) rest is.tail small front.batches is.front.batches none (tail_none geometry.block (is_full content.usage) is.tail small is.end) (sym front.encoded ∙ is.front.encoded) in
         never_fails geometry.block (is_full content.usage) is.tail cause long small is.end (ap (ending_of (is_full content.usage)) same.tail_is ∙ x)
 
 none-first : (drive : DriveState) (n : ℕ) (fault : MountFault) → IsToMount drive n → FailsFirst drive.geometry (contents drive.zones) fault → ⊥
@@ -93,7 +93,7 @@ none-first drive n fault can fails =
     let f = fails.fails in
     elim f.first as (λ _. ⊥) [
       | inl bad ↦ (
-          let found = front-of geometry.block f.log (zone_log geometry content) f.rest is.tail small f.front.batches is.front.batches (tail_none geometry.block (is_full content.usage) is.tail small is.end) (sym f.front.spelled ∙ is.front.spelled) in
+          let found = front-of geometry.block f.log (zone_log geometry content) f.rest is.tail small f.front.batches is.front.batches (tail_none geometry.block (is_full content.usage) is.tail small is.end) (sym f.front.encoded ∙ is.front.encoded) in
           let fine = fault-front (seen_after [] (zone_logs geometry (take fails.zone zones))) f.log found.0 (rw found.1 at none) in
           absurd (cc)
           )

@@ -15,7 +15,7 @@ use Rattle.drive_port.specs.declared.calls.PortFault.{PortFault}
 use Rattle.drive_port.specs.declared.calls.PortFault.TheVariants as port
 use Rattle.batch_log.specs.declared.header.Entry.{Entry}
 use Rattle.batch_log.specs.Log.{Batch, log_size, one_unless}
-use Rattle.drive_array.specs.ZoneLogs.{drive_logs, has_torn_tail, log_at, spelled, spelled_array, zone_log, zone_logs, zone_tails}
+use Rattle.drive_array.specs.ZoneLogs.{drive_logs, has_torn_tail, log_at, encoded, encoded_array, zone_log, zone_logs, zone_tails}
 use Rattle.drive_array.specs.Laws.{OnlyTorn}
 use Rattle.drive_array.specs.Mountable.{IsMountable}
 use Rattle.drive_array.specs.Records.{IsNewest, Record, batch_records, entry_records, log_records, newest}
@@ -130,11 +130,11 @@ at-only n start now torn into made m other is = at (cases_lt other (length (cont
 -- the drive is mountable, with the array that it had
 pub record TornEmptied (n : ℕ) (start new : DriveState) : Type 0 where
   pub mountable : IsMountable new n
-  pub array : spelled new n ≡ spelled start n
+  pub array : encoded new n ≡ encoded start n
 
 -- a Reset of the torn zone after the last Move leaves a mountable drive with its array
 torn-emptied : (n : ℕ) (start now new : DriveState) (tables : TablesView) (plan : MovePlan) (heads : HeadsView) → IsAtMove n start now tables plan (move_count plan) heads → new.geometry ≡ start.geometry → IsLawful new → Resets (contents now.zones) (contents new.zones) plan.torn → TornEmptied n start new
-unfolding spelled_array
+unfolding encoded_array
 torn-emptied n start now new tables plan heads a geometry lawful resets =
     let g = start.geometry in
     let made = moves_before (source_of start tables plan.torn) plan (move_count plan) in

@@ -1,9 +1,9 @@
 -- Torn zones, and the blocks whose newest record is in one.
-use Rattle.std.proofs.Common.{◌≡◌, ℕ, suc, ◌+◌, ◌<◌, ◌≤◌, Bool, true, false, cond, ◌&&◌, List, [], ◌∷◌, ◌++◌, drop, length, get_or, Option, Some, None, refl, sym, ap, ◌∙◌, arith, append-nil, append_assoc}
+use Rattle.std.proofs.Common.{◌≡◌, ℕ, suc, ◌+◌, ◌<◌, ◌≤◌, Bool, true, false, cond, ◌&&◌, List, [], ◌∷◌, ◌++◌, drop, length, get_or, Some, None, refl, sym, ap, ◌∙◌, arith, append-nil, append_assoc}
 use Rattle.std.specs.Prelude.{slice_get}
-use Rattle.std.specs.Option.{option_map}
 use Rattle.std.proofs.lemmas.List.{drop-drop, length-drop, get_or-drop}
 use Rattle.std.proofs.lemmas.List.Sums.{count_by-le-length, sum_by-cons}
+use Rattle.logical_map.proofs.Parts.{first-none, first-parts}
 use Rattle.logical_map.specs.Live.{blocks_in, first_record, lies_in}
 use Rattle.logical_map.specs.declared.place.Place.{Place}
 use Rattle.logical_map.specs.declared.place.Place.TheVariants as places
@@ -82,25 +82,6 @@ pub record LiveSoFar (first now : TablesView) (zone : ℕ) (blocks : List ℕ) (
 -- at the start no block of the zone is found
 pub live-none : (tables : TablesView) (zone : ℕ) → LiveSoFar tables tables zone [] 0 0
 live-none tables zone = record { same = refl; within = omega arith; blocks_are = refl; data_is = omega arith }
-
-first-parts : (f : ℕ → Place) (o : Option ℕ) (block : ℕ) (place : Place) → option_map {U = ℕ × Place} (λ b. (b, f b)) o ≡ Some (block, place) → (o ≡ Some block) × (place ≡ f block)
-first-parts f None block place e = absurd (cc)
-first-parts f (Some b) block place e =
-    let same : b ≡ block = ap (λ (p : Option (ℕ × Place)). number p) e in
-    let there : f b ≡ place = ap (λ (p : Option (ℕ × Place)). spot p) e in
-    (ap (λ (n : ℕ). Some n) same, sym there ∙ ap f same)
-  where
-    number : Option (ℕ × Place) → ℕ
-    number None = 0
-    number (Some p) = p.0
-
-    spot : Option (ℕ × Place) → Place
-    spot None = places.None
-    spot (Some p) = p.1
-
-first-none : (f : ℕ → Place) (o : Option ℕ) → option_map {U = ℕ × Place} (λ b. (b, f b)) o ≡ None → o ≡ None
-first-none f None e = refl
-first-none f (Some b) e = absurd (cc)
 
 -- the next block of a zone is found, and its data counted
 pub record LiveNext (first now : TablesView) (zone : ℕ) (blocks : List ℕ) (with_data from block : ℕ) (place : Place) : Type 0 where

@@ -5,7 +5,7 @@ use Rattle.zone_states.specs.Transition.{is_open}
 use Rattle.drive_port.specs.Drive.{DriveState, IsLawful}
 use Rattle.batch_log.specs.Log.{Batch}
 use Rattle.drive_array.specs.Spare.{IsVacant}
-use Rattle.drive_array.specs.ZoneLogs.{drive_logs, log_at, spelled}
+use Rattle.drive_array.specs.ZoneLogs.{drive_logs, log_at, encoded}
 use Rattle.drive_array.specs.Mountable.{IsMountable}
 use Rattle.drive_survey.specs.declared.reported.ReportedZone.{ReportedZone}
 
@@ -20,7 +20,7 @@ pub record KeepsMountable (n : ℕ) (old new : DriveState) : Type 0 where
   pub refused : new.refused ≡ old.refused
   pub durable : new.durable ≡ old.durable
   pub mountable : IsMountable old n → IsMountable new n
-  pub array : IsMountable old n → spelled new n ≡ spelled old n
+  pub array : IsMountable old n → encoded new n ≡ encoded old n
 
 -- ---- which zones are noted as open
 

@@ -13,7 +13,7 @@ use Rattle.zone_choice.specs.declared.roles.Filling.{Filling}
 use Rattle.zone_choice.specs.declared.roles.Second.{Second}
 use Rattle.zone_choice.specs.declared.roles.Second.TheVariants.{Next}
 use Rattle.zone_choice.specs.Agreement.{Agrees, IsShut, mounted}
-use Rattle.drive_array.specs.ZoneLogs.{drive_logs, log_at, sequences, spelled, zone_tails}
+use Rattle.drive_array.specs.ZoneLogs.{drive_logs, log_at, sequences, encoded, zone_tails}
 use Rattle.drive_array.specs.Mountable.{HoldDisk, IsMountable, is_partly_written}
 use Rattle.drive_array.specs.Repair.{Fits, HasAtMost, IsTornAt, live_records, live_data, moves}
 use Rattle.drive_array.specs.Reserve.{FitsReserve, batch_most}
@@ -112,16 +112,16 @@ pub record IsRepaired (drive : DriveState) (n : ℕ) (survey : Survey) : Type 0 
 -- ---- the mount
 
 -- of two zones that are partly written the lower is the host zone, and the other the next one
-abbrev pub AreInOrder : Option Filling → Option Second → Type 0
-AreInOrder host None = Unit {0}
-AreInOrder (Some host) (Some (Next second)) = host.zone < second.zone
-AreInOrder host second = ⊥
+abbrev pub HostIsBelow : Option Filling → Option Second → Type 0
+HostIsBelow host None = Unit {0}
+HostIsBelow (Some host) (Some (Next second)) = host.zone < second.zone
+HostIsBelow host second = ⊥
 
 -- The roles after a mount: the zones that are being filled are the partly written ones.
 pub record AreMountedRoles (capacity : ℕ) (zones : List Content) (roles : RolesView) : Type 0 where
   pub written : AllByRecursion (λ (filling : Filling). (is_partly_written (content_at zones filling.zone) ≡ true)
       × (filling.written + 2 ≤ capacity)) (fillings roles)
-  pub order : AreInOrder roles.host roles.second
+  pub order : HostIsBelow roles.host roles.second
   pub empty : 1 ≤ empty_count roles
 
 -- A drive that is not refused: its geometry and n are in range, and it can be mounted.
@@ -205,7 +205,7 @@ pub record Mounts (old new : DriveState) (n : ℕ) (tables : TablesView) : Type 
   pub may_open : AllByRecursion (WasOpenOrTook old leaves.resets new) (fillings tables.roles)
   pub roles : AreMountedRoles new.geometry.capacity (contents new.zones) tables.roles
   pub given : tables.given ≡ n
-  pub array : spelled new n ≡ spelled old n
+  pub array : encoded new n ≡ encoded old n
   pub next : tables.next ≡ 1 + max (greatest_sequence (sequences (drive_logs old))) (greatest_sequence (sequences (drive_logs new)))
 
 -- the cleared drive cannot be repaired

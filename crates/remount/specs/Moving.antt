@@ -15,7 +15,7 @@ use Rattle.batch_log.specs.Log.{Batch, batch_blocks, batch_size, log_size}
 use Rattle.logical_map.specs.declared.place.Place.{Place}
 use Rattle.logical_map.specs.declared.place.Place.TheVariants as places
 use Rattle.zone_choice.specs.Agreement.{IsShut}
-use Rattle.drive_array.specs.ZoneLogs.{drive_logs, has_torn_tail, log_at, sequences, spelled, zone_log, zone_tails}
+use Rattle.drive_array.specs.ZoneLogs.{drive_logs, has_torn_tail, log_at, sequences, encoded, zone_log, zone_tails}
 use Rattle.zone_choice.specs.Builder.{BuilderView, IsBuilt, built}
 use Rattle.drive_array.specs.Mountable.{IsMountable}
 use Rattle.drive_array.specs.Records.{Record, newest, records}
@@ -254,7 +254,7 @@ pub record EmptiesTorn (n : ℕ) (start new : DriveState) (plan : MovePlan) (mad
   pub range : IsInRange start.geometry
   pub geometry : new.geometry ≡ start.geometry
   pub mountable : IsMountable new n
-  pub array : spelled new n ≡ spelled start n
+  pub array : encoded new n ≡ encoded start n
   pub apart : plan.into ≢ plan.torn
   pub there : Content
   pub zones : contents new.zones ≡ slice_set (slice_set (contents start.zones) plan.into there) plan.torn emptied

@@ -7,10 +7,10 @@ use Rattle.drive_port.specs.Drive.{DriveState}
 use Rattle.drive_survey.specs.declared.fault.MountFault.{MountFault}
 use Rattle.drive_survey.specs.Reported.{KeepsZones}
 use Rattle.drive_survey.specs.Scan.{IsInterruption}
-use Rattle.drive_check.specs.Findings.{AreFindings}
-use Rattle.drive_check.specs.declared.finding.Findings.{Findings}
-use Rattle.kept_drives.specs.Kept.{IsReadIn, IsRestarted}
-use Rattle.kept_drives.specs.declared.kept_drive.Begun.{Begun}
+use Rattle.drive_inspection.specs.Findings.{AreFindings}
+use Rattle.drive_inspection.specs.declared.finding.Findings.{Findings}
+use Rattle.job_drives.specs.Kept.{IsReadIn, IsRestarted}
+use Rattle.job_drives.specs.declared.kept_drive.Begun.{Begun}
 use Rattle.tool_jobs.specs.Telling.{Bytes}
 use Rattle.tool_jobs.specs.Checks.{AsksNone, FindsFaults, IsInterrupted}
 use Rattle.tool_jobs.specs.declared.fault.ToolFault.{ToolFault}

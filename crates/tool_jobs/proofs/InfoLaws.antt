@@ -5,10 +5,10 @@ use Rattle.zone_states.specs.Geometry.{IsInRange}
 use Rattle.zone_drive.specs.Habits.{MemoryDrive}
 use Rattle.zone_drive.specs.declared.habit.Habit.{Habit}
 use Rattle.drive_array.specs.Reserve.{most_size}
-use Rattle.drive_info.specs.Info.{IsInspected}
-use Rattle.drive_info.specs.declared.info.InspectedDrive.{InspectedDrive}
-use Rattle.kept_drives.specs.Kept.{IsRestarted}
-use Rattle.kept_drives.specs.declared.kept_drive.Begun.{Begun}
+use Rattle.drive_inspection.specs.Info.{IsInspected}
+use Rattle.drive_inspection.specs.declared.info.InspectedDrive.{InspectedDrive}
+use Rattle.job_drives.specs.Kept.{IsRestarted}
+use Rattle.job_drives.specs.declared.kept_drive.Begun.{Begun}
 use Rattle.tool_jobs.specs.Telling.{Bytes}
 use Rattle.tool_jobs.specs.Infos.{FindsInfo}
 

@@ -4,14 +4,14 @@ use Rattle.std.specs.Prelude.{slice_get}
 use Rattle.zone_states.specs.declared.geometry.Geometry.{Geometry}
 use Rattle.zone_states.specs.Geometry.{IsInRange}
 use Rattle.drive_array.specs.Reserve.{most_size}
-use Rattle.drive_info.specs.Info.{InfoOrRefusal, IsInfo}
-use Rattle.drive_info.specs.declared.info.Info.{Info}
-use Rattle.drive_info.specs.declared.info.ZoneInfo.{ZoneInfo}
+use Rattle.drive_inspection.specs.Info.{InfoOrRefusal, IsInfo}
+use Rattle.drive_inspection.specs.declared.info.Info.{Info}
+use Rattle.drive_inspection.specs.declared.info.ZoneInfo.{ZoneInfo}
 use Rattle.drive_port.specs.Drive.{DriveState}
 use Rattle.drive_survey.specs.Reported.{KeepsZones}
 use Rattle.drive_survey.specs.Scan.{IsInterruption}
 use Rattle.drive_survey.specs.declared.fault.MountFault.{MountFault}
-use Rattle.kept_drives.specs.Kept.{IsReadIn}
+use Rattle.job_drives.specs.Kept.{IsReadIn}
 use Rattle.tool_jobs.specs.Checks.{IsInterrupted}
 use Rattle.tool_jobs.specs.Pictures.{CountsLive, CountsNone, DrawsNone, FindsLive, LooksNone, live_counts, written_counts}
 use Rattle.tool_jobs.specs.declared.fault.ToolFault.{ToolFault}

@@ -1,6 +1,6 @@
 -- What the job of a tool asks for, and what it tells.
 use Rattle.std.specs.Prelude.{◌≡◌, ℕ, Bool, true, List, Option, Some, None, Result, Ok, Err, string_bytes, ⊤}
-use Rattle.entry_forms.specs.Entries.{IsEntryOf}
+use Rattle.tool_forms.specs.Entries.{IsEntryOf}
 use Rattle.write_plan.specs.Drives.{IsDriveFor}
 use Rattle.tool_jobs.specs.Checks.{AsksNone, FindsFaults, FindsMountable}
 use Rattle.tool_jobs.specs.Entries.{HasNoEntry, lines_with}

@@ -5,9 +5,9 @@ use Rattle.drive_port.specs.Run.{restarted}
 use Rattle.drive_survey.specs.declared.fault.MountFault.{MountFault}
 use Rattle.drive_survey.specs.declared.fault.MountFault.TheVariants as mounts
 use Rattle.drive_survey.specs.Reported.{KeepsZones}
-use Rattle.drive_check.specs.Findings.{AreFindings}
-use Rattle.drive_check.specs.declared.finding.Findings.{Findings}
-use Rattle.kept_drives.specs.Kept.{IsReadIn}
+use Rattle.drive_inspection.specs.Findings.{AreFindings}
+use Rattle.drive_inspection.specs.declared.finding.Findings.{Findings}
+use Rattle.job_drives.specs.Kept.{IsReadIn}
 use Rattle.tool_jobs.specs.Telling.{Bytes, HoldsNone}
 use Rattle.tool_jobs.specs.declared.fault.ToolFault.{ToolFault}
 use Rattle.tool_jobs.specs.declared.fault.ToolFault.TheVariants.{Stopped, Memory}

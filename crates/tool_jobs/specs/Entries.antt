@@ -1,8 +1,8 @@
 -- Entries that a tool tells.
 use Rattle.std.specs.Prelude.{ℕ, List}
-use Rattle.entry_forms.specs.Entries.{IsLineOf, IsNoEntry}
-use Rattle.entry_forms.specs.declared.entry.Entry.{Entry}
-use Rattle.entry_forms.specs.declared.words.EntryWords.{EntryWords}
+use Rattle.tool_forms.specs.Entries.{IsLineOf, IsNoEntry}
+use Rattle.tool_forms.specs.declared.entry.Entry.{Entry}
+use Rattle.tool_forms.specs.declared.entry_words.EntryWords.{EntryWords}
 use Rattle.tool_jobs.specs.declared.fault.ToolFault.{ToolFault}
 use Rattle.tool_jobs.specs.declared.fault.ToolFault.TheVariants as tool
 

@@ -4,9 +4,9 @@ use Rattle.zone_states.specs.Geometry.{IsInRange}
 use Rattle.drive_array.specs.Reserve.{most_size}
 use Rattle.drive_port.specs.Drive.{DriveState}
 use Rattle.drive_port.specs.Run.{restarted}
-use Rattle.drive_info.specs.Info.{IsInspected}
-use Rattle.drive_info.specs.declared.info.InspectedDrive.{InspectedDrive}
-use Rattle.kept_drives.specs.Kept.{IsReadIn}
+use Rattle.drive_inspection.specs.Info.{IsInspected}
+use Rattle.drive_inspection.specs.declared.info.InspectedDrive.{InspectedDrive}
+use Rattle.job_drives.specs.Kept.{IsReadIn}
 use Rattle.tool_jobs.specs.Telling.{Bytes}
 
 -- This is what the drive in the file holds once it is restarted, and what a mount of it takes. If it does not say how

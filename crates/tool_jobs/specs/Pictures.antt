@@ -9,9 +9,9 @@ use Rattle.drive_survey.specs.Reported.{KeepsZones}
 use Rattle.drive_survey.specs.Survey.{drive_size}
 use Rattle.drive_survey.specs.declared.fault.MountFault.{MountFault}
 use Rattle.remount.specs.Mount.{MountFails}
-use Rattle.drive_info.specs.declared.info.Info.{Info}
-use Rattle.drive_info.specs.declared.info.ZoneInfo.{ZoneInfo}
-use Rattle.kept_drives.specs.Kept.{IsReadIn}
+use Rattle.drive_inspection.specs.declared.info.Info.{Info}
+use Rattle.drive_inspection.specs.declared.info.ZoneInfo.{ZoneInfo}
+use Rattle.job_drives.specs.Kept.{IsReadIn}
 use Rattle.tool_jobs.specs.Telling.{Bytes, HoldsNone}
 use Rattle.tool_jobs.specs.declared.fault.ToolFault.{ToolFault}
 use Rattle.tool_jobs.specs.declared.fault.ToolFault.TheVariants.{Stopped, Memory}

@@ -2,7 +2,7 @@
 use Rattle.std.specs.Prelude.{◌≡◌, ◌⊎◌, ◌<◌, ℕ, ⊤}
 use Rattle.zone_states.specs.declared.geometry.Geometry.{Geometry}
 use Rattle.drive_port.specs.Drive.{DriveState}
-use Rattle.kept_drives.specs.Kept.{IsReadIn}
+use Rattle.job_drives.specs.Kept.{IsReadIn}
 use Rattle.write_plan.specs.Drives.{most_planned}
 use Rattle.write_plan.specs.Rows.{AreAimed, AreRows, IsPlanFault}
 use Rattle.write_plan.specs.declared.aims.Aim.{Aim}

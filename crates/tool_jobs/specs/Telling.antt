@@ -2,7 +2,7 @@
 use Rattle.std.specs.Prelude.{◌≡◌, ◌⊎◌, ℕ, List, Option}
 use Rattle.std.specs.Io.KnownBytes.{Appends}
 use Rattle.disk_files.specs.Output.{AppendsFront}
-use Rattle.kept_drives.specs.Left.{IsUnread}
+use Rattle.job_drives.specs.Left.{IsUnread}
 use Rattle.tool_jobs.specs.declared.fault.ToolFault.{ToolFault}
 use Rattle.tool_jobs.specs.declared.fault.ToolFault.TheVariants.{File, Memory, Output}
 

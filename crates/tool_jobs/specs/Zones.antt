@@ -7,7 +7,7 @@ use Rattle.zone_report.specs.ReportText.{IsTextOf}
 use Rattle.zone_states.specs.Zone.{Zone}
 use Rattle.zone_states.specs.declared.geometry.Geometry.{Geometry}
 use Rattle.zone_drive.specs.Habits.{MemoryDrive}
-use Rattle.kept_drives.specs.Kept.{IsReadIn}
+use Rattle.job_drives.specs.Kept.{IsReadIn}
 use Rattle.tool_jobs.specs.Telling.{Bytes}
 use Rattle.tool_jobs.specs.declared.showing.ZonesForm.{ZonesForm}
 use Rattle.tool_jobs.specs.declared.showing.ZonesForm.TheVariants.{Lines}

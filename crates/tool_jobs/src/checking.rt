@@ -8,12 +8,12 @@ ghost use Rattle.tool_jobs.specs.Telling.{TellsFound, TellsNothing};
 use crate::fault::ToolFault;
 use crate::form::{Form, as_line};
 use crate::telling::tell;
-use check_forms::{findings_json, findings_text};
-use drive_check::{Findings, check_drive};
+use drive_inspection::{Findings, check_drive};
 use drive_survey::MountFault;
-use kept_drives::restarted_drive;
+use job_drives::restarted_drive;
 use std::alloc::{AllocError, Global};
 use std::io::{Read, Write};
+use tool_forms::{findings_json, findings_text};
 use zone_drive::Habit;
 
 /// How the findings of a check are shown.

@@ -2,15 +2,15 @@
 
 ghost use Rattle.std.specs.Prelude.{IfErr, OnOk};
 ghost use Rattle.nvme_wire.specs.Entry.{IsAdmitted};
-ghost use Rattle.entry_forms.specs.Entries.{IsEntryOf, IsLineOf};
+ghost use Rattle.tool_forms.specs.Entries.{IsEntryOf, IsLineOf};
 ghost use Rattle.tool_jobs.specs.Entries.{HasNoEntry, lines_with};
 ghost use Rattle.tool_jobs.specs.Telling.{IsUnwrittenText, TellsFound, TellsNothing, TellsText};
 
 use crate::fault::ToolFault;
 use disk_files::write_out;
-use entry_forms::{Entry, EntryWords, entry_line, entry_of};
 use std::alloc::Global;
 use std::io::Write;
+use tool_forms::{Entry, EntryWords, entry_line, entry_of};
 
 /// Writes the raw line of an entry and the data beside it.
 fn tell_entry<W: Write>(

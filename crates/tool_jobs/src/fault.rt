@@ -1,13 +1,13 @@
 ghost use Rattle.std.specs.Prelude.{◌≡◌};
-ghost use Rattle.kept_drives.specs.declared.keep_fault.KeepFault.TheVariants as keep;
+ghost use Rattle.job_drives.specs.declared.keep_fault.KeepFault.TheVariants as keep;
 ghost use Rattle.tool_jobs.specs.declared.fault.ToolFault.TheVariants as tool;
 
 use disk_files::WriteFault;
-use drive_journal::FileFault as ReadFault;
-use entry_forms::EntryFault;
-use kept_drives::KeepFault;
+use drive_journal::ReadFault;
+use job_drives::KeepFault;
 use std::alloc::AllocError;
 use thiserror::Error;
+use tool_forms::EntryFault;
 use write_plan::PlanFault;
 
 /// Why a tool tells nothing, or only a beginning of what it has to tell.

@@ -3,8 +3,7 @@
 use crate::answering::answer_tool;
 use crate::fault::ToolFault;
 use crate::job::ToolJob;
-use drive_store::image_to_read;
-use kept_drives::KeepFault;
+use job_drives::{KeepFault, image_to_read};
 use std::alloc::Global;
 use std::fs::File;
 use std::io;

@@ -1,8 +1,7 @@
 // The drive of an image file, and a new image file of a drive.
 
 use crate::fault::ToolFault;
-use drive_store::{FileFault, Saving, image_to_read, new_image, save};
-use kept_drives::{KeepFault, saved_drive};
+use job_drives::{FileFault, KeepFault, Saving, image_to_read, new_image, save, saved_drive};
 use std::alloc::Global;
 use std::fs::File;
 use std::rt::Files;

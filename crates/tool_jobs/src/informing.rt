@@ -12,12 +12,12 @@ use crate::fault::ToolFault;
 use crate::form::{Form, as_line};
 use crate::telling::tell;
 use drive_array::most_blocks;
-use drive_info::{DriveInfo, InspectedDrive, inspect_and_rehearse};
+use drive_inspection::{DriveInfo, InspectedDrive, inspect_and_rehearse};
 use drive_port::Device;
-use info_forms::{info_json, info_text, unmounted_json, unmounted_text};
-use kept_drives::restarted_drive;
+use job_drives::restarted_drive;
 use std::alloc::{AllocError, Global};
 use std::io::{Read, Write};
+use tool_forms::{info_json, info_text, unmounted_json, unmounted_text};
 use zone_drive::Habit;
 use zone_states::Geometry;
 

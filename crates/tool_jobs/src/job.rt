@@ -5,8 +5,8 @@ use crate::checking::CheckForm;
 use crate::informing::InfoForm;
 use crate::planning::PlanForm;
 use crate::showing::ZonesForm;
-use entry_forms::EntryWords;
 use nvme_wire::ZoneState;
+use tool_forms::EntryWords;
 use write_plan::Aim;
 use zone_states::Geometry;
 

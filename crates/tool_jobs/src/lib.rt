@@ -7,7 +7,7 @@
 //! }
 //! ```
 //!
-//! A [`ToolJob`] says what is asked (`command_line` reads it). [`do_tool_job`] opens the file, and locks it as a
+//! A [`ToolJob`] says what is asked (`zonedisk_program` reads it). [`do_tool_job`] opens the file, and locks it as a
 //! reader. [`answer_tool`] does the job over its bytes, by one of these. [`tool_note`] says what else is to be known.
 //!
 //! * [`answer_check`]: all faults of a drive, and whether a mount would be done.
@@ -22,7 +22,7 @@
 //!
 //! * Over every reader, writer and form of text: exactly the text is written that the form gives of what was found, or
 //!   a beginning of it where the writer fails (`specs/Telling.antt`). Before another fault nothing is written.
-//! * What was found is what `drive_check`, `drive_info` and `write_plan` define, for the drive that the bytes hold:
+//! * What was found is what `drive_inspection` and `write_plan` define, for the drive that the bytes hold:
 //!   [`answer_check`] finds all of its faults, and says that it can be mounted exactly where a mount of the restarted
 //!   drive would be done (`FindsMountable`).
 //! * Each job is done by its own call, with its numbers, form and words, and names the file that it reads
@@ -35,7 +35,7 @@
 //! # What is not proved
 //!
 //! * [`do_tool_job`], [`drive_in_image`] and [`make_image`], which open files: no contract says what a file holds.
-//!   What stands in their bytes is promised by `drive_store`.
+//!   What stands in their bytes is promised by `job_drives`.
 //! * What the other forms say, and that a picture draws the live blocks, is tested.
 //!
 //! Tests: the rows of `tool_rows`.

@@ -11,7 +11,7 @@ use crate::form::{Form, as_line};
 use crate::job::{PlanJob, PlannedDrive};
 use crate::telling::tell;
 use drive_port::Device;
-use kept_drives::saved_drive;
+use job_drives::saved_drive;
 use std::alloc::{AllocError, Global};
 use std::io::{Read, Write};
 use write_plan::{
@@ -42,7 +42,7 @@ impl Form<PlanRows> for PlanForm {
 
     ghost shows = { λ _ _ _. ⊤ };
 
-    // There is no plan for a drive whose geometry is out of range, and no text.
+    /// There is no plan for a drive whose geometry is out of range, and no text.
     fn text(&self, alloc: Global, plan: &PlanRows) -> Result<String, AllocError> {
         if plan.geometry.check().is_err() {
             return Ok(String::new(alloc));

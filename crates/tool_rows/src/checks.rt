@@ -1,13 +1,12 @@
 //! Checks of drives, and their zones in other forms.
 
 use crate::drives::{Written, drive_with};
-use check_forms::{findings_json, findings_text};
-use drive_check::check_drive;
+use drive_inspection::check_drive;
 use drive_port::Device;
 use nvme_wire::ZoneState;
-use report_forms::{brief_text, zones_json, zones_svg};
 use std::rt::Runtime;
 use std::test::Fail;
+use tool_forms::{brief_text, findings_json, findings_text, zones_json, zones_svg};
 use zone_states::Geometry;
 
 /// A drive of eight zones.

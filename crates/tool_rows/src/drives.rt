@@ -7,6 +7,17 @@ use std::test::Fail;
 use zone_drive::Drive;
 use zone_states::Geometry;
 
+/// The drive of the README: zones of 6 blocks in 8, two of which may be active and open.
+pub const SMALL: Geometry = Geometry {
+    block: 512,
+    zones: 4,
+    size: 8,
+    capacity: 6,
+    transfer: 4,
+    active: 2,
+    open: 2,
+};
+
 /// A batch of the host that writes some blocks, as `docs/formats.md` encodes it.
 pub struct Written {
     pub zone: u32,

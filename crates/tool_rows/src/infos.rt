@@ -2,11 +2,11 @@
 
 use crate::checks::{FRESH, GEOMETRY, TORN};
 use crate::drives::{Written, drive_with, move_out};
-use drive_info::{InspectedDrive, inspect_and_rehearse};
-use info_forms::{info_json, info_text};
+use drive_inspection::{InspectedDrive, inspect_and_rehearse};
 use std::alloc::Global;
 use std::rt::Runtime;
 use std::test::Fail;
+use tool_forms::{info_json, info_text};
 
 /// As many logical blocks as the drive can serve.
 const MOST: u64 = 21;

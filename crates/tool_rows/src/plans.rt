@@ -1,19 +1,10 @@
+use crate::drives::SMALL;
 use std::rt::Runtime;
 use std::test::Fail;
 use write_plan::{Aim, PlanFault, drive_for, format_words, plan, plan_json, plan_svg, plan_text};
 use zone_states::Geometry;
 
-/// The drive of the README, and one of 64 zones.
-const SMALL: Geometry = Geometry {
-    block: 512,
-    zones: 4,
-    size: 8,
-    capacity: 6,
-    transfer: 4,
-    active: 2,
-    open: 2,
-};
-
+/// A drive of 64 zones.
 const LARGE: Geometry = Geometry {
     block: 4096,
     zones: 64,

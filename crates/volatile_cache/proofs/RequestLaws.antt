@@ -12,15 +12,15 @@ use Rattle.zone_states.specs.declared.geometry.Geometry.{Geometry}
 use Rattle.zone_translator.specs.Answers.{count_of_blocks, write_bytes}
 use Rattle.zone_translator.specs.Flat.{Answer, FlatDisk, read, trim}
 use Rattle.zone_translator.specs.View.{disk_array}
-use Rattle.zone_translator.specs.declared.fault.DiskFault.{DiskFault}
 use Rattle.zone_translator.specs.declared.fault.DiskFault.TheVariants as disk
 use Rattle.nbd_session.specs.declared.asked.Asked.{Asked}
 use Rattle.nbd_session.specs.declared.asked.Asked.TheVariants.{Read, Write, Trim, WriteZeroes, Flush}
 use Rattle.nbd_session.specs.declared.fault.StoreFault.{StoreFault}
 use Rattle.nbd_session.specs.declared.fault.StoreFault.TheVariants.{Disk, Medium}
 use Rattle.nbd_session.specs.Pending.{AreApart, Pending}
-use Rattle.nbd_session.specs.Requests.{Does, DoesOrFails, Forces, Secures, code_of, data_length, error_of, error_past_end, is_forced}
+use Rattle.nbd_session.specs.Requests.{Does, DoesOrFails, Forces, Secures, code_of, data_length, is_forced}
 use Rattle.nbd_session.specs.Store.{Hardens, Spares, StoreView, store_array}
+use Rattle.nbd_session.proofs.DurableLaws.{refused}
 use Rattle.nbd_session.proofs.PendingLaws.{none-apart, none-some}
 use Rattle.nbd_session.proofs.ReplyLaws.{same_code}
 use Rattle.nbd_session.proofs.SpareLaws.{some_spared}
@@ -93,23 +93,6 @@ request-settled old new request wanted bytes reply place block a many far settle
     (does-or-fails wanted old a.middle (data_length request) bytes a.done a.shown place block a.does many far settled)
 
 -- ---- a request that is forced
-
-past_end-refused : (wanted : Asked) → error_code (error_past_end wanted) ≡ 0 → ⊥
-past_end-refused (Read first n) none = omega (arith, none)
-past_end-refused (Write first) none = omega (arith, none)
-past_end-refused (Trim first n) none = omega (arith, none)
-past_end-refused (WriteZeroes first n hole) none = omega (arith, none)
-past_end-refused Flush none = omega (arith, none)
-
--- a refusal is not told as success
-refused : (wanted : Asked) (fault : DiskFault) → error_code (error_of wanted fault) ≡ 0 → ⊥
-refused wanted disk.OutOfRange none = past_end-refused wanted none
-refused wanted disk.OutOfMemory none = omega (arith, none)
-refused wanted disk.Stopped none = omega (arith, none)
-refused wanted disk.Spent none = omega (arith, none)
-refused wanted disk.Unmounted none = omega (arith, none)
-refused wanted disk.Smaller none = omega (arith, none)
-refused wanted disk.Reserve none = omega (arith, none)
 
 -- after a sync of the whole array nothing is pending
 whole-settled : (old new : StoreView) (place : ℕ) → Hardens (λ (pending : List Pending). pending ≡ []) old new → IsSettled place (slice_index_or (store_array new) place []) new

@@ -33,6 +33,8 @@
 //! * That a write is kept where it has room: a body that sends each block below at once would be proved. The trait's
 //!   contract does not say what is kept. So clauses of private functions say which blocks go below, and which stay.
 //! * That a call gives up for memory only if an allocation failed.
+//!
+//! Tests: the rows of `nbd_rows`; `tools/crash_sweep`, with real workloads.
 #![tactic(auto)]
 
 mod as_store;

@@ -1,16 +1,19 @@
 //! Calls of the libraries: a disk's calls, and the typed calls to a drive.
 
+use crate::bench::{Bench, Setting, Stage, bench_of, world_after};
+use crate::fault::ScriptFault;
+use crate::requests::{Request, parse_request};
+use crate::runs::{show_report, show_unreached};
+use crate::show::{show_answer_bytes, show_line, show_sent};
+use crate::words::{meant, number, part};
+use crate::world::World;
 use disk_files::{ParseFault, TraceLine};
 use drive_port::{Device, PortFault, append, close, count_zones, finish, read, report, reset};
 use nvme_wire::{Action, Command};
-use script_world::{
-    Bench, Request, ScriptFault, Setting, Stage, World, bench_of, meant, number, parse_request,
-    part, show_answer_bytes, show_line, show_report, show_sent, show_unreached, world_after,
-};
 use std::alloc::{AllocError, Global};
 use zone_translator::{Disk, DiskFault, MountFault, Place};
 
-// Shows the commands that are recorded after the first `sent`, and says how many there are.
+/// Shows the commands that are recorded after the first `sent`, and says how many there are.
 fn show_new(
     alloc: Global,
     entries: &[[u8; 64]],
@@ -28,7 +31,7 @@ fn show_data(data: &[u8], out: &mut String) -> Result<(), AllocError> {
     show_answer_bytes("", data, out)
 }
 
-// The call of a line, and its data in `bytes`.
+/// The call of a line, and its data in `bytes`.
 fn call_of(line: &[u8], bytes: &mut Vec<u8>) -> Result<TraceLine, ScriptFault> {
     match TraceLine::parse(line, bytes) {
         Ok(call) => Ok(call),
@@ -55,7 +58,7 @@ fn idle_calls<D: Device + Drop>(disk: &mut Disk<D>, turns: u32) -> Result<(), Di
     Ok(())
 }
 
-// Makes the calls of a line, and puts what they show into `shown`.
+/// Makes the calls of a line, and puts what they show into `shown`.
 fn disk_call<D: Device + Drop>(
     disk: &mut Disk<D>,
     line: &[u8],
@@ -86,7 +89,7 @@ fn show_done(answer: Result<(), DiskFault>, out: &mut String) -> Result<(), Allo
     }
 }
 
-// What the calls of the lines before have left: how many commands were sent, and two buffers.
+/// What the calls of the lines before have left: how many commands were sent, and two buffers.
 #[derive(Drop)]
 struct Calls {
     sent: usize,
@@ -94,7 +97,7 @@ struct Calls {
     shown: Vec<u8>,
 }
 
-// Makes the calls of a line, and shows the commands that were sent and the answer.
+/// Makes the calls of a line, and shows the commands that were sent and the answer.
 fn show_disk_call(
     alloc: Global,
     disk: &mut Disk<Bench>,
@@ -131,7 +134,7 @@ fn show_reported(
     }
 }
 
-// Asks the disk for a report of all zones, and shows the commands that were sent and the report.
+/// Asks the disk for a report of all zones, and shows the commands that were sent and the report.
 fn show_disk_report(
     alloc: Global,
     disk: &mut Disk<Bench>,
@@ -150,7 +153,7 @@ fn show_remounted(answer: Result<(), MountFault>, out: &mut String) -> Result<()
     }
 }
 
-// Mounts the drive of the disk again, and shows the commands that were sent and the answer.
+/// Mounts the drive of the disk again, and shows the commands that were sent and the answer.
 fn show_disk_remount(
     alloc: Global,
     disk: &mut Disk<Bench>,
@@ -166,7 +169,7 @@ fn show_live(live: u32, out: &mut String) -> Result<(), AllocError> {
     writeln!(out, "    {live}")
 }
 
-// Shows where the disk has the newest record of a block.
+/// Shows where the disk has the newest record of a block.
 fn show_place(place: Place, out: &mut String) -> Result<(), AllocError> {
     match place {
         Place::None => writeln!(out, "    no record"),
@@ -175,7 +178,7 @@ fn show_place(place: Place, out: &mut String) -> Result<(), AllocError> {
     }
 }
 
-// Answers a line of a disk: what it knows of a block or of a zone, a report, or a call.
+/// Answers a line of a disk: what it knows of a block or of a zone, a report, or a call.
 fn show_disk_line(
     alloc: Global,
     disk: &mut Disk<Bench>,
@@ -235,7 +238,7 @@ fn show_refused_mount(
     show_unreached(lines, out)
 }
 
-// Makes the calls of each line, and gives the drive back.
+/// Makes the calls of each line, and gives the drive back.
 fn show_mounted(
     alloc: Global,
     mut disk: Disk<Bench>,
@@ -246,7 +249,7 @@ fn show_mounted(
     (disk.into_device(), result)
 }
 
-// Mounts a drive as a disk and makes the calls of each line, or shows why it is refused. Gives the drive back.
+/// Mounts a drive as a disk and makes the calls of each line, or shows why it is refused. Gives the drive back.
 fn show_disk_over(
     alloc: Global,
     bench: Bench,
@@ -276,7 +279,7 @@ pub fn show_disk(
     world_after(stage.alloc, stage.world.geometry, bench, shown)
 }
 
-// What a typed call answers.
+/// What a typed call answers.
 #[derive(Clone, Copy)]
 enum Answer {
     Done,
@@ -368,7 +371,7 @@ fn show_answer(answer: Answer, out: &mut String) -> Result<(), ScriptFault> {
     Ok(shown?)
 }
 
-// The entry that a line asks for, and whether it asks only for the number of zones.
+/// The entry that a line asks for, and whether it asks only for the number of zones.
 fn typed_request(alloc: Global, line: &str, block: u32) -> Result<(Request, bool), ScriptFault> {
     match line.strip_prefix("Count") {
         Some(rest) => {
@@ -384,7 +387,7 @@ fn show_answered(answer: Answer, data: &[u8], out: &mut String) -> Result<(), Sc
     show_answer(answer, out)
 }
 
-// Makes the typed call of a line, and shows what it answers.
+/// Makes the typed call of a line, and shows what it answers.
 fn show_call(
     alloc: Global,
     bench: &mut Bench,

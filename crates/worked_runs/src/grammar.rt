@@ -1,7 +1,9 @@
 //! Which lines are in the grammars, whatever a drive would answer.
 
+use crate::fault::ScriptFault;
+use crate::show::{show_bytes, show_line};
+use crate::words::meant;
 use disk_files::{ParseFault, TraceLine, is_skipped, parse_raw_line};
-use script_world::{ScriptFault, meant, show_bytes, show_line};
 use std::alloc::{AllocError, Global};
 
 fn show_write(first: u64, bytes: &[u8], out: &mut String) -> Result<(), AllocError> {

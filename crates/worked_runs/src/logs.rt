@@ -3,17 +3,18 @@
 ghost use Rattle.std.specs.Prelude.{◌↔◌, ◌≡◌, IsTrue, vec_len};
 ghost use Rattle.std.specs.List.{AllByRecursion};
 
+use crate::fault::ScriptFault;
+use crate::world::{World, bytes_of};
 use batch_log::{Batches, FaultAt};
 use nvme_wire::ZoneState;
-use script_world::{ScriptFault, World, bytes_of};
 use std::alloc::{AllocError, Global};
 use yardsticks::{ZoneImage, log};
 
-// The bytes of a block.
+/// The bytes of a block.
 const BLOCK: usize = 512;
 
-// How many batches a log has, how many data blocks, the greatest size that a header says, and whether
-// a torn tail is after them.
+/// How many batches a log has, how many data blocks, the greatest size that a header says, and whether
+/// a torn tail is after them.
 #[derive(Clone, Copy, PartialEq, Eq)]
 struct Counts {
     batches: usize,
@@ -37,7 +38,7 @@ impl Counts {
     }
 }
 
-// What `batch_log` reads: the log, and the block where a torn tail begins; or the fault that it meets.
+/// What `batch_log` reads: the log, and the block where a torn tail begins; or the fault that it meets.
 type Reading = Result<(Counts, Option<u32>), FaultAt>;
 
 fn read(bytes: &[u8], is_full: bool) -> Result<Reading, ScriptFault> {
@@ -63,7 +64,7 @@ fn are_whole(blocks: &[Vec<u8>], size: usize) -> bool
     blocks.iter().all(|block| block.len() == size)
 }
 
-// What the yardstick finds, if the blocks have a log.
+/// What the yardstick finds, if the blocks have a log.
 fn found(alloc: Global, blocks: &[Vec<u8>], is_full: bool) -> Result<Option<Counts>, ScriptFault> {
     if !are_whole(blocks, BLOCK) {
         return Err(ScriptFault::Words);
@@ -101,7 +102,7 @@ fn show_reading(reading: Reading, out: &mut String) -> Result<(), AllocError> {
     }
 }
 
-// Shows what is read in a zone, and whether the yardstick finds the same.
+/// Shows what is read in a zone, and whether the yardstick finds the same.
 fn show_log(alloc: Global, zone: &ZoneImage, out: &mut String) -> Result<(), ScriptFault> {
     let is_full = zone.state == ZoneState::Full;
     let reading = read(&bytes_of(alloc, zone)?, is_full)?;

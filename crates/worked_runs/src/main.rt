@@ -11,16 +11,34 @@
 //!     ok
 //! ```
 //!
+//! Some lines repeat a trace, a mount or an image, with a stop, a tear, a failed allocation or a changed byte at each
+//! place. What came of them is compared: what was right is counted, and the first that is wrong ends the script.
+//!
 //! # What is promised
 //!
 //! Nothing beyond safety. What it prints is compared with `stdout`.
 #![tactic(auto)]
 
+mod batches;
+mod bench;
 mod calls;
+mod fault;
+mod flat;
 mod grammar;
+mod images;
 mod logs;
+mod mounted_images;
+mod mounts;
 mod questions;
+mod requests;
+mod runs;
 mod script;
+mod show;
+mod stops;
+mod survey;
+mod sweeps;
+mod words;
+mod world;
 
 use std::io;
 use std::process::ExitCode;

@@ -1,10 +1,12 @@
 //! What a script asks of its drive between two runs.
 
+use crate::fault::ScriptFault;
+use crate::requests::{Request, parse_request};
+use crate::show::{show_bytes, show_fault, show_lines};
+use crate::words::{number, part};
+use crate::world::World;
 use disk_runs::RunFault;
 use drive_port::Device;
-use script_world::{
-    Request, ScriptFault, World, number, parse_request, part, show_bytes, show_fault, show_lines,
-};
 use std::alloc::{AllocError, Global};
 use yardsticks::quota;
 use zone_choice::{batch_most, fill, fits_reserve};
@@ -27,7 +29,7 @@ pub fn show_drive_fault(
     }
 }
 
-// The command that asks for a report of all zones.
+/// The command that asks for a report of all zones.
 fn report_request(alloc: Global, geometry: Geometry) -> Result<Request, ScriptFault> {
     let dwords = 16 * (geometry.zones as u64 + 1);
     let words = format!(in alloc; "Report from 0 in {dwords} dwords")?;

@@ -1,19 +1,24 @@
 //! The lines of a script, and what each of them does.
 
+use crate::batches::parse_batch;
+use crate::bench::{Setting, Stage};
 use crate::calls::{show_calls, show_disk};
+use crate::fault::ScriptFault;
 use crate::grammar::{show_raw_lines, show_trace_lines};
+use crate::images::{show_all_changes, show_changed_images, show_image, show_random_images};
 use crate::logs::show_logs;
+use crate::mounted_images::show_mounted_changes;
+use crate::mounts::{show_mount, show_mount_halts};
 use crate::questions::{
     show_array, show_contents, show_drive_fault, show_moves, show_reserve, show_room, show_zones,
 };
-use script_sweeps::{
-    Halts, Trace, Trial, show_all_changes, show_all_stops, show_changed_images, show_image,
-    show_mount, show_mount_halts, show_mounted_changes, show_random_images, show_survey,
-};
-use script_world::{
-    Lines, ScriptFault, Setting, Stage, World, byte, bytes, habit, meant, number, parse_batch,
-    part, shape, show_answer_bytes, show_run, state,
-};
+use crate::runs::{Lines, show_run};
+use crate::show::show_answer_bytes;
+use crate::stops::{Halts, Trace, Trial};
+use crate::survey::show_survey;
+use crate::sweeps::show_all_stops;
+use crate::words::{byte, bytes, habit, meant, number, part, shape, state};
+use crate::world::World;
 use std::alloc::Global;
 use zone_drive::Drive;
 use zone_states::Geometry;
@@ -25,7 +30,7 @@ struct Step<'a> {
     lines: Vec<&'a str>,
 }
 
-// The text of a line that belongs to the one before, or none.
+/// The text of a line that belongs to the one before, or none.
 fn inner_of(line: &str) -> Option<&str> {
     if line == ">" {
         return Some("");
@@ -54,7 +59,7 @@ fn steps<'a>(alloc: Global, text: &'a str) -> Result<Vec<Step<'a>>, ScriptFault>
     Ok(steps)
 }
 
-// How many blocks of an Append are written before a stop, if these words say so.
+/// How many blocks of an Append are written before a stop, if these words say so.
 fn tear(words: &[&str]) -> Result<u32, ScriptFault> {
     match words {
         [] => Ok(0),
@@ -63,7 +68,7 @@ fn tear(words: &[&str]) -> Result<u32, ScriptFault> {
     }
 }
 
-// How the next run is made again and again.
+/// How the next run is made again and again.
 #[derive(Clone, Copy)]
 enum Sweep {
     // With this at each of its commands.
@@ -82,13 +87,13 @@ fn sweep_of(words: &[&str]) -> Result<Sweep, ScriptFault> {
     }
 }
 
-// That a line was done, or the fault that it met.
+/// That a line was done, or the fault that it met.
 fn done(answer: Result<(), ScriptFault>) -> Result<bool, ScriptFault> {
     answer?;
     Ok(true)
 }
 
-// What the steps so far have made.
+/// What the steps so far have made.
 #[derive(Drop)]
 struct Session<'a> {
     alloc: Global,
@@ -133,7 +138,7 @@ impl<'a> Session<'a> {
         }
     }
 
-    // Begins a zone anew, to which blocks are added then.
+    /// Begins a zone anew, to which blocks are added then.
     fn begin_zone(&mut self, words: &[&str]) -> Result<(), ScriptFault> {
         let [place, name] = words else {
             return Err(ScriptFault::Words);
@@ -150,7 +155,7 @@ impl<'a> Session<'a> {
         Ok(())
     }
 
-    // Puts a block of one byte after the zone's.
+    /// Puts a block of one byte after the zone's.
     fn push_block(&mut self, byte: u8) -> Result<(), ScriptFault> {
         let block = vec![in self.alloc; byte; self.world.geometry.block as usize]?;
         self.world.push_block(self.zone, block)
@@ -180,7 +185,7 @@ impl<'a> Session<'a> {
         self.push_block(byte(data.as_bytes())?)
     }
 
-    // Lines that make a drive. They show nothing, except for a drive that cannot be.
+    /// Lines that make a drive. They show nothing, except for a drive that cannot be.
     fn make(
         &mut self,
         name: &str,
@@ -240,7 +245,7 @@ impl<'a> Session<'a> {
         Ok(())
     }
 
-    // Lines that say how the next run is made.
+    /// Lines that say how the next run is made.
     fn set(&mut self, name: &str, words: &[&str]) -> Result<bool, ScriptFault> {
         match name {
             "stop" => done(self.set_stop(words)),
@@ -290,7 +295,7 @@ impl<'a> Session<'a> {
         show_survey(self.alloc, &self.world, number(n)?, out)
     }
 
-    // Lines of one word that ask something of the drive, or restart it.
+    /// Lines of one word that ask something of the drive, or restart it.
     fn ask(&mut self, name: &str, out: &mut String) -> Result<bool, ScriptFault> {
         match name {
             "restart" => done(self.restart(out)),
@@ -303,7 +308,7 @@ impl<'a> Session<'a> {
         }
     }
 
-    // Images of random drives of the same shape.
+    /// Images of random drives of the same shape.
     fn random_images(&self, words: &[&str], out: &mut String) -> Result<(), ScriptFault> {
         let ["of", count, "random", "drives"] = words else {
             return Err(ScriptFault::Words);
@@ -311,7 +316,7 @@ impl<'a> Session<'a> {
         show_random_images(self.alloc, self.world.geometry, number(count)?, out)
     }
 
-    // The image of the drive, changed at each place: what is read, or what comes of a mount too.
+    /// The image of the drive, changed at each place: what is read, or what comes of a mount too.
     fn changed_image(&self, words: &[&str], out: &mut String) -> Result<(), ScriptFault> {
         if words.len() == 4 {
             return show_all_changes(self.alloc, &self.world, words, out);
@@ -319,7 +324,7 @@ impl<'a> Session<'a> {
         show_mounted_changes(self.alloc, &self.world, words, out)
     }
 
-    // Lines of more words that ask something.
+    /// Lines of more words that ask something.
     fn ask_of(&self, name: &str, words: &[&str], out: &mut String) -> Result<bool, ScriptFault> {
         match name {
             "array" => done(self.array(words, out)),
@@ -333,7 +338,7 @@ impl<'a> Session<'a> {
         }
     }
 
-    // What the drive holds after the lines of a run.
+    /// What the drive holds after the lines of a run.
     fn world_after(
         &self,
         words: &[&str],
@@ -358,7 +363,7 @@ impl<'a> Session<'a> {
         }
     }
 
-    // Says of each line whether it is in a grammar.
+    /// Says of each line whether it is in a grammar.
     fn judge(&self, name: &str, lines: &[&str], out: &mut String) -> Result<(), ScriptFault> {
         match name {
             "trace" => show_trace_lines(self.alloc, lines, out),
@@ -367,7 +372,7 @@ impl<'a> Session<'a> {
         }
     }
 
-    // Runs a trace once with each halt.
+    /// Runs a trace once with each halt.
     fn run_halts(
         &self,
         halts: Halts,
@@ -385,7 +390,7 @@ impl<'a> Session<'a> {
         trial.show_halts(self.alloc, halts, out)
     }
 
-    // Runs a trace, or mounts the drive, again and again.
+    /// Runs a trace, or mounts the drive, again and again.
     fn run_sweep(
         &self,
         words: &[&str],
@@ -405,7 +410,7 @@ impl<'a> Session<'a> {
         }
     }
 
-    // Lines that run the lines that belong to them.
+    /// Lines that run the lines that belong to them.
     fn run(&mut self, words: &[&str], lines: &[&str], out: &mut String) -> Result<(), ScriptFault> {
         let setting = self.setting;
         let sweep = self.sweep;
@@ -424,7 +429,7 @@ impl<'a> Session<'a> {
         Ok(())
     }
 
-    // Does a line to which no others belong, if it is one.
+    /// Does a line to which no others belong, if it is one.
     fn is_done(&mut self, words: &[&'a str], out: &mut String) -> Result<bool, ScriptFault> {
         let [name, rest @ ..] = words else {
             return Ok(false);

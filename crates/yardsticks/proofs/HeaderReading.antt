@@ -52,7 +52,7 @@ count_read block count is = entries_length (little_from 0 4 (drop 12 block)) (dr
 
 -- a header block is the one of the heading that is read in it
 header_in : (block : List ℕ) (h : Heading) → (length block ≡ 512) ⊎ (length block ≡ 4096) → IsHeaderBlock (length block) block h → heading_in block ≡ h
-header_in block h size is = ap heading_in is.spelled ∙ header_again (length block) h (omega arith) is.says
+header_in block h size is = ap heading_in is.encoded ∙ header_again (length block) h (omega arith) is.says
 
 -- more entries than there is room for make no header
 pub no_room : (block : List ℕ) → (length block ≡ 512) ⊎ (length block ≡ 4096) → entry_room (length block) < length (heading_in block).entries → IsNoHeader block
@@ -64,6 +64,6 @@ no_room block size more h is =
 pub no_heading : (block : List ℕ) (read : Heading) → (length block ≡ 512) ⊎ (length block ≡ 4096) → read ≡ heading_in block → (IsHeading (length block) read → ⊥) → IsNoHeader block
 no_heading block read size e not h is = not (rw (e ∙ header_in block h size is) is.says)
 
--- nor a block that is not spelled so
+-- nor a block that is not encoded so
 pub no_spelling : (block : List ℕ) (read : Heading) → (length block ≡ 512) ⊎ (length block ≡ 4096) → read ≡ heading_in block → (block ≡ header_block (length block) read → ⊥) → IsNoHeader block
-no_spelling block read size e not h is = not (rw (e ∙ header_in block h size is) is.spelled)
+no_spelling block read size e not h is = not (rw (e ∙ header_in block h size is) is.encoded)

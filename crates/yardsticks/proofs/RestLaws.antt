@@ -51,7 +51,7 @@ one_more_batch size blocks rest log b so_far begin =
     let left = drop (suc (length b.body)) rest in
     let all : flat_map (batch_blocks size) (log ++ b ∷ []) ≡ flat_map (batch_blocks size) log ++ batch_blocks size b = flat_map-append (batch_blocks size) log (b ∷ []) ∙ ap (λ (bs : List (List ℕ)). flat_map (batch_blocks size) log ++ bs) (append-nil (batch_blocks size b)) in
     record {
-      spelled = so_far.spelled ∙ ap (λ (bs : List (List ℕ)). flat_map (batch_blocks size) log ++ bs) begin.spelled ∙ sym (append_assoc (flat_map (batch_blocks size) log) (batch_blocks size b) left) ∙ ap (λ (bs : List (List ℕ)). bs ++ left) (sym all);
+      encoded = so_far.encoded ∙ ap (λ (bs : List (List ℕ)). flat_map (batch_blocks size) log ++ bs) begin.encoded ∙ sym (append_assoc (flat_map (batch_blocks size) log) (batch_blocks size b) left) ∙ ap (λ (bs : List (List ℕ)). bs ++ left) (sym all);
       batches = all-append (IsBatch size) log (b ∷ []) so_far.batches (begin.fits, tt);
     }
 
@@ -60,7 +60,7 @@ pub none_left : (size : ℕ) (is_full : Bool) (blocks rest : List (List ℕ)) (l
     → (IsTail size is_full rest → ⊥) → HaveNoLog size is_full blocks
 none_left size is_full blocks rest log whole so_far no_batch not_tail all is =
     let small : size < 2 ^ 32 = omega arith in
-    let same = one_front size log all rest is.tail small so_far.batches is.front.batches no_batch (tail_none size is_full is.tail small is.end) (sym so_far.spelled ∙ is.front.spelled) in
+    let same = one_front size log all rest is.tail small so_far.batches is.front.batches no_batch (tail_none size is_full is.tail small is.end) (sym so_far.encoded ∙ is.front.encoded) in
     not_tail (rw same.tail_is at is.end)
 
 not_zero-ltb : (a b n : ℕ) → b ≡ a + n → ltb a b ≡ not (eqb n 0)
@@ -85,11 +85,11 @@ pub torn_is : (size : ℕ) (blocks behind : List (List ℕ)) (h : Heading) → B
 torn_is size blocks behind h begin none = by (cases_lt (length behind) (data_count h.entries))
   where
     by : (length behind < data_count h.entries) ⊎ (data_count h.entries ≤ length behind) → IsTorn size blocks
-    by (inl few) = record { heading = h; body = behind; says = begin.says; few = few; spelled = begin.spelled }
+    by (inl few) = record { heading = h; body = behind; says = begin.says; few = few; encoded = begin.encoded }
     by (inr enough) =
         let batch : Batch = record { heading = h; body = take (data_count h.entries) behind } in
         let begins : BeginsWithBatch size blocks batch = begin_with size blocks behind (take (data_count h.entries) behind) h begin enough refl in
-        absurd (none batch (drop (suc (length batch.body)) blocks) begins.fits begins.spelled)
+        absurd (none batch (drop (suc (length batch.body)) blocks) begins.fits begins.encoded)
 
 -- the tail of another zone is torn, if any
 pub tail_torn : (size : ℕ) (blocks : List (Vec ℕ Global)) (none : Bool) → none ≡ false → none ≡ eqb (length blocks) 0 → IsTail size false (held_blocks blocks) → IsTorn size (held_blocks blocks)
@@ -101,7 +101,7 @@ tail_torn size (b ∷ bs) none some is (inr torn) = torn
 
 batch_fits : (size : ℕ) (blocks : List (Vec ℕ Global)) (b : Batch) → BeginsWithBatch size (held_blocks blocks) b → suc (length b.body) ≤ length blocks
 batch_fits size blocks b begin =
-    let all : length (held_blocks blocks) ≡ length (batch_blocks size b ++ drop (suc (length b.body)) (held_blocks blocks)) = ap length begin.spelled in
+    let all : length (held_blocks blocks) ≡ length (batch_blocks size b ++ drop (suc (length b.body)) (held_blocks blocks)) = ap length begin.encoded in
     omega (arith, all, length-append (batch_blocks size b) (drop (suc (length b.body)) (held_blocks blocks)), length-map blocks (λ (block : Vec ℕ Global). block.items))
 
 -- what is left of whole blocks is whole

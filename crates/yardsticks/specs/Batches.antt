@@ -20,4 +20,4 @@ pub record IsFound (block_bytes : ℕ) (is_full : Bool) (blocks : List (List ℕ
 -- the blocks begin with this batch
 pub record BeginsWithBatch (block_bytes : ℕ) (blocks : List (List ℕ)) (batch : Batch) : Type 0 where
   pub fits : IsBatch block_bytes batch
-  pub spelled : blocks ≡ batch_blocks block_bytes batch ++ drop (suc (length batch.body)) blocks
+  pub encoded : blocks ≡ batch_blocks block_bytes batch ++ drop (suc (length batch.body)) blocks

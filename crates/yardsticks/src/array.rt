@@ -8,7 +8,7 @@ ghost use Rattle.batch_log.specs.Log.{one_unless};
 ghost use Rattle.yardsticks.specs.Batches.{batch_of, held_blocks};
 ghost use Rattle.drive_array.specs.Records.{batch_records, entry_content, log_records, newest, record_of, records};
 ghost use Rattle.drive_array.specs.Sizes.{array_of};
-ghost use Rattle.drive_array.specs.ZoneLogs.{HasLog, log_at, spelled_array};
+ghost use Rattle.drive_array.specs.ZoneLogs.{HasLog, log_at, encoded_array};
 ghost use Rattle.yardsticks.specs.Zones.{HasWholeBlocks, heard, image_contents, later, held_log};
 ghost use Rattle.yardsticks.specs.Zones.{logs_but, held_logs, saying, saying_of, said_block};
 
@@ -19,7 +19,7 @@ use batch_log::Entry;
 use std::alloc::{AllocError, Global};
 use zone_states::Geometry;
 
-// What a record says of its block: its data, or none of a trim; with its sequence and its zone.
+/// What a record says of its block: its data, or none of a trim; with its sequence and its zone.
 #[derive(Clone, Copy)]
 pub(crate) struct Said<'a> {
     sequence: u64,
@@ -27,7 +27,7 @@ pub(crate) struct Said<'a> {
     pub content: Option<&'a [u8]>,
 }
 
-// The later of two; of two with one sequence the first.
+/// The later of two; of two with one sequence the first.
 fn later<'a>(found: Option<Said<'a>>, said: Said<'a>) -> Option<Said<'a>>
     ensures { option_map saying_of result
         ≡ later (option_map saying_of found.entry) (saying_of said.entry) }
@@ -40,7 +40,7 @@ fn later<'a>(found: Option<Said<'a>>, said: Said<'a>) -> Option<Said<'a>>
     Some(said)
 }
 
-// The block of a body with this number.
+/// The block of a body with this number.
 fn body_block(body: &[Vec<u8>], number: usize) -> &[u8]
     ensures { result.now ≡ slice_index_or (held_blocks body.now) number [] }
 {
@@ -50,7 +50,7 @@ fn body_block(body: &[Vec<u8>], number: usize) -> &[u8]
     }
 }
 
-// What an entry of a batch in a zone says, with the number of its data block in the body.
+/// What an entry of a batch in a zone says, with the number of its data block in the body.
 fn said_by<'a>(zone: usize, batch: &'a Batch, entry: &Entry, number: usize) -> Said<'a>
     ensures { saying_of result ≡ record {
       sequence = batch.now.header.sequence;
@@ -81,7 +81,7 @@ fn data_blocks(entry: &Entry) -> usize
     if entry.trim { 0 } else { 1 }
 }
 
-// The latest that is said of a block, by what was found or by an entry, with the number of its data block.
+/// The latest that is said of a block, by what was found or by an entry, with the number of its data block.
 fn heard_in_entry<'a>(
     found: Option<Said<'a>>,
     block: u64,
@@ -101,7 +101,7 @@ fn heard_in_entry<'a>(
     later(found, said_by(zone, batch, entry, number))
 }
 
-// The latest that is said of a block, by what was found or by a batch.
+/// The latest that is said of a block, by what was found or by a batch.
 fn heard_in_batch<'a>(
     found: Option<Said<'a>>,
     block: u64,
@@ -121,7 +121,7 @@ fn heard_in_batch<'a>(
     latest
 }
 
-// The latest that is said of a block, by what was found or by a log.
+/// The latest that is said of a block, by what was found or by a log.
 fn heard_in_log<'a>(
     found: Option<Said<'a>>,
     block: u64,
@@ -138,7 +138,7 @@ fn heard_in_log<'a>(
     latest
 }
 
-// What the newest record of a block says, where the records of one zone may be left out.
+/// What the newest record of a block says, where the records of one zone may be left out.
 pub(crate) fn newest<'a>(
     logs: &'a [Vec<Batch>],
     left_out: Option<usize>,
@@ -154,7 +154,7 @@ pub(crate) fn newest<'a>(
     latest
 }
 
-// The data of a block of which this is said.
+/// The data of a block of which this is said.
 fn shown(alloc: Global, said: Option<Said>, block_bytes: usize) -> Result<Vec<u8>, AllocError>
     ensures { let says = option_map saying_of said.entry in
         IfOk result (λ bytes. bytes.items ≡ said_block block_bytes says) }
@@ -167,8 +167,8 @@ fn shown(alloc: Global, said: Option<Said>, block_bytes: usize) -> Result<Vec<u8
     vec![in alloc; 0; block_bytes]
 }
 
-// The array that the logs encode, where the batches of one zone may be left out; it has n blocks where
-// no header has a size.
+/// The array that the logs encode, where the batches of one zone may be left out; it has n blocks where
+/// no header has a size.
 pub(crate) fn array(
     alloc: Global,
     block_bytes: usize,
@@ -190,7 +190,7 @@ pub(crate) fn array(
 /// The array that the zones encode, or none if some zone has no log. It has `n` blocks if no header
 /// has a size, and else as many as the greatest size. The geometry is one that `check` admits, and each
 /// block has its number of bytes.
-pub fn spelled_array(
+pub fn encoded_array(
     alloc: Global,
     geometry: &Geometry,
     zones: &[ZoneImage],
@@ -198,7 +198,7 @@ pub fn spelled_array(
 ) -> Result<Option<Vec<Vec<u8>>>, AllocError>
     requires geometry { IsInRange geometry.now }
     requires whole { AllByRecursion (HasWholeBlocks geometry.now.block) zones.now }
-    ensures some { let array = spelled_array geometry.now (image_contents zones.now) n in
+    ensures some { let array = encoded_array geometry.now (image_contents zones.now) n in
         IfOk result (λ found. IfSome found (λ blocks. held_blocks blocks.items ≡ array)) }
     ensures logs { let contents = image_contents zones.now in
         IfOk result (λ found. IsSome found ↔ AllByRecursion (HasLog geometry.now) contents) }

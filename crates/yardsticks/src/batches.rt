@@ -15,9 +15,9 @@ use batch_log::{Entry, Header, Kind, header_bytes};
 use byteorder::{ByteOrder, LittleEndian};
 use std::alloc::{AllocError, Global};
 
-// Where the entries of a header begin.
+/// Where the entries of a header begin.
 const HEAD_SIZE: usize = 32;
-// The bit of an entry that marks a trim.
+/// The bit of an entry that marks a trim.
 const TRIM_BIT: u64 = 1 << 63;
 
 /// A batch of a log.
@@ -76,7 +76,7 @@ fn kind_at(bytes: &[u8]) -> Kind
     }
 }
 
-// The size after a header's source, which version 2 says.
+/// The size after a header's source, which version 2 says.
 fn size_at(version: &[u8], word: &[u8]) -> Option<u32>
     requires version { 2 ≤ length version.now }
     requires word { 4 ≤ length word.now }
@@ -89,7 +89,7 @@ fn size_at(version: &[u8], word: &[u8]) -> Option<u32>
     }
 }
 
-// The only header that the block can encode, unless its entries do not fit the block.
+/// The only header that the block can encode, unless its entries do not fit the block.
 fn claimed_header(alloc: Global, block: &[u8]) -> Result<Option<Header>, AllocError>
     requires { head_size ≤ length block.now }
     ensures some { IfOk result
@@ -186,14 +186,14 @@ fn spelling(alloc: Global, header: &Header, block_bytes: usize) -> Result<Vec<u8
 fn is_spelling(alloc: Global, header: &Header, block: &[u8]) -> Result<bool, AllocError>
     requires heading { IsHeading (length block.now) (heading_of header.now) }
     requires size { (length block.now ≡ 512) ⊎ (length block.now ≡ 4096) }
-    ensures { let spelled = header_block (length block.now) (heading_of header.now) in
-        IfOk result (λ same. IsTrue same ↔ (block.now ≡ spelled)) }
+    ensures { let encoded = header_block (length block.now) (heading_of header.now) in
+        IfOk result (λ same. IsTrue same ↔ (block.now ≡ encoded)) }
 {
-    let spelled = spelling(alloc, header, block.len())?;
-    Ok(spelled.as_slice() == block)
+    let encoded = spelling(alloc, header, block.len())?;
+    Ok(encoded.as_slice() == block)
 }
 
-// The header that the block encodes, if any.
+/// The header that the block encodes, if any.
 fn read_header(alloc: Global, block: &[u8]) -> Result<Option<Header>, AllocError>
     requires { (length block.now ≡ 512) ⊎ (length block.now ≡ 4096) }
     ensures some { let size = length block.now in
@@ -236,7 +236,7 @@ pub(crate) fn copied(alloc: Global, blocks: &[Vec<u8>]) -> Result<Vec<Vec<u8>>, 
     Ok(copy)
 }
 
-// The batch that the blocks begin with, if they begin with one.
+/// The batch that the blocks begin with, if they begin with one.
 fn first_batch(
     alloc: Global,
     blocks: &[Vec<u8>],
@@ -277,7 +277,7 @@ fn are_zero(blocks: &[Vec<u8>]) -> bool
     blocks.iter().all(|block| is_zero(block))
 }
 
-// Whether blocks that begin with no batch are a torn tail: the first of them is a header block.
+/// Whether blocks that begin with no batch are a torn tail: the first of them is a header block.
 fn are_torn(alloc: Global, blocks: &[Vec<u8>], block_bytes: usize) -> Result<bool, AllocError>
     requires size { (block_bytes ≡ 512) ⊎ (block_bytes ≡ 4096) }
     requires sizes { AllByRecursion (λ block. vec_len block ≡ block_bytes) blocks.now }
@@ -294,7 +294,7 @@ fn are_torn(alloc: Global, blocks: &[Vec<u8>], block_bytes: usize) -> Result<boo
     Ok(true)
 }
 
-// Whether blocks that begin with no batch may be after the last batch of a zone.
+/// Whether blocks that begin with no batch may be after the last batch of a zone.
 fn are_tail(
     alloc: Global,
     blocks: &[Vec<u8>],
@@ -316,7 +316,7 @@ fn are_tail(
     are_torn(alloc, blocks, block_bytes)
 }
 
-// Whether a torn tail is left, where the blocks that are left are a tail.
+/// Whether a torn tail is left, where the blocks that are left are a tail.
 fn is_torn_left(rest: &[Vec<u8>], is_full: bool) -> bool
     ensures { result ≡ (not is_full && not (length rest.now == 0)) }
 {

@@ -3,7 +3,7 @@
 //!
 //! ```text
 //! let zones = [ZoneImage { state: ZoneState::Closed, blocks }, ..];
-//! let array = spelled_array(alloc, &geometry, &zones, 8)?; // 8 blocks, if no header has a size
+//! let array = encoded_array(alloc, &geometry, &zones, 8)?; // 8 blocks, if no header has a size
 //! let mountable = is_mountable(alloc, &geometry, &zones, 8)?;
 //! ```
 //!
@@ -26,7 +26,7 @@ mod sequences;
 mod sizes;
 mod spare;
 
-pub use array::spelled_array;
+pub use array::encoded_array;
 pub use batches::{Batch, ZoneLog, is_heading, log};
 pub use logs::ZoneImage;
 pub use mountable::is_mountable;

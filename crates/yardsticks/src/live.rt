@@ -26,7 +26,7 @@ fn is_data_in(said: Option<Said>, zone: usize) -> bool
     }
 }
 
-// Of the blocks below a size, how many have their newest record in a zone.
+/// Of the blocks below a size, how many have their newest record in a zone.
 pub(crate) fn live(size: u32, logs: &[Vec<Batch>], zone: usize) -> u32
     ensures { result ≡ live_records size (held_logs logs.now) zone }
 {
@@ -39,7 +39,7 @@ pub(crate) fn live(size: u32, logs: &[Vec<Batch>], zone: usize) -> u32
     count
 }
 
-// And how many of these records are data.
+/// And how many of these records are data.
 pub(crate) fn live_data(size: u32, logs: &[Vec<Batch>], zone: usize) -> u32
     ensures { result ≡ live_data size (held_logs logs.now) zone }
 {

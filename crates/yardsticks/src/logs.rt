@@ -21,14 +21,14 @@ pub struct ZoneImage {
     pub blocks: Vec<Vec<u8>>,
 }
 
-// The logs of the zones of a drive, and after which of them torn tails stand.
+/// The logs of the zones of a drive, and after which of them torn tails stand.
 #[derive(Drop)]
 pub(crate) struct DriveLogs {
     pub logs: Vec<Vec<Batch>>,
     pub tails: Vec<bool>,
 }
 
-// The blocks, and zero blocks after them up to the capacity.
+/// The blocks, and zero blocks after them up to the capacity.
 fn padded(
     alloc: Global,
     geometry: &Geometry,
@@ -52,7 +52,7 @@ fn is_full(state: ZoneState) -> bool
     }
 }
 
-// The readable blocks of a zone.
+/// The readable blocks of a zone.
 fn readable(
     alloc: Global,
     geometry: &Geometry,
@@ -68,7 +68,7 @@ fn readable(
     padded(alloc, geometry, blocks)
 }
 
-// The log of a zone, if it has one.
+/// The log of a zone, if it has one.
 fn zone_log(
     alloc: Global,
     geometry: &Geometry,
@@ -86,7 +86,7 @@ fn zone_log(
     log(alloc, &blocks, geometry.block as usize, is_full(zone.state))
 }
 
-// The logs of all zones, if each has one.
+/// The logs of all zones, if each has one.
 pub(crate) fn zone_logs(
     alloc: Global,
     geometry: &Geometry,

@@ -51,7 +51,7 @@ fn is_partly_written(zone: &ZoneImage) -> bool
     is_active(zone.state) && !zone.blocks.is_empty()
 }
 
-// How many zones are partly written.
+/// How many zones are partly written.
 fn partly_written(zones: &[ZoneImage]) -> usize
     ensures { result ≡ count_by is_partly_written (image_contents zones.now) }
 {
@@ -99,7 +99,7 @@ fn are_sound(alloc: Global, n: u32, logs: &[Vec<Batch>]) -> Result<bool, AllocEr
     Ok(are_inside(logs, encoded_size(n, logs, None)))
 }
 
-// Whether the logs are sound, the reserve allows their size, and a zone is vacant or half clean.
+/// Whether the logs are sound, the reserve allows their size, and a zone is vacant or half clean.
 fn are_of_disk(
     alloc: Global,
     geometry: &Geometry,

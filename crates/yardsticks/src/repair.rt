@@ -14,7 +14,7 @@ use std::alloc::{AllocError, Global};
 use zone_choice::batch_most;
 use zone_states::Geometry;
 
-// Whether a zone has a batch, and a torn tail after its batches.
+/// Whether a zone has a batch, and a torn tail after its batches.
 fn is_torn(logs: &[Vec<Batch>], tails: &[bool], zone: usize) -> bool
     requires { zone < length logs.now }
     ensures { IsTrue result ↔ IsTornAt (held_logs logs.now) tails.now zone }
@@ -28,7 +28,7 @@ fn is_torn(logs: &[Vec<Batch>], tails: &[bool], zone: usize) -> bool
     }
 }
 
-// The first torn zone from one on, if any.
+/// The first torn zone from one on, if any.
 fn first_torn(logs: &[Vec<Batch>], tails: &[bool], from: usize) -> Option<usize>
     ensures some { let all = held_logs logs.now in
         IfSome result (IsFirstTorn all tails.now from) }
@@ -43,7 +43,7 @@ fn first_torn(logs: &[Vec<Batch>], tails: &[bool], from: usize) -> Option<usize>
     None
 }
 
-// How many Moves take that many records.
+/// How many Moves take that many records.
 fn moves(geometry: &Geometry, records: u32) -> u64
     requires { IsInRange geometry.now }
     ensures moves { result ≡ moves (batch_most geometry.now) records }
@@ -54,7 +54,7 @@ fn moves(geometry: &Geometry, records: u32) -> u64
         .max(1)
 }
 
-// Whether Moves of a zone's live records, and their data, fit in one zone, and the sequences last for them.
+/// Whether Moves of a zone's live records, and their data, fit in one zone, and the sequences last for them.
 fn fits(
     alloc: Global,
     geometry: &Geometry,
@@ -73,7 +73,7 @@ fn fits(
     Ok(are_below(&sequences(alloc, logs)?, (1 << 63) - moves))
 }
 
-// Whether at most one zone is torn, and can be repaired.
+/// Whether at most one zone is torn, and can be repaired.
 pub(crate) fn can_repair(
     alloc: Global,
     geometry: &Geometry,

@@ -8,7 +8,7 @@ ghost use Rattle.yardsticks.specs.Zones.{held_log, held_logs};
 use crate::batches::Batch;
 use std::alloc::{AllocError, Global};
 
-// Puts the sequences of a log after these numbers.
+/// Puts the sequences of a log after these numbers.
 fn add_sequences(numbers: &mut Vec<u64>, log: &[Batch]) -> Result<(), AllocError>
     ensures { OnOk result
         (numbers.new.items ≡ numbers.old.items ++ log_sequences (held_log log.now)) }

@@ -7,7 +7,7 @@ ghost use Rattle.yardsticks.specs.Zones.{held_log, logs_but, held_logs};
 
 use crate::batches::Batch;
 
-// The log of a zone, or none if it is the one that is left out.
+/// The log of a zone, or none if it is the one that is left out.
 pub(crate) fn log_but<'a>(
     logs: &'a [Vec<Batch>],
     left_out: Option<usize>,
@@ -32,7 +32,7 @@ fn larger(size: Option<u32>, other: Option<u32>) -> Option<u32>
     }
 }
 
-// The greatest size in the headers of a log.
+/// The greatest size in the headers of a log.
 fn log_greatest(log: &[Batch]) -> Option<u32>
     ensures { result ≡ log_greatest (held_log log.now) }
 {
@@ -43,7 +43,7 @@ fn log_greatest(log: &[Batch]) -> Option<u32>
     found
 }
 
-// The greatest size in the headers of all logs, where those of one zone may be left out.
+/// The greatest size in the headers of all logs, where those of one zone may be left out.
 fn greatest(logs: &[Vec<Batch>], left_out: Option<usize>) -> Option<u32>
     ensures { result ≡ greatest (logs_but left_out (held_logs logs.now)) }
 {
@@ -54,8 +54,8 @@ fn greatest(logs: &[Vec<Batch>], left_out: Option<usize>) -> Option<u32>
     found
 }
 
-// The number of blocks that the logs encode, where the batches of one zone may be left out: n if no
-// header has a size.
+/// The number of blocks that the logs encode, where the batches of one zone may be left out: n if no
+/// header has a size.
 pub(crate) fn encoded_size(n: u32, logs: &[Vec<Batch>], left_out: Option<usize>) -> u32
     ensures { result ≡ encoded_size n (logs_but left_out (held_logs logs.now)) }
 {

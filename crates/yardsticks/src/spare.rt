@@ -29,7 +29,7 @@ fn are_moves_from(log: &[Batch], source: u32) -> bool
     log.iter().all(|batch| is_move_from(batch, source))
 }
 
-// The zone from which all batches of a log were moved, if there is a batch and all have one source.
+/// The zone from which all batches of a log were moved, if there is a batch and all have one source.
 fn moved_from(log: &[Batch]) -> Option<u32>
     ensures some { IfSome result (λ source. (1 ≤ length log.now)
         × AllByRecursion (λ batch. IsMoveFrom source (batch_of batch)) log.now) }
@@ -43,14 +43,14 @@ fn moved_from(log: &[Batch]) -> Option<u32>
     Some(source)
 }
 
-// The sequence of the first batch of a zone.
+/// The sequence of the first batch of a zone.
 fn first_sequence(logs: &[Vec<Batch>], zone: usize) -> Option<u64>
     ensures { result ≡ first_sequence (log_at (held_logs logs.now) zone) }
 {
     Some(logs.get(zone)?.first()?.header.sequence)
 }
 
-// Whether both zones have a batch, and the first batch of the one is older than the other's.
+/// Whether both zones have a batch, and the first batch of the one is older than the other's.
 fn is_older(logs: &[Vec<Batch>], zone: usize, other: usize) -> bool
     ensures { IsTrue result ↔ IsBefore (first_sequence (log_at (held_logs logs.now) zone))
         (first_sequence (log_at (held_logs logs.now) other)) }
@@ -81,7 +81,7 @@ fn are_same(blocks: &[Vec<u8>], others: &[Vec<u8>]) -> bool
     true
 }
 
-// Whether the array is the same without the batches of a zone.
+/// Whether the array is the same without the batches of a zone.
 fn is_spare(
     alloc: Global,
     block_bytes: usize,
@@ -151,7 +151,7 @@ pub(crate) fn has_spare(
     Ok(false)
 }
 
-// The lowest half clean zone, if any.
+/// The lowest half clean zone, if any.
 fn lowest_half_clean(
     alloc: Global,
     block_bytes: usize,
@@ -178,7 +178,7 @@ fn empty_zone(logs: &mut Vec<Vec<Batch>>, zone: usize)
     logs[zone].clear();
 }
 
-// Empties the lowest half clean zone, again and again, until there is none.
+/// Empties the lowest half clean zone, again and again, until there is none.
 pub(crate) fn clear(
     alloc: Global,
     block_bytes: usize,

@@ -20,7 +20,7 @@ use Rattle.drive_array.specs.Repair.{HasAtMost}
 use Rattle.drive_array.specs.Reserve.{FitsReserve, batch_most}
 use Rattle.drive_array.specs.Sizes.{encoded_size, extended, map_of}
 use Rattle.drive_array.specs.Spare.{HasSpare}
-use Rattle.drive_array.specs.ZoneLogs.{HasLog, drive_logs, has_torn_tail, log_at, sequences, spelled, spelled_array, zone_log, zone_logs, zone_tails}
+use Rattle.drive_array.specs.ZoneLogs.{HasLog, drive_logs, has_torn_tail, log_at, sequences, encoded, encoded_array, zone_log, zone_logs, zone_tails}
 use Rattle.drive_array.specs.Mountable.{AreSound, IsMountable, is_partly_written}
 use Rattle.zone_choice.specs.Roles.{RolesView, closed_unless, empty_count, fillings, is_empty_at, is_filling_at, taken, wrote}
 use Rattle.zone_choice.specs.Tables.{SameButReady, TablesView, size_of}
@@ -91,8 +91,8 @@ agrees_close old new tables zone same opens lawful shut agrees =
     }
 
 -- such a drive spells the same array
-pub spelled_same : (old new : DriveState) (n : ℕ) → SameContents old new → spelled new n ≡ spelled old n
-spelled_same old new n same = rw (same.geometry, same.contents) refl
+pub encoded_same : (old new : DriveState) (n : ℕ) → SameContents old new → encoded new n ≡ encoded old n
+encoded_same old new n same = rw (same.geometry, same.contents) refl
 
 -- ---- no Append was torn
 
@@ -251,11 +251,11 @@ agrees_append old new tables map zone b agrees filling a placed =
     }
 
 -- and the drive has that batch more
-pub spelled_append : (old new : DriveState) (tables : TablesView) (zone : ℕ) (b : Batch) → Agrees (mounted old tables) → is_filling_at tables.roles zone ≡ true → AppendsBatch old new tables zone b
+pub encoded_append : (old new : DriveState) (tables : TablesView) (zone : ℕ) (b : Batch) → Agrees (mounted old tables) → is_filling_at tables.roles zone ≡ true → AppendsBatch old new tables zone b
     → (drive_logs new ≡ append_log (drive_logs old) zone b)
-    × (spelled new tables.given ≡ over (shown old.geometry.block) (batch_records zone (written_in old zone) b) (extended (zero_block old.geometry.block) (size_with tables b) (spelled old tables.given)))
-unfolding spelled_array
-spelled_append old new tables zone b agrees filling a =
+    × (encoded new tables.given ≡ over (shown old.geometry.block) (batch_records zone (written_in old zone) b) (extended (zero_block old.geometry.block) (size_with tables b) (encoded old tables.given)))
+unfolding encoded_array
+encoded_append old new tables zone b agrees filling a =
     let after = after_append old new tables zone b agrees filling a in
     (after.logs, rw (after.logs, a.geometry, ← after.brings) after.writes.array_is)
 
@@ -265,8 +265,8 @@ spelled_append old new tables zone b agrees filling a =
 pub agrees_finish : (old new : DriveState) (map : MapView) (empties : List Bool) (host : Filling) (second : Option Second) (next given : ℕ)
     → Agrees (mounted old (tables_with map (roles_with empties (Some host) second) next given)) → 1 ≤ host.written → host.written < old.geometry.capacity
     → new.geometry ≡ old.geometry → IsLawful new → Finishes (contents old.zones) (contents new.zones) host.zone → OpensNone old.zones new.zones
-    → Agrees (mounted new (tables_with map (roles_with empties None second) next given)) × (drive_logs new ≡ drive_logs old) × (spelled new given ≡ spelled old given)
-unfolding spelled_array
+    → Agrees (mounted new (tables_with map (roles_with empties None second) next given)) × (drive_logs new ≡ drive_logs old) × (encoded new given ≡ encoded old given)
+unfolding encoded_array
 agrees_finish old new map empties host second next given agrees some room geometry lawful finishes opens =
     let g = old.geometry in
     let zones = contents old.zones in

@@ -14,7 +14,7 @@ use Rattle.drive_array.specs.Mountable.{IsMountable}
 use Rattle.zone_choice.specs.Roles.{RolesView, closed_beside, closed_unless}
 use Rattle.drive_array.specs.Spare.{HasSpare}
 use Rattle.zone_choice.specs.Tables.{TablesView}
-use Rattle.zone_choice.proofs.AgreementLaws.{agrees_mountable, spelled_same}
+use Rattle.zone_choice.proofs.AgreementLaws.{agrees_mountable, encoded_same}
 use Rattle.zone_choice.proofs.ChangeLaws.{keeps-refl}
 use Rattle.zone_choice.proofs.MarkLaws.{sealed-with}
 use Rattle.zone_choice.proofs.RolesLaws.{closed-zone, closed_beside-twice, filling_at-with, same-second}
@@ -84,7 +84,7 @@ logs-same a b same = rw (same.geometry, same.contents) refl
 places-closed : (a b c : MountedView) (zone : ℕ) (batch : Batch) → ClosesBeside a b zone → b.tables.roles ≡ roles_alone a.drive.geometry a.tables.roles zone → Places b c zone batch → Places a c zone batch
 places-closed a b c zone batch closes noted placed =
     let same = closes.kept.same in
-    let array : mounted_array b ≡ mounted_array a = rw closes.tables (spelled_same a.drive b.drive a.tables.given same) in
+    let array : mounted_array b ≡ mounted_array a = rw closes.tables (encoded_same a.drive b.drive a.tables.given same) in
     let twice = alone-twice a.drive.geometry a.tables.roles zone in
     record {
       agrees = placed.agrees;
@@ -119,7 +119,7 @@ closes-join a b c zone p q = record {
 stops-closed : (a b c : MountedView) (zone : ℕ) (batch : Batch) → ClosesBeside a b zone → StopsInside b c zone batch → StopsInside a c zone batch
 stops-closed a b c zone batch closes stops =
     let same = closes.kept.same in
-    let array : mounted_array b ≡ mounted_array a = rw closes.tables (spelled_same a.drive b.drive a.tables.given same) in
+    let array : mounted_array b ≡ mounted_array a = rw closes.tables (encoded_same a.drive b.drive a.tables.given same) in
     let given : b.tables.given ≡ a.tables.given = ap (λ (t : TablesView). t.given) closes.tables in
     record {
       stopped = stops.stopped;
@@ -163,7 +163,7 @@ stops-before a b zone batch stops =
     record {
       stopped = stops.0;
       tables = inl stops.1;
-      left = inl (record { logs_are = logs-same a.drive b.drive kept.same; array_is = spelled_same a.drive b.drive a.tables.given kept.same });
+      left = inl (record { logs_are = logs-same a.drive b.drive kept.same; array_is = encoded_same a.drive b.drive a.tables.given kept.same });
       mountable = λ spare. subst (IsMountable b.drive) given (agrees_mountable b.drive b.tables kept.agrees (subst (λ (n : ℕ). HasSpare n b.tables.given (drive_logs b.drive)) (sym block) (subst (λ (n : ℕ). HasSpare a.drive.geometry.block n (drive_logs b.drive)) (sym given) spare)));
       geometry = kept.same.geometry;
       refused = kept.refused;
@@ -196,7 +196,7 @@ closes-keeps a b zone closes =
     record {
       agrees = kept.agrees;
       logs = logs-same a.drive b.drive kept.same;
-      array = rw tables (spelled_same a.drive b.drive a.tables.given kept.same);
+      array = rw tables (encoded_same a.drive b.drive a.tables.given kept.same);
       places = rw tables refl;
       next = rw tables refl;
       given = rw tables refl;

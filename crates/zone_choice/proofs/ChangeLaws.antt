@@ -24,14 +24,14 @@ use Rattle.logical_map.specs.Places.{IsReady, MapView}
 use Rattle.logical_map.specs.declared.place.Place.{Place}
 use Rattle.logical_map.specs.declared.place.Place.TheVariants as places
 use Rattle.zone_choice.specs.Agreement.{Agrees, mounted, mounted_array}
-use Rattle.drive_array.specs.ZoneLogs.{drive_logs, spelled}
+use Rattle.drive_array.specs.ZoneLogs.{drive_logs, encoded}
 use Rattle.zone_choice.specs.Builder.{BuilderView, IsBuilt, built, placed}
 use Rattle.zone_choice.specs.Changes.{BatchLeaves, CanPlace, IsHalt, KeepsArray, Places, StopsInside, fault_halt, roles_alone, size_with, told_over}
 use Rattle.drive_array.specs.Records.{append_log, batch_records, entry_records, over, place, record_of, shown}
 use Rattle.zone_choice.specs.Roles.{RolesView, closed, fillings, second_with, wrote}
 use Rattle.drive_array.specs.Sizes.{extended, size_or}
 use Rattle.zone_choice.specs.Tables.{GrowsTo, SameButReady, TablesView, size_of, with_places}
-use Rattle.zone_choice.proofs.AgreementLaws.{AppendsBatch, IsPlaced, agrees_append, agrees_room, agrees_same, length-extended, size-placed, spelled_append, spelled_same, tables_after, written_in}
+use Rattle.zone_choice.proofs.AgreementLaws.{AppendsBatch, IsPlaced, agrees_append, agrees_room, agrees_same, length-extended, size-placed, encoded_append, encoded_same, tables_after, written_in}
 use Rattle.drive_array.proofs.AllLaws.{all-weaker}
 use Rattle.zone_choice.proofs.BuilderLaws.{placed-over}
 use Rattle.zone_choice.proofs.CommandLaws.{can_append, fillings-few, filling-in_range, zone-start}
@@ -53,7 +53,7 @@ pub keeps-same : (old new : DriveState) (tables : TablesView) → Agrees (mounte
 keeps-same old new tables agrees same opens lawful refused durable appended = record {
   agrees = agrees_same old new tables same opens lawful agrees;
   logs = rw (same.geometry, same.contents) refl;
-  array = spelled_same old new tables.given same;
+  array = encoded_same old new tables.given same;
   places = refl;
   next = refl;
   given = refl;
@@ -75,7 +75,7 @@ pub keeps-room : (drive : DriveState) (old new : TablesView) → SameButReady ol
 keeps-room drive old new room agrees = record {
   agrees = agrees_room drive old new room agrees;
   logs = refl;
-  array = ap (λ (n : ℕ). spelled drive n) room.given;
+  array = ap (λ (n : ℕ). encoded drive n) room.given;
   places = room.places;
   next = room.next;
   given = room.given;
@@ -236,10 +236,10 @@ told_anywhere size sequence zone header k body (e ∷ es) array =
 
 -- what the drive encodes with the batch
 told-with : (old : DriveState) (tables : TablesView) (zone : ℕ) (b : Batch) → b.heading.size ≡ Some (size_with tables b)
-    → over (shown old.geometry.block) (batch_records zone (written_in old zone) b) (extended (zero_block old.geometry.block) (size_with tables b) (spelled old tables.given)) ≡ told_over old.geometry.block b (mounted_array (mounted old tables))
+    → over (shown old.geometry.block) (batch_records zone (written_in old zone) b) (extended (zero_block old.geometry.block) (size_with tables b) (encoded old tables.given)) ≡ told_over old.geometry.block b (mounted_array (mounted old tables))
 told-with old tables zone b size =
-    let same : size_or (length (spelled old tables.given)) b.heading.size ≡ size_with tables b = ap (size_or (length (spelled old tables.given))) size in
-    rw same (told_anywhere old.geometry.block b.heading.sequence zone (written_in old zone) 0 b.body b.heading.entries (extended (zero_block old.geometry.block) (size_with tables b) (spelled old tables.given)))
+    let same : size_or (length (encoded old tables.given)) b.heading.size ≡ size_with tables b = ap (size_or (length (encoded old tables.given))) size in
+    rw same (told_anywhere old.geometry.block b.heading.sequence zone (written_in old zone) 0 b.body b.heading.entries (extended (zero_block old.geometry.block) (size_with tables b) (encoded old tables.given)))
 
 -- its Append was done, and tables and drive agree again
 pub place_writes : (old new : DriveState) (tables grown after : TablesView) (zone start address blocks : ℕ) (builder : BuilderView) (bytes : List ℕ) → bytes ≡ builder.bytes → IsBuilt old.geometry.block builder → CanPlace (mounted old tables) zone (built old.geometry.block builder) → roles_alone old.geometry tables.roles zone ≡ tables.roles → start ≡ zone * old.geometry.size
@@ -264,10 +264,10 @@ place_writes old new tables grown after zone start address blocks builder bytes 
     let same : after ≡ tables_after tables map zone b = after-is ∙ rw (blocks-is, grows.roles, grows.next, grows.given) refl in
     rw same (record {
       agrees = agrees_append old new tables map zone b can.agrees can.filling a is_placed;
-      logs = (spelled_append old new tables zone b can.agrees can.filling a).0;
+      logs = (encoded_append old new tables zone b can.agrees can.filling a).0;
       size = size-placed old tables map zone b can.grows is_placed;
       places = rw (header, grows.places) refl;
-      array = (spelled_append old new tables zone b can.agrees can.filling a).1 ∙ told-with old tables zone b can.size;
+      array = (encoded_append old new tables zone b can.agrees can.filling a).1 ∙ told-with old tables zone b can.size;
       next = refl;
       given = refl;
       roles = rw alone refl;
@@ -293,7 +293,7 @@ stops_inside old new tables zone start builder is can start-is kept leaves obeys
     b : Batch
     b = built old.geometry.block builder
 
-    made : (logs : List (List Batch)) (array : List (List ℕ)) → Left new tables.given logs array → (logs ≡ drive_logs old) × (array ≡ spelled old tables.given) ⊎ (logs ≡ append_log (drive_logs old) zone b) × (array ≡ told_over old.geometry.block b (spelled old tables.given))
+    made : (logs : List (List Batch)) (array : List (List ℕ)) → Left new tables.given logs array → (logs ≡ drive_logs old) × (array ≡ encoded old tables.given) ⊎ (logs ≡ append_log (drive_logs old) zone b) × (array ≡ told_over old.geometry.block b (encoded old tables.given))
         → StopsInside (mounted old tables) (mounted new tables) zone b
     made logs array left which = record {
       stopped = obeys.stops refl;
@@ -330,7 +330,7 @@ stops_inside old new tables zone start builder is can start-is kept leaves obeys
 
     by : SameContents old new ⊎ AppendedFront old new start builder.bytes → StopsInside (mounted old tables) (mounted new tables) zone b
     by (inl same) =
-        made (drive_logs old) (spelled old tables.given) (left-same old new tables same obeys.lawful can.agrees) (inl (refl, refl))
+        made (drive_logs old) (encoded old tables.given) (left-same old new tables same obeys.lawful can.agrees) (inl (refl, refl))
     by (inr some) =
         let g = old.geometry in
         let s = sized g builder can.agrees.geometry can.heading is in

@@ -20,7 +20,7 @@ use Rattle.logical_map.specs.declared.place.Place.{Place}
 use Rattle.logical_map.specs.declared.place.Place.TheVariants as places
 use Rattle.drive_array.specs.Records.{IsNewest, Record, batch_records, entry_content, entry_offset, entry_records, log_records, newest, place, records, shown}
 use Rattle.drive_array.specs.Sizes.{array_of, encoded_size}
-use Rattle.drive_array.specs.ZoneLogs.{HasLog, drive_logs, padding, readable, spelled, spelled_array, zone_log, zone_logs}
+use Rattle.drive_array.specs.ZoneLogs.{HasLog, drive_logs, padding, readable, encoded, encoded_array, zone_log, zone_logs}
 use Rattle.zone_choice.specs.Agreement.{Agrees, mounted}
 use Rattle.zone_choice.specs.Tables.{TablesView, size_of}
 use Rattle.zone_choice.proofs.AgreementLaws.{size-encoded}
@@ -80,7 +80,7 @@ log_stands size zone offset front (b ∷ bs) tail blocks z fits e is =
 
 -- each record of a zone's log is in its blocks
 pub zone_stands : (size zone : ℕ) (is_full : Bool) (blocks : List (List ℕ)) (log : List Batch) (z : List ℕ) → IsLog size is_full blocks log → AllByRecursion (StandsIn blocks z zone) (log_records zone 0 log)
-zone_stands size zone is_full blocks log z is = log_stands size zone 0 [] log is.tail blocks z is.front.batches refl is.front.spelled
+zone_stands size zone is_full blocks log z is = log_stands size zone 0 [] log is.tail blocks z is.front.batches refl is.front.encoded
 
 -- ---- on the drive
 
@@ -182,8 +182,8 @@ record_holds drive tables array block r bytes agrees some says on =
 
 -- it does where tables and drive agree
 pub holds_place : (drive : DriveState) (tables : TablesView) (block : ℕ) → Agrees (mounted drive tables) → block < size_of tables
-    → HoldsPlace drive (spelled drive tables.given) block (get_or tables.map.places block places.None)
-unfolding spelled_array
+    → HoldsPlace drive (encoded drive tables.given) block (get_or tables.map.places block places.None)
+unfolding encoded_array
 holds_place drive tables block agrees lt =
     let n = tables.given in
     let size = encoded_size n (drive_logs drive) in
@@ -196,11 +196,11 @@ holds_place drive tables block agrees lt =
     rw mapped (at (newest block rs) (newest-is block rs) says)
   where
     found : (r : Record) → IsNewest (records 0 (zone_logs drive.geometry (contents drive.zones))) block (Some r) → (content : Option (List ℕ)) → r.content ≡ content
-        → get_or (spelled drive tables.given) block [] ≡ shown drive.geometry.block (Some r) → HoldsPlace drive (spelled drive tables.given) block (place drive.geometry.size (Some r))
+        → get_or (encoded drive tables.given) block [] ≡ shown drive.geometry.block (Some r) → HoldsPlace drive (encoded drive tables.given) block (place drive.geometry.size (Some r))
     found r live None is says = rw is (rw is at says)
     found r live (Some bytes) is says =
-        rw is (record_holds drive tables (spelled drive tables.given) block r bytes agrees is (rw is at says) (all-among (StandsOn drive.geometry (contents drive.zones) 0) (records 0 (zone_logs drive.geometry (contents drive.zones))) r (records_stand drive.geometry (contents drive.zones) 0 agrees.logs) live.1.among))
+        rw is (record_holds drive tables (encoded drive tables.given) block r bytes agrees is (rw is at says) (all-among (StandsOn drive.geometry (contents drive.zones) 0) (records 0 (zone_logs drive.geometry (contents drive.zones))) r (records_stand drive.geometry (contents drive.zones) 0 agrees.logs) live.1.among))
 
-    at : (o : Option Record) → IsNewest (records 0 (zone_logs drive.geometry (contents drive.zones))) block o → get_or (spelled drive tables.given) block [] ≡ shown drive.geometry.block o → HoldsPlace drive (spelled drive tables.given) block (place drive.geometry.size o)
+    at : (o : Option Record) → IsNewest (records 0 (zone_logs drive.geometry (contents drive.zones))) block o → get_or (encoded drive tables.given) block [] ≡ shown drive.geometry.block o → HoldsPlace drive (encoded drive tables.given) block (place drive.geometry.size o)
     at None none says = says
     at (Some r) live says = found r live r.content refl says

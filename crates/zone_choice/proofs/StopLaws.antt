@@ -9,7 +9,7 @@ use Rattle.batch_log.specs.Log.{Batch, IsBatch, batch_blocks, batch_size, zero_b
 use Rattle.logical_map.specs.Places.{MapView}
 use Rattle.logical_map.specs.declared.place.Place.TheVariants as places
 use Rattle.zone_choice.specs.Agreement.{Agrees, mounted}
-use Rattle.drive_array.specs.ZoneLogs.{HasLog, drive_logs, log_at, spelled, spelled_array, zone_tails}
+use Rattle.drive_array.specs.ZoneLogs.{HasLog, drive_logs, log_at, encoded, encoded_array, zone_tails}
 use Rattle.zone_choice.specs.Changes.{Encodes, sequence_end, size_with}
 use Rattle.drive_array.specs.Laws.{OnlyTorn, SameLogs}
 use Rattle.drive_array.specs.Mountable.{HoldDisk, IsMountable, is_partly_written}
@@ -20,7 +20,7 @@ use Rattle.zone_choice.specs.Roles.{fillings, is_filling_at}
 use Rattle.drive_array.specs.Sizes.{extended}
 use Rattle.drive_array.specs.Spare.{HasSpare}
 use Rattle.zone_choice.specs.Tables.{TablesView}
-use Rattle.zone_choice.proofs.AgreementLaws.{AppendsBatch, IsPlaced, agrees_append, agrees_mountable, no_tails, size-encoded, sound-weaker, spelled_append, spelled_same, written_in, zone-untorn}
+use Rattle.zone_choice.proofs.AgreementLaws.{AppendsBatch, IsPlaced, agrees_append, agrees_mountable, no_tails, size-encoded, sound-weaker, encoded_append, encoded_same, written_in, zone-untorn}
 use Rattle.drive_array.proofs.AllLaws.{all-at, all-set}
 use Rattle.zone_choice.proofs.ContentLaws.{all-usable, count-fillings, filling-log, roles-settled, settled-whole}
 use Rattle.drive_array.proofs.MountLaws.{torn_mounts}
@@ -103,8 +103,8 @@ pub record Left (new : DriveState) (n : ℕ) (logs : List (List Batch)) (array :
   pub mountable : HasSpare new.geometry.block n (drive_logs new) → IsMountable new n
 
 -- a torn batch leaves the logs, and the array that they spell
-pub left-torn : (old new : DriveState) (tables : TablesView) (zone j : ℕ) (b : Batch) → Agrees (mounted old tables) → TornBatch old new tables zone j b → Left new tables.given (drive_logs old) (spelled old tables.given)
-unfolding spelled_array
+pub left-torn : (old new : DriveState) (tables : TablesView) (zone j : ℕ) (b : Batch) → Agrees (mounted old tables) → TornBatch old new tables zone j b → Left new tables.given (drive_logs old) (encoded old tables.given)
+unfolding encoded_array
 left-torn old new tables zone j b agrees torn =
     let kept = torn_kept old new tables zone j b agrees torn in
     let logs : drive_logs new ≡ drive_logs old = rw torn.geometry kept.logs in
@@ -114,17 +114,17 @@ left-torn old new tables zone j b agrees torn =
     }
 
 -- the drive holds what it did
-pub left-same : (old new : DriveState) (tables : TablesView) → SameContents old new → IsLawful new → Agrees (mounted old tables) → Left new tables.given (drive_logs old) (spelled old tables.given)
+pub left-same : (old new : DriveState) (tables : TablesView) → SameContents old new → IsLawful new → Agrees (mounted old tables) → Left new tables.given (drive_logs old) (encoded old tables.given)
 left-same old new tables same lawful agrees = record {
-  encodes = record { logs_are = rw (same.geometry, same.contents) refl; array_is = spelled_same old new tables.given same };
+  encodes = record { logs_are = rw (same.geometry, same.contents) refl; array_is = encoded_same old new tables.given same };
   mountable = λ spare. record { lawful = lawful; holds = rw (same.geometry, same.contents) (agrees_mountable old tables agrees (rw (same.geometry, same.contents) at spare)).holds };
 }
 
 -- the whole batch: tables that place it would agree with the drive
 pub left-whole : (old new : DriveState) (tables : TablesView) (zone : ℕ) (b : Batch) → Agrees (mounted old tables) → is_filling_at tables.roles zone ≡ true → AppendsBatch old new tables zone b
-    → Left new tables.given (append_log (drive_logs old) zone b) (over (shown old.geometry.block) (batch_records zone (written_in old zone) b) (extended (zero_block old.geometry.block) (size_with tables b) (spelled old tables.given)))
+    → Left new tables.given (append_log (drive_logs old) zone b) (over (shown old.geometry.block) (batch_records zone (written_in old zone) b) (extended (zero_block old.geometry.block) (size_with tables b) (encoded old tables.given)))
 left-whole old new tables zone b agrees filling a =
-    let array = spelled_append old new tables zone b agrees filling a in
+    let array = encoded_append old new tables zone b agrees filling a in
     let map : MapView = record tables.map { places = over (place old.geometry.size) (batch_records zone (written_in old zone) b) (extended places.None (size_with tables b) tables.map.places) } in
     let placed : IsPlaced old tables map zone b = record { places = refl; zones = refl; zone_size = refl } in
     record {

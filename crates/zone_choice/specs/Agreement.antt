@@ -11,7 +11,7 @@ use Rattle.batch_log.specs.Log.{Batch, log_size}
 use Rattle.zone_choice.specs.declared.roles.Filling.{Filling}
 use Rattle.drive_array.specs.Reserve.{FitsReserve, batch_most}
 use Rattle.drive_array.specs.Sizes.{map_of}
-use Rattle.drive_array.specs.ZoneLogs.{HasLog, drive_logs, log_at, spelled}
+use Rattle.drive_array.specs.ZoneLogs.{HasLog, drive_logs, log_at, encoded}
 use Rattle.drive_array.specs.Mountable.{AreSound}
 use Rattle.drive_array.specs.Repair.{HasAtMost}
 use Rattle.zone_choice.specs.Roles.{AreApart, RolesView, fillings, is_empty_at, is_filling_at}
@@ -59,7 +59,7 @@ TellsOpen zones filling = filling.may_open ≡ false → IsShut zones filling.zo
 
 -- the array of a mounted disk
 abbrev pub mounted_array : MountedView → List (List ℕ)
-mounted_array disk = spelled disk.drive disk.tables.given
+mounted_array disk = encoded disk.drive disk.tables.given
 
 -- ---- tables and drive
 

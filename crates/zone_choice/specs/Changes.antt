@@ -17,7 +17,7 @@ use Rattle.logical_map.specs.declared.place.Place.{Place}
 use Rattle.logical_map.specs.declared.place.Place.TheVariants as places
 use Rattle.zone_choice.specs.declared.roles.Filling.{Filling}
 use Rattle.zone_choice.specs.Agreement.{Agrees, MountedView, mounted, mounted_array}
-use Rattle.drive_array.specs.ZoneLogs.{drive_logs, spelled}
+use Rattle.drive_array.specs.ZoneLogs.{drive_logs, encoded}
 use Rattle.drive_array.specs.Mountable.{IsMountable}
 use Rattle.drive_array.specs.Repair.{HasAtMost}
 use Rattle.zone_choice.specs.Builder.{BuilderView, built, placed}
@@ -169,7 +169,7 @@ pub record CanPlace (before : MountedView) (zone : ℕ) (batch : Batch) : Type 0
 -- what a drive encodes: its logs, and the array
 pub record Encodes (drive : DriveState) (n : ℕ) (logs : List (List Batch)) (array : List (List ℕ)) : Type 0 where
   pub logs_are : drive_logs drive ≡ logs
-  pub array_is : spelled drive n ≡ array
+  pub array_is : encoded drive n ≡ array
 
 -- The drive stopped inside the Append of a batch, or before it or after it: it encodes what it did, or that with the
 -- batch. If a zone is spare, it can be mounted. The tables are the same, but that they may say that the zone beside was

@@ -47,9 +47,9 @@ mod tables;
 pub use append::{append_batch, halt_of};
 pub use batch::BatchBuilder;
 pub use drive_array::{
-    append_first, append_logs, append_writes, batch_most, empty_spare, fill, finish_logs,
-    finish_mounts, fits_reserve, greatest_is, most_blocks, newest_is_live, one_clearing,
-    repair_mounts, resets_mount, spelled_blocks, torn_mounts,
+    append_first, append_logs, append_writes, batch_most, empty_spare, encoded_blocks, fill,
+    finish_logs, finish_mounts, fits_reserve, greatest_is, most_blocks, newest_is_live,
+    one_clearing, repair_mounts, resets_mount, torn_mounts,
 };
 pub use laws::a_zone_can_be_cleaned;
 pub use mounted::Mounted;

@@ -23,7 +23,7 @@ use Rattle.drive_array.specs.Records.{shown_content}
 use Rattle.drive_array.specs.Reserve.{batch_most}
 use Rattle.zone_choice.specs.Tables.{size_of}
 use Rattle.zone_choice.proofs.AgreementLaws.{agrees_mountable, size-encoded}
-use Rattle.drive_array.proofs.WholeLaws.{length-spelled, whole-spelled}
+use Rattle.drive_array.proofs.WholeLaws.{length-encoded, whole-encoded}
 use Rattle.drive_array.proofs.AllLaws.{all-at, all-weaker}
 use Rattle.zone_choice.proofs.ChangeLaws.{large-block}
 use Rattle.zone_cleaner.specs.Clean.{CleanView, IsClean}
@@ -72,8 +72,8 @@ gathered-whole array size high (r ∷ rs) whole le all says = one (gathered-whol
 -- the data that was gathered is whole blocks
 pub data-whole : (disk : MountedView) (c : CleanView) → Agrees disk → IsClean disk c → AreOfLength disk.drive.geometry.block (gathered_data c.gathered)
 data-whole disk c agrees is =
-    let whole = whole-spelled disk.drive disk.tables.given (agrees_mountable disk.drive disk.tables agrees (clean_spare disk c agrees is)) in
-    gathered-whole (mounted_array disk) disk.drive.geometry.block c.cursor c.gathered whole (omega (arith, is.gathers.within, length-spelled disk.drive disk.tables.given, size-encoded disk agrees)) (gathered-below disk c is) (gathered-say disk c agrees is)
+    let whole = whole-encoded disk.drive disk.tables.given (agrees_mountable disk.drive disk.tables agrees (clean_spare disk c agrees is)) in
+    gathered-whole (mounted_array disk) disk.drive.geometry.block c.cursor c.gathered whole (omega (arith, is.gathers.within, length-encoded disk.drive disk.tables.given, size-encoded disk agrees)) (gathered-below disk c is) (gathered-say disk c agrees is)
 
 -- ---- the header
 

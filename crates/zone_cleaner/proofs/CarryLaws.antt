@@ -21,7 +21,7 @@ use Rattle.drive_array.specs.Reserve.{batch_most}
 use Rattle.zone_choice.specs.Roles.{grown}
 use Rattle.zone_choice.specs.Tables.{size_of}
 use Rattle.zone_choice.proofs.AgreementLaws.{extended-same, size-encoded}
-use Rattle.drive_array.proofs.WholeLaws.{length-spelled}
+use Rattle.drive_array.proofs.WholeLaws.{length-encoded}
 use Rattle.zone_choice.proofs.BuilderLaws.{blocks_named}
 use Rattle.zone_choice.proofs.ReadLaws.{HoldsPlace, holds_place}
 use Rattle.drive_array.proofs.ReserveLaws.{positive-most}
@@ -62,7 +62,7 @@ pub told_same : (disk : MountedView) (c : CleanView) → Agrees disk → IsClean
 told_same disk c agrees is =
     let block = disk.drive.geometry.block in
     let array = mounted_array disk in
-    let long : length array ≡ size_of disk.tables = length-spelled disk.drive disk.tables.given ∙ sym (size-encoded disk agrees) in
+    let long : length array ≡ size_of disk.tables = length-encoded disk.drive disk.tables.given ∙ sym (size-encoded disk agrees) in
     rw (extended-same (zero_block block) (size_of disk.tables) array long) (move-same array block disk.tables.next c.gathered (gathered-say disk c agrees is))
 
 -- ---- where the records are

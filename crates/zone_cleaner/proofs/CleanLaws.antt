@@ -5,6 +5,7 @@ use Rattle.std.specs.Option.{option_map}
 use Rattle.std.proofs.lemmas.List.{length-append}
 use Rattle.zone_states.specs.declared.geometry.Geometry.{Geometry}
 use Rattle.logical_map.specs.Live.{blocks_in_zone, first_record, live}
+use Rattle.logical_map.proofs.Parts.{first-none, first-parts}
 use Rattle.logical_map.specs.declared.place.Place.{Place}
 use Rattle.logical_map.specs.declared.place.Place.TheVariants as places
 use Rattle.zone_choice.specs.Agreement.{Agrees, MountedView, mounted_array}
@@ -86,21 +87,6 @@ clean_spare disk c agrees is =
 
 -- ---- a record is gathered
 
-found-parts : (f : ℕ → Place) (o : Option ℕ) (block : ℕ) (place : Place) → option_map {U = ℕ × Place} (λ b. (b, f b)) o ≡ Some (block, place) → (o ≡ Some block) × (place ≡ f block)
-found-parts f None block place e = absurd (cc)
-found-parts f (Some b) block place e =
-    let same : b ≡ block = ap (λ (p : Option (ℕ × Place)). number p) e in
-    let there : f b ≡ place = ap (λ (p : Option (ℕ × Place)). spot p) e in
-    (ap (λ (n : ℕ). Some n) same, sym there ∙ ap f same)
-  where
-    number : Option (ℕ × Place) → ℕ
-    number None = 0
-    number (Some p) = p.0
-
-    spot : Option (ℕ × Place) → Place
-    spot None = places.None
-    spot (Some p) = p.1
-
 -- of the gathered records no more than one Move takes, and one fewer is left
 pub record GatherGives (disk : MountedView) (c new : CleanView) : Type 0 where
   pub clean : IsClean disk new
@@ -111,7 +97,7 @@ pub gather_gives : (disk : MountedView) (c : CleanView) (block : ℕ) (place : P
     → GatherGives disk c (with_record c block (live_content (mounted_array disk) block place))
 gather_gives disk c block place is found few =
     let m = disk.tables.map in
-    let parts = found-parts (λ b. get_or m.places b places.None) (slice_get (blocks_in_zone m c.victim c.cursor) 0) block place found in
+    let parts = first-parts (λ b. get_or m.places b places.None) (slice_get (blocks_in_zone m c.victim c.cursor) 0) block place found in
     let took = takes-next (mounted_array disk) m.zone_size c.victim c.cursor block m.places is.gathers.within parts.0 in
     let one : LiveRecord = record { block = block; content = live_content (mounted_array disk) block place } in
     record {
@@ -130,15 +116,11 @@ gather_gives disk c block place is found few =
       fewer = took.rest;
     }
 
-none-parts : (f : ℕ → Place) (o : Option ℕ) → option_map {U = ℕ × Place} (λ b. (b, f b)) o ≡ None → o ≡ None
-none-parts f None e = refl
-none-parts f (Some b) e = absurd (cc)
-
 -- no record is left to take
 pub untaken_none : (disk : MountedView) (c : CleanView) → first_record disk.tables.map c.victim c.cursor ≡ None → untaken disk.tables c ≡ 0
 untaken_none disk c none =
     let m = disk.tables.map in
-    takes-none m.zone_size c.victim c.cursor m.places (none-parts (λ b. get_or m.places b places.None) (slice_get (blocks_in_zone m c.victim c.cursor) 0) none)
+    takes-none m.zone_size c.victim c.cursor m.places (first-none (λ b. get_or m.places b places.None) (slice_get (blocks_in_zone m c.victim c.cursor) 0) none)
 
 -- the gathered records, and those not yet taken, are the live records of the victim
 pub live-parts : (disk : MountedView) (c : CleanView) → IsClean disk c → live disk.tables.map c.victim ≡ untaken disk.tables c + length c.gathered
@@ -151,6 +133,6 @@ pub gather-next : (disk : MountedView) (c : CleanView) (block : ℕ) (place : Pl
     → (block < size_of disk.tables) × (c.cursor ≤ block) × (place ≡ get_or disk.tables.map.places block places.None)
 gather-next disk c block place is found =
     let m = disk.tables.map in
-    let parts = found-parts (λ b. get_or m.places b places.None) (slice_get (blocks_in_zone m c.victim c.cursor) 0) block place found in
+    let parts = first-parts (λ b. get_or m.places b places.None) (slice_get (blocks_in_zone m c.victim c.cursor) 0) block place found in
     let took = takes-next (mounted_array disk) m.zone_size c.victim c.cursor block m.places is.gathers.within parts.0 in
     (took.below, took.after, parts.1)

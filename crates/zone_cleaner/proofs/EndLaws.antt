@@ -15,7 +15,7 @@ use Rattle.batch_log.specs.Log.{Batch}
 use Rattle.zone_choice.specs.declared.roles.Filling.{Filling}
 use Rattle.zone_choice.specs.declared.roles.Second.TheVariants.{Destination}
 use Rattle.zone_choice.specs.Agreement.{Agrees, MountedView, mounted, mounted_array}
-use Rattle.drive_array.specs.ZoneLogs.{drive_logs, log_at, spelled, spelled_array}
+use Rattle.drive_array.specs.ZoneLogs.{drive_logs, log_at, encoded, encoded_array}
 use Rattle.zone_choice.specs.Builder.{BuilderView, IsBuilt}
 use Rattle.zone_choice.specs.Changes.{BatchLeaves, CanPlace, IsHalt, Places, StopsInside, built_for, fault_halt, sequence_end}
 use Rattle.drive_array.specs.Records.{append_log}
@@ -44,14 +44,14 @@ use Rattle.zone_cleaner.proofs.StepLaws.{MoveDue, ResetDue, move-due}
 use Rattle.zone_cleaner.proofs.BuildLaws.{MoveBuilt, move-can, move_built}
 use Rattle.zone_cleaner.proofs.CloseLaws.{memory-closes, stops-close}
 use Rattle.zone_cleaner.proofs.FailLaws.{stops_kept}
-use Rattle.zone_cleaner.proofs.MovedLaws.{move_gives, encoded}
+use Rattle.zone_cleaner.proofs.MovedLaws.{move_gives, mounted-encoded}
 use Rattle.batch_log.specs.Header.{header_block}
 use Rattle.logical_map.specs.Places.{ArePlacedReady}
 
 -- ---- a Move stops
 
-logs-array : (drive : DriveState) (n : ℕ) (g : Geometry) (logs : List (List Batch)) → drive_logs drive ≡ logs → drive.geometry ≡ g → array_of g.block n logs ≡ spelled drive n
-unfolding spelled_array
+logs-array : (drive : DriveState) (n : ℕ) (g : Geometry) (logs : List (List Batch)) → drive_logs drive ≡ logs → drive.geometry ≡ g → array_of g.block n logs ≡ encoded drive n
+unfolding encoded_array
 logs-array drive n g logs e same = rw (← e, ← same) refl
 
 carry_stops : (before after : MountedView) (c : CleanView) → Agrees before → (is : IsClean before c) → StopsInside before after is.destination.zone (gathered_move (size_of before.tables) before.tables.next c.victim c.gathered) → StopsClean before after
@@ -61,7 +61,7 @@ carry_stops before after c agrees is stops =
       stopped = stops.stopped;
       moves = only;
       mountable = rw kept.given (stops.mountable spare);
-      array = ap (spelled after.drive) kept.given ∙ array;
+      array = ap (encoded after.drive) kept.given ∙ array;
       tables = stops-close before after is.destination.zone (gathered_move (size_of before.tables) before.tables.next c.victim c.gathered) stops;
       geometry = stops.geometry;
       refused = stops.refused;
@@ -84,8 +84,8 @@ carry_stops before after c agrees is stops =
       | inr more ↦ only-more (drive_logs before.drive) (drive_logs after.drive) zone b in_range refl more.logs_are
     ]
 
-    array : spelled after.drive before.tables.given ≡ mounted_array before
-    array = elim stops.left as (λ _. spelled after.drive before.tables.given ≡ mounted_array before) [
+    array : encoded after.drive before.tables.given ≡ mounted_array before
+    array = elim stops.left as (λ _. encoded after.drive before.tables.given ≡ mounted_array before) [
       | inl same ↦ same.array_is
       | inr more ↦ more.array_is ∙ told_same before c agrees is
     ]
@@ -112,7 +112,7 @@ carry_stops before after c agrees is stops =
               grows = omega (arith, size-encoded before agrees);
               greatest = agrees.sound.numbers;
               some = (sealed-holds before c.victim agrees is.victim).has_batch;
-              same = there ∙ array ∙ sym (encoded before);
+              same = there ∙ array ∙ sym (mounted-encoded before);
             }) is.moves in
             moves_have_spare g.block before.tables.given c.victim f.zone (append_log logs f.zone b) apart (omega (arith, below, length-set logs f.zone (log_at logs f.zone ++ b ∷ []))) moved
 

@@ -8,7 +8,7 @@ use Rattle.drive_port.specs.declared.calls.PortFault.TheVariants as port
 use Rattle.logical_map.specs.declared.place.Place.{Place}
 use Rattle.logical_map.specs.declared.place.Place.TheVariants as places
 use Rattle.zone_choice.specs.Agreement.{mounted}
-use Rattle.drive_array.specs.ZoneLogs.{spelled}
+use Rattle.drive_array.specs.ZoneLogs.{encoded}
 use Rattle.zone_choice.specs.Changes.{IsHalt, fault_halt}
 use Rattle.zone_choice.specs.Tables.{TablesView}
 use Rattle.zone_choice.proofs.ChangeLaws.{keeps-contents, keeps-halt, keeps-same}
@@ -17,7 +17,7 @@ use Rattle.zone_choice.proofs.ReadLaws.{HoldsPlace, holds_place}
 use Rattle.zone_cleaner.specs.Reading.{IsGatherFault, IsStoredAt, OnlyReads}
 use Rattle.zone_cleaner.specs.Turns.{clean_fault}
 
-holds : (drive : DriveState) (tables : TablesView) (block : ℕ) (at : Place) → IsStoredAt (mounted drive tables) block at → HoldsPlace drive (spelled drive tables.given) block at
+holds : (drive : DriveState) (tables : TablesView) (block : ℕ) (at : Place) → IsStoredAt (mounted drive tables) block at → HoldsPlace drive (encoded drive tables.given) block at
 holds drive tables block at stored = rw stored.place (holds_place drive tables block stored.agrees stored.in_range)
 
 -- a Read that is done
@@ -56,5 +56,5 @@ fetch_halts old new tables block address returned port.Stopped stored gives same
 }
 
 -- what it showed is the array's
-pub fetch_shown : (drive : DriveState) (tables : TablesView) (block address : ℕ) → IsStoredAt (mounted drive tables) block (places.At address) → bytes_at drive.geometry (contents drive.zones) address 1 ≡ get_or (spelled drive tables.given) block []
+pub fetch_shown : (drive : DriveState) (tables : TablesView) (block address : ℕ) → IsStoredAt (mounted drive tables) block (places.At address) → bytes_at drive.geometry (contents drive.zones) address 1 ≡ get_or (encoded drive tables.given) block []
 fetch_shown drive tables block address stored = append-nil (block_at drive.geometry (contents drive.zones) address) ∙ (holds drive tables block (places.At address) stored).shown

@@ -26,7 +26,7 @@ use Rattle.zone_choice.specs.Roles.{RolesView, closed, closed_beside, closed_unl
 use Rattle.drive_array.specs.Sizes.{extended, size_or}
 use Rattle.zone_choice.specs.Tables.{size_of}
 use Rattle.zone_choice.proofs.AgreementLaws.{length-extended, size-encoded, sound-weaker}
-use Rattle.drive_array.proofs.WholeLaws.{length-spelled}
+use Rattle.drive_array.proofs.WholeLaws.{length-encoded}
 use Rattle.drive_array.proofs.AllLaws.{all-weaker}
 use Rattle.zone_choice.proofs.CommandLaws.{filling-in_range}
 use Rattle.drive_array.proofs.ReserveLaws.{div_ceil-mono, positive-most}
@@ -188,7 +188,7 @@ host-places before after c zone b is can done =
         let inside = all-weaker (λ (e : Entry). e.block < size_of before.tables) (λ (e : Entry). e.block < length big) es (λ e le. omega (arith, le, can.grows, length-extended places.None (size_with before.tables b) before.tables.map.places can.grows)) can.in_range in
         let out = not-named before.tables.map.zone_size c.victim header (header + 1) (header + batch_size b) k es big inside away (omega arith) (omega arith) (omega arith) (rw done.places at (rw there at lies)) in
         let array = mounted_array before in
-        let short : k < length array = omega (arith, below, is.gathers.within, length-spelled before.drive before.tables.given, size-encoded before can.agrees) in
+        let short : k < length array = omega (arith, below, is.gathers.within, length-encoded before.drive before.tables.given, size-encoded before can.agrees) in
         rw spot (ap (λ (xs : List (List ℕ)). get_or xs k []) done.array
         ∙ other-over before.drive.geometry.block b.heading.sequence 0 0 0 k b.body es (extended (zero_block before.drive.geometry.block) (size_or (length array) b.heading.size) array) out
         ∙ left-extended (zero_block before.drive.geometry.block) [] (size_or (length array) b.heading.size) k array short)

@@ -7,7 +7,7 @@ use Rattle.batch_log.specs.Log.{batch_size, data_count}
 use Rattle.zone_choice.specs.declared.roles.Filling.{Filling}
 use Rattle.zone_choice.specs.declared.roles.Second.TheVariants.{Destination}
 use Rattle.zone_choice.specs.Agreement.{Agrees, MountedView, mounted_array}
-use Rattle.drive_array.specs.ZoneLogs.{drive_logs, spelled_array}
+use Rattle.drive_array.specs.ZoneLogs.{drive_logs, encoded_array}
 use Rattle.zone_choice.specs.Changes.{Places}
 use Rattle.drive_array.specs.Records.{append_log}
 use Rattle.drive_array.specs.Reserve.{batch_most}
@@ -33,9 +33,9 @@ pub record MoveGives (before after : MountedView) (c : CleanView) : Type 0 where
   pub fewer : turns_left (batch_most before.drive.geometry) after.tables (Some (after_move c)) < turns_left (batch_most before.drive.geometry) before.tables (Some c)
 
 -- the logs encode the array, before and after
-pub encoded : (disk : MountedView) → array_of disk.drive.geometry.block disk.tables.given (drive_logs disk.drive) ≡ mounted_array disk
-unfolding spelled_array
-encoded disk = refl
+pub mounted-encoded : (disk : MountedView) → array_of disk.drive.geometry.block disk.tables.given (drive_logs disk.drive) ≡ mounted_array disk
+unfolding encoded_array
+mounted-encoded disk = refl
 
 -- fewer Moves are left, and as many records
 turns-less : (k u u' w w' a a' l l' g : ℕ) → u' ≡ u → l' ≡ u → l ≡ u + g → a ≡ w → a' ≡ w' → max (moves_due w') (div_ceil u k) < max (moves_due w) (div_ceil (u + g) k)
@@ -57,7 +57,7 @@ move_gives before after c agrees is due placed =
     let below : f.zone < length logs = omega (arith, filling-in_range before.drive before.tables f.zone agrees filling, zone-logs before.drive) in
     let below' : c.victim < length logs = omega (arith, sealed-in_range before c.victim agrees is.victim, zone-logs before.drive) in
     let same : mounted_array after ≡ mounted_array before = placed.array ∙ told_same before c agrees is in
-    let after_array : array_of g.block given (append_log logs f.zone b) ≡ mounted_array after = rw (← placed.logs, ← placed.geometry, ← placed.given) (encoded after) in
+    let after_array : array_of g.block given (append_log logs f.zone b) ≡ mounted_array after = rw (← placed.logs, ← placed.geometry, ← placed.given) (mounted-encoded after) in
     let moved = moved_places before c after.tables.map.places agrees is due placed.places in
     let fits = fits-move before c agrees is due in
     let zones : after.tables.map.zone_size ≡ before.tables.map.zone_size = placed.agrees.zone_size ∙ ap (λ (x : Geometry). x.size) placed.geometry ∙ sym agrees.zone_size in
@@ -80,7 +80,7 @@ move_gives before after c agrees is due placed =
           grows = omega (arith, size-encoded before agrees);
           greatest = agrees.sound.numbers;
           some = (sealed-holds before c.victim agrees is.victim).has_batch;
-          same = after_array ∙ same ∙ sym (encoded before);
+          same = after_array ∙ same ∙ sym (mounted-encoded before);
         }) is.moves);
       };
       fewer = turns-less (batch_most g) (untaken before.tables c) (untaken after.tables (after_move c)) f.written (f.written + (1 + data_count (gathered_entries c.gathered))) (destination_written before.tables.roles.second) (destination_written after.tables.roles.second) _ _ (length c.gathered) left now (live-parts before c is) (ap destination_written is.second) (ap destination_written second ∙ omega (arith, count)) fits.after.fewer;

@@ -10,7 +10,7 @@ use Rattle.zone_states.specs.declared.geometry.Geometry.{Geometry}
 use Rattle.drive_port.specs.Drive.{DriveState}
 use Rattle.drive_port.specs.Contents.{Content, content_of, contents, nothing}
 use Rattle.batch_log.specs.Log.{batch_blocks, log_size}
-use Rattle.batch_log.proofs.LogLaws.{spelled_length}
+use Rattle.batch_log.proofs.LogLaws.{encoded_length}
 use Rattle.logical_map.specs.Live.{lies_in, live}
 use Rattle.logical_map.specs.declared.place.Place.TheVariants as places
 use Rattle.zone_choice.specs.Agreement.{Agrees, mounted}
@@ -31,7 +31,7 @@ use Rattle.drive_array.proofs.OffsetLaws.{log-below}
 log-few : (geometry : Geometry) (content : Content) → HasLog geometry content → length content.blocks ≤ geometry.capacity → log_size (zone_log geometry content) ≤ geometry.capacity
 log-few geometry content has le =
     let log = zone_log geometry content in
-    let total : length (readable geometry content) ≡ log_size log + length has.tail = ap length has.front.spelled ∙ omega (arith, length-append (flat_map (batch_blocks geometry.block) log) has.tail, spelled_length geometry.block log has.front.batches) in
+    let total : length (readable geometry content) ≡ log_size log + length has.tail = ap length has.front.encoded ∙ omega (arith, length-append (flat_map (batch_blocks geometry.block) log) has.tail, encoded_length geometry.block log has.front.batches) in
     omega (arith, total, length-readable geometry content le)
 
 records-within : (geometry : Geometry) (first : ℕ) (zones : List Content) → AllByRecursion (HasLog geometry) zones → AllByRecursion (λ (c : Content). length c.blocks ≤ geometry.capacity) zones

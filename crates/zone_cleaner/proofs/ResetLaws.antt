@@ -12,7 +12,7 @@ use Rattle.zone_choice.specs.declared.roles.Filling.{Filling}
 use Rattle.zone_choice.specs.declared.roles.Second.{Second}
 use Rattle.zone_choice.specs.declared.roles.Second.TheVariants.{Next, Destination}
 use Rattle.zone_choice.specs.Agreement.{Agrees, HoldsFilling, MountedView, RolesAgree, mounted}
-use Rattle.drive_array.specs.ZoneLogs.{HasLog, drive_logs, log_at, spelled, spelled_array, zone_log}
+use Rattle.drive_array.specs.ZoneLogs.{HasLog, drive_logs, log_at, encoded, encoded_array, zone_log}
 use Rattle.drive_array.specs.Laws.{OnlyTorn}
 use Rattle.drive_array.specs.Mountable.{IsMountable}
 use Rattle.drive_array.specs.Records.{place, shown, without}
@@ -125,7 +125,7 @@ nothing_lost disk c agrees is due =
 pub record ResetGives (old new : DriveState) (tables : TablesView) (victim : ℕ) : Type 0 where
   pub agrees : Agrees (mounted new (record tables { roles = clean_ended tables.roles victim }))
   pub logs : drive_logs new ≡ without (drive_logs old) victim
-  pub array : spelled new tables.given ≡ spelled old tables.given
+  pub array : encoded new tables.given ≡ encoded old tables.given
   pub mountable : IsMountable new tables.given
 
 few-reset : (most victim : ℕ) (logs : List (List Batch)) (fs : List Filling) → list_any (is_at victim) fs ≡ false → AllByRecursion (λ (f : Filling). AllByRecursion (HasAtMost most) (log_at logs f.zone)) fs
@@ -137,7 +137,7 @@ few-reset most victim logs fs out all =
 -- a Reset of the victim keeps the array
 pub reset_gives : (old new : DriveState) (tables : TablesView) (c : CleanView) → Agrees (mounted old tables) → IsClean (mounted old tables) c → ResetDue (mounted old tables) c → new.geometry ≡ old.geometry → IsLawful new
     → Resets (contents old.zones) (contents new.zones) c.victim → OpensNone old.zones new.zones → ResetGives old new tables c.victim
-unfolding spelled_array
+unfolding encoded_array
 reset_gives old new tables c agrees is due geometry lawful resets opens =
     let g = old.geometry in
     let zones = contents old.zones in

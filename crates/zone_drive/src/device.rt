@@ -25,7 +25,7 @@ pub(crate) fn fault_status(fault: DecodeFault) -> Status
 }
 
 impl<Z: HeldZones + Drop> ZoneDrive<Z> {
-    // A Flush.
+    /// A Flush.
     fn flush(&mut self) -> Result<Reply, Halt>
         ensures ok { (bytes : List ℕ) → IfOk result (λ reply.
             Gives self.old.drive (Ok Command.Flush) bytes reply [] self.new.drive) }
@@ -38,7 +38,7 @@ impl<Z: HeldZones + Drop> ZoneDrive<Z> {
         Ok(Reply::done(0))
     }
 
-    // Does a command. What it returns goes after what `into` holds.
+    /// Does a command. What it returns goes after what `into` holds.
     #[inline(always)]
     fn execute(&mut self, command: Command, bytes: &[u8], into: &mut Vec<u8>) -> Result<Reply, Halt>
         requires admitted { IsAdmitted command }
@@ -67,7 +67,7 @@ impl<Z: HeldZones + Drop> ZoneDrive<Z> {
         }
     }
 
-    // Does the command of an entry, or refuses an entry that has none.
+    /// Does the command of an entry, or refuses an entry that has none.
     #[inline(always)]
     fn perform(
         &mut self,
@@ -92,7 +92,7 @@ impl<Z: HeldZones + Drop> ZoneDrive<Z> {
         }
     }
 
-    // Counts a command that was completed.
+    /// Counts a command that was completed.
     fn count(&mut self, command: Result<Command, DecodeFault>, status: Status)
         requires few { self.old.drive.state.completed < 2 ^ 63 }
         requires going { self.old.halted ≡ false }
@@ -112,7 +112,7 @@ impl<Z: HeldZones + Drop> ZoneDrive<Z> {
         }
     }
 
-    // Notes that what holds the zones has stopped, where it has.
+    /// Notes that what holds the zones has stopped, where it has.
     fn note(&mut self, halt: Halt) -> Halt
         requires stops { halt ≡ Halt.Stopped → IsTrue Z.may_stop }
         ensures same { result ≡ halt }
@@ -129,8 +129,8 @@ impl<Z: HeldZones + Drop> ZoneDrive<Z> {
     }
 
     /// Answers an entry as `submit` does, and extends what `into` holds as `submit_extending` does.
-    //
-    // It is inlined: where LLVM sees an entry encoded and then decoded, or a completion, it does neither.
+    ///
+    /// It is inlined: where LLVM sees an entry encoded and then decoded, or a completion, it does neither.
     #[inline(always)]
     pub fn answer(
         &mut self,

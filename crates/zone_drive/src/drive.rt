@@ -81,7 +81,7 @@ pub fn may_hold(state: ZoneState, capacity: u32, written: usize) -> bool
     }
 }
 
-// Whether a zone holds whole blocks, as many as its state allows.
+/// Whether a zone holds whole blocks, as many as its state allows.
 fn is_lawful(geometry: &Geometry, zone: &Zone) -> bool
     requires { 1 ≤ geometry.now.block }
     ensures { result ≡ is_lawful geometry.now zone.now }
@@ -110,7 +110,7 @@ fn empty_zones(alloc: Global, count: u32) -> Result<Vec<Zone>, AllocError>
     Ok(zones)
 }
 
-// A drive of these zones, which has completed no command.
+/// A drive of these zones, which has completed no command.
 fn unused(alloc: Global, geometry: Geometry, zones: MemoryZones) -> Drive
     requires in_range { IsInRange geometry }
     requires zones { AreZones geometry zones.zones }

@@ -14,7 +14,7 @@ use nvme_wire::{Action, Command, Status};
 use std::alloc::AllocError;
 
 impl<Z: HeldZones + Drop> ZoneDrive<Z> {
-    // The status of a Write or an Append to a zone that takes it, where the zone lacks a resource.
+    /// The status of a Write or an Append to a zone that takes it, where the zone lacks a resource.
     fn write_room_refusal(&self, number: u32, bytes: &[u8]) -> Option<Status>
         requires in_range { number < self.now.drive.state.geometry.zones }
         requires checks { None ≡ first_failing (append_bytes_checks self.now.drive.state.geometry
@@ -26,7 +26,7 @@ impl<Z: HeldZones + Drop> ZoneDrive<Z> {
         self.room_for(number).err()
     }
 
-    // The status of an Open of a zone that can be opened, where the zone lacks a resource.
+    /// The status of an Open of a zone that can be opened, where the zone lacks a resource.
     fn open_room_refusal(&self, number: u32) -> Option<Status>
         requires { number < self.now.drive.state.geometry.zones }
         ensures could { CouldOpen self.now.drive number result }

@@ -57,7 +57,7 @@ impl MemoryZones {
         &self.zones
     }
 
-    // Does an action on one zone.
+    /// Does an action on one zone.
     fn act(&mut self, index: usize, action: Action)
         requires { index < length self.old.zones }
         ensures { self.new ≡ record self.old { zones = sent_in self.old.zones index action } }
@@ -142,7 +142,7 @@ impl HeldZones for MemoryZones {
         }
     }
 
-    // It looks at the counts of the groups, and at the zones of the groups that have such a zone.
+    /// It looks at the counts of the groups, and at the zones of the groups that have such a zone.
     fn close_implicit(&mut self) {
         while let Some(low) = self.lowest_implicit() {
             self.act(low, Action::Close);
@@ -188,14 +188,14 @@ pub fn apply_to_each(zones: &mut [Zone], action: Action)
     }
 }
 
-// The bytes from an offset on; none where there are fewer.
+/// The bytes from an offset on; none where there are fewer.
 fn bytes_from(bytes: &[u8], from: usize) -> &[u8]
     ensures { result.now ≡ drop from bytes.now }
 {
     &bytes[bytes.len().min(from)..]
 }
 
-// Puts the first `len` of the stored bytes after what `into` holds, and zeros where there are fewer.
+/// Puts the first `len` of the stored bytes after what `into` holds, and zeros where there are fewer.
 fn add_with_zeros(stored: &[u8], len: usize, into: &mut Vec<u8>) -> Result<(), AllocError>
     ensures ok { OnOk result (into.new.items ≡ into.old.items ++ with_zeros len stored.now) }
     ensures err { OnErr result (into.new.items ≡ into.old.items) }

@@ -9,7 +9,7 @@ use nvme_wire::Status;
 use zone_states::ZoneState;
 
 impl<Z: HeldZones + Drop> ZoneDrive<Z> {
-    // Whether there are the resources that a zone needs to be opened.
+    /// Whether there are the resources that a zone needs to be opened.
     fn resource_refusal(&self, number: u32) -> Option<Status>
         requires { number < self.now.drive.state.geometry.zones }
         ensures { result ≡ first_failing

@@ -6,7 +6,7 @@ ghost use Rattle.zone_drive.specs.Groups.{IsCounted, IsGrouped};
 
 use zone_states::{Zone, ZoneState, is_active, is_open};
 
-// How many zones a group has: the zone with a number is in the group of the number by this.
+/// How many zones a group has: the zone with a number is in the group of the number by this.
 const GROUP: usize = 256;
 
 /// A zone that shows its state.
@@ -86,7 +86,7 @@ impl Resources {
     }
 }
 
-// How many zones are counted once one of them has changed, by whether it was counted and is now.
+/// How many zones are counted once one of them has changed, by whether it was counted and is now.
 fn moved(count: u32, before: bool, after: bool) -> u32
     requires held { one_if before ≤ count }
     requires small { count + 1 < 2 ^ 32 }
@@ -95,14 +95,14 @@ fn moved(count: u32, before: bool, after: bool) -> u32
     count + u32::from(after) - u32::from(before)
 }
 
-// The first count that is not 0.
+/// The first count that is not 0.
 fn first_counted(counts: &[u32]) -> Option<usize>
     ensures { result ≡ position (λ count. nat_lt 0 count) counts.now }
 {
     counts.iter().position(|count| *count > 0)
 }
 
-// The first implicitly opened zone.
+/// The first implicitly opened zone.
 fn first_implicit<S: HasState>(zones: &[S]) -> Option<usize>
     ensures { result ≡ position (λ zone. is_state ZoneState.ImplicitlyOpened (S.state zone)) zones.now }
 {
@@ -115,7 +115,7 @@ fn is_implicit(state: ZoneState) -> bool
     state == ZoneState::ImplicitlyOpened
 }
 
-// How many zones of each group are implicitly opened.
+/// How many zones of each group are implicitly opened.
 fn implicit_counts<S: HasState>(zones: &[S]) -> [u32; 256]
     requires { length zones.now ≤ 65536 }
     ensures { IsGrouped (λ zone. is_state ZoneState.ImplicitlyOpened (S.state zone)) zones.now result }

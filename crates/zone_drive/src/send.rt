@@ -32,7 +32,7 @@ impl<Z: HeldZones + Drop> ZoneDrive<Z> {
         }
     }
 
-    // Opens a zone that can be opened. A status says which resource is missing.
+    /// Opens a zone that can be opened. A status says which resource is missing.
     fn open(&mut self, number: u32) -> Result<Option<Status>, Halt>
         requires { number < self.old.drive.state.geometry.zones }
         ensures opens { IfOk result (λ refusal. Opens self.old.drive number refusal self.new.drive) }
@@ -51,7 +51,7 @@ impl<Z: HeldZones + Drop> ZoneDrive<Z> {
         Ok(None)
     }
 
-    // Does an action that is no Open on a zone.
+    /// Does an action that is no Open on a zone.
     fn apply(&mut self, number: u32, action: Action) -> Result<(), Halt>
         requires in_range { number < self.old.drive.state.geometry.zones }
         requires other { action ≢ Action.Open }
@@ -66,7 +66,7 @@ impl<Z: HeldZones + Drop> ZoneDrive<Z> {
         Ok(())
     }
 
-    // A Zone Management Send to one zone.
+    /// A Zone Management Send to one zone.
     fn send_to_one(&mut self, slba: u64, action: Action) -> Result<Reply, Halt>
         ensures ok { (bytes : List ℕ) → IfOk result (λ reply.
             Gives self.old.drive (Ok (Command.Send slba action false)) bytes reply [] self.new.drive) }

@@ -15,7 +15,7 @@ use nvme_wire::{Command, Status};
 use zone_states::{append_refusal, write_refusal};
 
 impl<Z: HeldZones + Drop> ZoneDrive<Z> {
-    // The status where the data is not that many blocks, or is more than one transfer moves.
+    /// The status where the data is not that many blocks, or is more than one transfer moves.
     fn data_refusal(&self, blocks: u32, bytes: &[u8]) -> Option<Status>
         ensures checks { result ≡ first_failing
             (data_checks self.now.drive.state.geometry blocks bytes.now) }
@@ -80,7 +80,7 @@ impl<Z: HeldZones + Drop> ZoneDrive<Z> {
         )
     }
 
-    // Writes whole blocks after those of a zone that takes them. A status says which resource is missing.
+    /// Writes whole blocks after those of a zone that takes them. A status says which resource is missing.
     fn write_after(&mut self, number: u32, bytes: &[u8]) -> Result<Option<Status>, Halt>
         requires in_range { number < self.old.drive.state.geometry.zones }
         requires checks { None ≡ first_failing (append_bytes_checks self.old.drive.state.geometry

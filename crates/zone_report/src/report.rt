@@ -11,7 +11,7 @@ use nvme_wire::{Descriptor, ReportHead, ReportingOptions, ZoneState};
 use std::alloc::Global;
 use zone_states::Geometry;
 
-// Whether a zone in this state is named.
+/// Whether a zone in this state is named.
 fn is_chosen(options: ReportingOptions, state: ZoneState) -> bool
     ensures { result ≡ is_chosen options state }
 {
@@ -21,7 +21,7 @@ fn is_chosen(options: ReportingOptions, state: ZoneState) -> bool
     }
 }
 
-// The descriptor of the zone with a number.
+/// The descriptor of the zone with a number.
 fn descriptor_of(geometry: Geometry, number: u32, zone: ZoneStatus) -> Descriptor
     requires { number < geometry.zones }
     ensures { result ≡ descriptor_of geometry number zone }
@@ -39,8 +39,8 @@ fn descriptor_of(geometry: Geometry, number: u32, zone: ZoneStatus) -> Descripto
     }
 }
 
-// Adds the descriptors of the chosen zones from `first` on to the bytes, as many as there is room for,
-// and answers how many zones are chosen.
+/// Adds the descriptors of the chosen zones from `first` on to the bytes, as many as there is room for,
+/// and answers how many zones are chosen.
 fn write_descriptors<Z: ReportedZones>(
     zones: &Z,
     geometry: Geometry,
@@ -71,7 +71,7 @@ fn write_descriptors<Z: ReportedZones>(
     Ok(named)
 }
 
-// Writes the head over the first 64 bytes.
+/// Writes the head over the first 64 bytes.
 fn write_head(bytes: &mut [u8], zones: u64)
     requires { 64 ≤ length bytes.old }
     ensures { bytes.new ≡ report_head_bytes (record { zones = zones }) ++ drop 64 bytes.old }
@@ -79,7 +79,7 @@ fn write_head(bytes: &mut [u8], zones: u64)
     bytes[..64].copy_from_slice(&ReportHead { zones }.encode());
 }
 
-// Adds zeros up to a size, and writes the head.
+/// Adds zeros up to a size, and writes the head.
 fn finish(bytes: &mut Vec<u8>, size: usize, zones: u64) -> Result<(), ReportFault>
     requires { (64 ≤ length bytes.old.items) × (length bytes.old.items ≤ size) }
     ensures ok { OnOk result (bytes.new.items ≡ report_head_bytes (record { zones = zones })
@@ -91,7 +91,7 @@ fn finish(bytes: &mut Vec<u8>, size: usize, zones: u64) -> Result<(), ReportFaul
     Ok(())
 }
 
-// The number in the head of a report.
+/// The number in the head of a report.
 fn counted(partial: bool, named: u64, room: u64) -> u64
     ensures { result ≡ (if partial then min room named else named) }
 {

@@ -23,7 +23,7 @@ pub fn state_text(state: ZoneState) -> &'static str
     }
 }
 
-// Adds the line of a descriptor to the text.
+/// Adds the line of a descriptor to the text.
 fn write_line(text: &mut String, descriptor: &Descriptor) -> Result<(), ReportFault>
     ensures ok { OnOk result
         (string_bytes text.new ≡ string_bytes text.old ++ descriptor_line descriptor.now) }
@@ -49,14 +49,14 @@ fn write_line(text: &mut String, descriptor: &Descriptor) -> Result<(), ReportFa
     Ok(())
 }
 
-// Whether all bytes are zeros.
+/// Whether all bytes are zeros.
 fn is_zeros(bytes: &[u8]) -> bool
     ensures { IsTrue result ↔ (bytes.now ≡ replicate (length bytes.now) 0) }
 {
     bytes.iter().all(|byte| *byte == 0)
 }
 
-// Adds the lines of the descriptors to the text.
+/// Adds the lines of the descriptors to the text.
 fn write_lines(text: &mut String, bytes: &[u8]) -> Result<(), ReportFault>
     ensures ok { OnOk result (ListsText bytes.now (string_bytes text.old) (string_bytes text.new)) }
     ensures reads { (descriptors : _) → IsListing bytes.now descriptors →

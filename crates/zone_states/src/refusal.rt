@@ -6,7 +6,7 @@ ghost use Rattle.zone_states.specs.Zone.{Zone};
 use crate::geometry::Geometry;
 use nvme_wire::{Status, ZoneState};
 
-// The status with which a state refuses every Write and Append.
+/// The status with which a state refuses every Write and Append.
 fn state_refusal(state: ZoneState) -> Option<Status>
     ensures { (zone : Zone) → zone.state ≡ state → result ≡ first_failing (state_checks zone) }
 {
@@ -18,7 +18,7 @@ fn state_refusal(state: ZoneState) -> Option<Status>
     }
 }
 
-// The status of a Write or an Append of that many blocks for which there is no room after those that are written.
+/// The status of a Write or an Append of that many blocks for which there is no room after those that are written.
 fn room_refusal(geometry: &Geometry, written: u64, blocks: u64) -> Option<Status>
     ensures { (zone : Zone) → length zone.blocks ≡ written → result ≡ first_failing (room_checks geometry.now zone blocks) }
 {

@@ -53,14 +53,14 @@ impl Model for Zone {
     ghost view = { λ z. record { state = z.state; bytes = z.written.items } };
 }
 
-// How many whole blocks there are in that many bytes.
+/// How many whole blocks there are in that many bytes.
 fn blocks_in(geometry: &Geometry, bytes: usize) -> usize
     ensures { result ≡ bytes / geometry.now.block }
 {
     bytes.checked_div(geometry.block as usize).unwrap_or(0)
 }
 
-// How many blocks these bytes are, if they are whole blocks and no more than one transfer moves.
+/// How many blocks these bytes are, if they are whole blocks and no more than one transfer moves.
 fn block_count(geometry: &Geometry, bytes: &[u8]) -> Option<usize>
     ensures some { IfSome result (λ blocks. blocks ≡ length bytes.now / geometry.now.block) }
     ensures whole { OnSome result (AreWholeBlocks geometry.now.block bytes.now) }

@@ -25,7 +25,7 @@ drop-replicate zero b x = let e : 0 + b ≡ b = omega arith in rw e refl
 drop-replicate (suc a) b x = let e : suc a + b ≡ suc (a + b) = omega arith in rw e (drop-replicate a b x)
 
 -- equal bytes are cut to equal blocks
-cut-replicate : (size count x : ℕ) → cut_blocks size count (replicate (count * size) x) ≡ replicate count (replicate size x)
+pub cut-replicate : (size count x : ℕ) → cut_blocks size count (replicate (count * size) x) ≡ replicate count (replicate size x)
 cut-replicate size zero x = refl
 cut-replicate size (suc count) x =
     let e : suc count * size ≡ size + count * size = omega (arith, add-mul count 1 size) in

@@ -7,7 +7,7 @@ use Rattle.zone_choice.specs.Changes.{KeepsArray}
 use Rattle.zone_choice.specs.Roles.{empty_count}
 use Rattle.zone_choice.specs.Tables.{size_of}
 use Rattle.zone_choice.proofs.AgreementLaws.{size-encoded}
-use Rattle.drive_array.proofs.WholeLaws.{length-spelled}
+use Rattle.drive_array.proofs.WholeLaws.{length-encoded}
 use Rattle.drive_array.specs.Mountable.{IsMountable}
 use Rattle.drive_array.specs.Reserve.{FitsReserve, batch_most}
 use Rattle.zone_cleaner.specs.declared.fault.CleanFault.{CleanFault}
@@ -41,7 +41,7 @@ view_of disk clean status = record { drive = disk.drive; tables = disk.tables; c
 
 -- while the disk serves, the array has its number of blocks; and on a drive that can be mounted each is a whole block
 pub length-array : (disk : MountedView) (clean : Option CleanView) → AgreesWithClean disk clean → length (mounted_array disk) ≡ size_of disk.tables
-length-array disk clean serves = length-spelled disk.drive disk.tables.given ∙ sym (size-encoded disk serves.0)
+length-array disk clean serves = length-encoded disk.drive disk.tables.given ∙ sym (size-encoded disk serves.0)
 
 -- no refusal of these unmounts a disk
 pub refused-status : (fault : DiskFault) (was : DiskStatus) → status_left fault ≡ statuses.Unmounted → was ≡ statuses.Unmounted

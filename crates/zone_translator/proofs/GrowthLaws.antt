@@ -8,7 +8,7 @@ use Rattle.batch_log.specs.Header.{Heading, header_block}
 use Rattle.batch_log.specs.Log.{Batch, data_count, zero_block}
 use Rattle.zone_choice.specs.declared.roles.Filling.{Filling}
 use Rattle.zone_choice.specs.Agreement.{Agrees, MountedView, mounted, mounted_array}
-use Rattle.drive_array.specs.ZoneLogs.{spelled}
+use Rattle.drive_array.specs.ZoneLogs.{encoded}
 use Rattle.zone_choice.specs.Builder.{BuilderView, IsBuilt, built, entries_from}
 use Rattle.zone_choice.specs.Changes.{CanPlace, told_over}
 use Rattle.drive_array.specs.Reserve.{FitsReserve}
@@ -84,7 +84,7 @@ growth-halts a b c old new host size builder halt.Memory kept is next leaves = (
 growth-halts a b c old new host size builder halt.Stopped kept is next leaves =
     let stops = leaves.0 in
     let batch = built b.drive.geometry.block builder in
-    let left : (spelled c.drive b.tables.given ≡ mounted_array a) ⊎ (spelled c.drive b.tables.given ≡ extended (zero_block a.drive.geometry.block) size (mounted_array a)) = elim stops.left [
+    let left : (encoded c.drive b.tables.given ≡ mounted_array a) ⊎ (encoded c.drive b.tables.given ≡ extended (zero_block a.drive.geometry.block) size (mounted_array a)) = elim stops.left [
       | inl same ↦ inl (same.array_is ∙ kept.array)
       | inr more ↦ inr (more.array_is ∙ next.tells ∙ grown-array a b size kept)
     ] in

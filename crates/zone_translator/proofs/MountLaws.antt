@@ -7,7 +7,7 @@ use Rattle.zone_choice.specs.declared.roles.Filling.{Filling}
 use Rattle.zone_choice.specs.declared.roles.Second.{Second}
 use Rattle.zone_choice.specs.declared.roles.Second.TheVariants.{Next, Destination}
 use Rattle.zone_choice.specs.Agreement.{MountedView, mounted}
-use Rattle.drive_array.specs.ZoneLogs.{spelled}
+use Rattle.drive_array.specs.ZoneLogs.{encoded}
 use Rattle.drive_array.specs.Mountable.{is_partly_written}
 use Rattle.drive_array.specs.Reserve.{FitsReserve}
 use Rattle.zone_choice.specs.Roles.{RolesView, fillings}
@@ -16,7 +16,7 @@ use Rattle.zone_cleaner.specs.Clean.{CleanView, HasNoDestination}
 use Rattle.drive_survey.specs.declared.fault.MountFault.{MountFault}
 use Rattle.drive_survey.specs.declared.fault.MountFault.TheVariants.{Halted, OutOfMemory}
 use Rattle.remount.specs.Kept.{KeepsMountable}
-use Rattle.remount.specs.Mount.{AreInOrder, IsToMount, MountFails, Mounts}
+use Rattle.remount.specs.Mount.{HostIsBelow, IsToMount, MountFails, Mounts}
 use Rattle.drive_survey.specs.Scan.{FailsBy}
 use Rattle.remount.proofs.RefusalLaws.{only-halts}
 use Rattle.zone_translator.specs.declared.status.DiskStatus.{DiskStatus}
@@ -33,7 +33,7 @@ use Rattle.zone_translator.proofs.DiskLaws.{length-array, view_of}
 
 -- the lower of the two zones is the host zone, so the other is the next one
 no-destination : (capacity : ℕ) (zones : List Content) (roles : RolesView) → AllByRecursion (λ (filling : Filling). (is_partly_written (content_at zones filling.zone) ≡ true) × (filling.written + 2 ≤ capacity)) (fillings roles)
-    → AreInOrder roles.host roles.second → HasNoDestination capacity roles.second
+    → HostIsBelow roles.host roles.second → HasNoDestination capacity roles.second
 no-destination capacity zones roles written order = by roles.host roles.second refl refl
   where
     by : (host : Option Filling) (second : Option Second) → roles.host ≡ host → roles.second ≡ second → HasNoDestination capacity roles.second
@@ -104,7 +104,7 @@ remount-halts drive new tables clean status n fault is holds fails = only-halts 
 refused-flat : (old : DiskView) (new : DriveState) (n : ℕ) (clean : Option CleanView) (fault : MountFault) → n ≡ given_size old → Holds (mounted_of old) old.clean old.status → KeepsMountable n old.drive new → FailsBy (MountFails old.drive n) new fault
     → FlatRemount (flat_of old) (Err fault) (flat_of (view_of (mounted new old.tables) clean Unmounted))
 refused-flat old new n clean fault is holds kept fails =
-    let array : spelled new (given_size old) ≡ disk_array old = (rw is at kept).array holds.mountable in
+    let array : encoded new (given_size old) ≡ disk_array old = (rw is at kept).array holds.mountable in
     (stops (remount-halts old.drive new old.tables old.clean old.status n fault is holds fails), flat-is old (view_of (mounted new old.tables) clean Unmounted) (disk_array old) (disk_size old) Unmounted array refl refl kept.geometry)
   where
     stops : FailsBy (λ _. ⊥) new fault → (fault ≡ OutOfMemory) ⊎ (fault ≡ Halted)

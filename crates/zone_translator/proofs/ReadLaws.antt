@@ -10,7 +10,7 @@ use Rattle.batch_log.specs.Log.{zero_block}
 use Rattle.logical_map.specs.declared.place.Place.{Place}
 use Rattle.logical_map.specs.declared.place.Place.TheVariants as places
 use Rattle.zone_choice.specs.Agreement.{Agrees, mounted}
-use Rattle.drive_array.specs.ZoneLogs.{spelled}
+use Rattle.drive_array.specs.ZoneLogs.{encoded}
 use Rattle.zone_choice.specs.Changes.{IsHalt, KeepsArray, fault_halt}
 use Rattle.zone_choice.specs.Tables.{TablesView, size_of}
 use Rattle.zone_choice.proofs.ChangeLaws.{keeps-contents, keeps-halt, keeps-same}
@@ -20,7 +20,7 @@ use Rattle.zone_translator.specs.Changes.{disk_fault}
 use Rattle.zone_translator.specs.Read.{IsReadFault}
 
 -- what is at the place of a block
-pub holds : (drive : DriveState) (tables : TablesView) (block : ℕ) (p : Place) → Agrees (mounted drive tables) → block < size_of tables → p ≡ get_or tables.map.places block places.None → HoldsPlace drive (spelled drive tables.given) block p
+pub holds : (drive : DriveState) (tables : TablesView) (block : ℕ) (p : Place) → Agrees (mounted drive tables) → block < size_of tables → p ≡ get_or tables.map.places block places.None → HoldsPlace drive (encoded drive tables.given) block p
 holds drive tables block p agrees lt e = rw e (holds_place drive tables block agrees lt)
 
 -- a block without data is zeros
@@ -56,13 +56,13 @@ place_kept old new tables agrees same closing lawful durable counts = keeps-cont
 
 -- it shows the block of the array
 pub place_shown : (drive : DriveState) (tables : TablesView) (block address : ℕ) (shown : List ℕ) → Agrees (mounted drive tables) → block < size_of tables → places.At address ≡ get_or tables.map.places block places.None
-    → shown ≡ bytes_at drive.geometry (contents drive.zones) address 1 → shown ≡ get_or (spelled drive tables.given) block []
+    → shown ≡ bytes_at drive.geometry (contents drive.zones) address 1 → shown ≡ get_or (encoded drive tables.given) block []
 place_shown drive tables block address shown agrees lt at e = one-block drive address shown e ∙ (holds drive tables block (places.At address) agrees lt at).shown
 
 -- a block with no data
 pub zeros_shown : (drive : DriveState) (tables : TablesView) (block : ℕ) (p : Place) → Agrees (mounted drive tables) → block < size_of tables → p ≡ get_or tables.map.places block places.None → ((address : ℕ) → p ≡ places.At address → ⊥)
-    → replicate drive.geometry.block 0 ≡ get_or (spelled drive tables.given) block []
-zeros_shown drive tables block p agrees lt at other = sym (no-place drive (spelled drive tables.given) block p (holds drive tables block p agrees lt at) other)
+    → replicate drive.geometry.block 0 ≡ get_or (encoded drive tables.given) block []
+zeros_shown drive tables block p agrees lt at other = sym (no-place drive (encoded drive tables.given) block p (holds drive tables block p agrees lt at) other)
 
 -- a block with a place for its data has data
 pub at-data : (tables : TablesView) (block address : ℕ) → places.At address ≡ get_or tables.map.places block places.None → trims (get_or tables.map.places block places.None) ≡ Some false

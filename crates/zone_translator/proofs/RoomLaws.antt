@@ -9,7 +9,7 @@ use Rattle.drive_port.specs.declared.calls.PortFault.{PortFault}
 use Rattle.drive_port.specs.declared.calls.PortFault.TheVariants as port
 use Rattle.zone_choice.specs.declared.roles.Filling.{Filling}
 use Rattle.zone_choice.specs.Agreement.{Agrees, HoldsFilling, MountedView, mounted}
-use Rattle.drive_array.specs.ZoneLogs.{drive_logs, spelled}
+use Rattle.drive_array.specs.ZoneLogs.{drive_logs, encoded}
 use Rattle.zone_choice.specs.Changes.{IsHalt, KeepsArray, fault_halt}
 use Rattle.zone_choice.specs.declared.roles.Second.TheVariants.{Destination}
 use Rattle.zone_choice.specs.Roles.{IsLowestEmpty, RolesView, empty_count, is_at, is_filling_at, filling_list, next_of, promoted, sealed, taken}
@@ -67,7 +67,7 @@ retire-stops a b clean is leaves =
     let given : b.tables.given ≡ a.tables.given = ap (λ (t : TablesView). t.given) leaves.0 in
     record {
       mountable = rw (given, ← kept.given) done.mountable;
-      array = ap (spelled b.drive) (given ∙ sym kept.given) ∙ kept.array;
+      array = ap (encoded b.drive) (given ∙ sym kept.given) ∙ kept.array;
       moves = done.moves;
       size = ap size_of leaves.0;
       trimmed = ap (λ (t : TablesView). map trims t.map.places) leaves.0;
@@ -162,7 +162,7 @@ keeps-seal drive tables new host agrees is new-is some is_full =
 -- the tables after a Finish of the host zone agree with the drive, and the array is the same
 finished_host : (old new : DriveState) (tables : TablesView) (host : Filling) (start : ℕ) → Agrees (mounted old tables) → tables.roles.host ≡ Some host → start ≡ host.zone * old.geometry.size → 1 ≤ host.written → host.written < old.geometry.capacity
     → new.geometry ≡ old.geometry → Finishes (contents old.zones) (contents new.zones) (start / old.geometry.size) → OpensNone old.zones new.zones → IsLawful new
-    → Agrees (mounted new (record tables { roles = sealed tables.roles })) × (drive_logs new ≡ drive_logs old) × (spelled new tables.given ≡ spelled old tables.given)
+    → Agrees (mounted new (record tables { roles = sealed tables.roles })) × (drive_logs new ≡ drive_logs old) × (encoded new tables.given ≡ encoded old tables.given)
 finished_host old new tables host start agrees is start-is some room geometry finishes opens lawful =
     let index = (zone-start host.zone old.geometry.size agrees.geometry.size.0).0 in
     let done = agrees_finish old new tables.map tables.roles.empty host tables.roles.second tables.next tables.given (with-host old tables (Some host) is agrees) some room geometry lawful (rw (start-is, index) at finishes) opens in

@@ -18,7 +18,7 @@ use Rattle.logical_map.specs.declared.place.Place.{Place}
 use Rattle.logical_map.specs.declared.place.Place.TheVariants as places
 use Rattle.zone_choice.specs.declared.roles.Filling.{Filling}
 use Rattle.zone_choice.specs.Agreement.{Agrees, MountedView, mounted, mounted_array}
-use Rattle.drive_array.specs.ZoneLogs.{drive_logs, log_at, spelled, zone_log}
+use Rattle.drive_array.specs.ZoneLogs.{drive_logs, log_at, encoded, zone_log}
 use Rattle.zone_choice.specs.Builder.{BuilderView, IsBuilt, built, entries_from}
 use Rattle.zone_choice.specs.Changes.{CanPlace, KeepsArray, Places, StopsInside, next_address, size_with, told_over}
 use Rattle.drive_array.specs.Reserve.{FitsReserve, batch_most}
@@ -28,7 +28,7 @@ use Rattle.drive_array.specs.Sizes.{encoded_size, extended, greatest, larger, si
 use Rattle.drive_array.specs.Mountable.{IsMountable}
 use Rattle.zone_choice.specs.Tables.{AreReserved, SameButReady, TablesView, size_of}
 use Rattle.zone_choice.proofs.AgreementLaws.{extended-same, size-encoded}
-use Rattle.drive_array.proofs.WholeLaws.{length-spelled}
+use Rattle.drive_array.proofs.WholeLaws.{length-encoded}
 use Rattle.zone_choice.proofs.AloneLaws.{stops-tables}
 use Rattle.zone_choice.proofs.ChangeLaws.{keeps-room, large-block}
 use Rattle.drive_array.proofs.ReserveLaws.{positive-most}
@@ -161,7 +161,7 @@ next-batch disk host rest count builder agrees room write count-is reserved head
       size = ap (λ (h : Heading). h.size) heading;
       entries = ap (λ (h : Heading). h.entries) heading;
       tells = ap (λ (b : Batch). told_over g.block b array) made.batch_is
-          ∙ tells-content g.block size disk.tables.next first count left content array takes.few write.whole (length-spelled disk.drive disk.tables.given ∙ sym (size-encoded disk agrees)) within;
+          ∙ tells-content g.block size disk.tables.next first count left content array takes.few write.whole (length-encoded disk.drive disk.tables.given ∙ sym (size-encoded disk agrees)) within;
     }
 
 -- ---- after a zone and memory were found for it
@@ -300,8 +300,8 @@ write_stops a b c host rest count builder kept next stops mountable =
     let array = mounted_array a in
     let blocks = rest_blocks b.drive.geometry rest in
     let batch = built b.drive.geometry.block builder in
-    let front : IsFront array rest.first blocks (spelled c.drive b.tables.given) = elim stops.left [
-      | inl same ↦ front-none array (spelled c.drive b.tables.given) rest.first blocks (same.array_is ∙ kept.array)
+    let front : IsFront array rest.first blocks (encoded c.drive b.tables.given) = elim stops.left [
+      | inl same ↦ front-none array (encoded c.drive b.tables.given) rest.first blocks (same.array_is ∙ kept.array)
       | inr more ↦ record {
         done = count;
         within = next.few;

@@ -2,7 +2,7 @@
 use Rattle.std.specs.Prelude.{◌≡◌, ◌≢◌, ◌⊎◌, ℕ, ◌+◌, max, length, None}
 use Rattle.drive_port.specs.Contents.{contents}
 use Rattle.drive_port.specs.Drive.{DriveState}
-use Rattle.drive_array.specs.ZoneLogs.{drive_logs, sequences, spelled}
+use Rattle.drive_array.specs.ZoneLogs.{drive_logs, sequences, encoded}
 use Rattle.drive_survey.specs.declared.fault.MountFault.{MountFault}
 use Rattle.drive_survey.specs.declared.fault.MountFault.TheVariants.{Halted, OutOfMemory}
 use Rattle.drive_survey.specs.Heads.{greatest_sequence}
@@ -19,7 +19,7 @@ use Rattle.zone_translator.specs.View.{DiskView, disk_array, disk_size, given_si
 pub record MountsDisk (old : DriveState) (n : ℕ) (disk : DiskView) : Type 0 where
   pub can : IsToMount old n
   pub leaves : LeavesMounted old disk.drive n
-  pub array : disk_array disk ≡ spelled old n
+  pub array : disk_array disk ≡ encoded old n
   pub size : disk_size disk ≡ length (disk_array disk)
   pub given : given_size disk ≡ n
   pub next : next_sequence disk ≡ 1 + max (greatest_sequence (sequences (drive_logs old))) (greatest_sequence (sequences (drive_logs disk.drive)))

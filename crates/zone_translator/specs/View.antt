@@ -8,7 +8,7 @@ use Rattle.zone_choice.specs.Tables.{TablesView, size_of}
 use Rattle.logical_map.specs.Live.{lies_in}
 use Rattle.logical_map.specs.declared.place.Place.{Place}
 use Rattle.zone_choice.specs.Agreement.{MountedView, mounted}
-use Rattle.drive_array.specs.ZoneLogs.{drive_logs, sequences, spelled}
+use Rattle.drive_array.specs.ZoneLogs.{drive_logs, sequences, encoded}
 use Rattle.drive_array.specs.Sizes.{greatest, map_of}
 use Rattle.drive_array.specs.Mountable.{IsMountable}
 use Rattle.drive_array.specs.Reserve.{batch_most, most_size}
@@ -45,7 +45,7 @@ given_size disk = disk.tables.given
 
 -- the flat array that the disk keeps: the one that its drive encodes
 abbrev pub disk_array : DiskView → List (List ℕ)
-disk_array disk = spelled disk.drive (given_size disk)
+disk_array disk = encoded disk.drive (given_size disk)
 
 -- where the newest record of each block is on the drive, by its logs
 abbrev pub disk_places : DiskView → List Place

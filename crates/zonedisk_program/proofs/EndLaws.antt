@@ -4,8 +4,8 @@ use Rattle.std.proofs.KnownBytes.{Appends-kept}
 use Rattle.std.specs.Prelude.{OnErr, OnOk, Option, Result, Ok, Err}
 use Rattle.std.specs.Io.KnownBytes.{Appends, Keeps}
 use Rattle.std.specs.declared.process.ExitCode.{ExitCode}
-use Rattle.command_line.specs.declared.task.Task.{Task}
-use Rattle.command_line.specs.declared.task.Task.TheVariants as tasks
+use Rattle.zonedisk_program.specs.declared.task.Task.{Task}
+use Rattle.zonedisk_program.specs.declared.task.Task.TheVariants as tasks
 use Rattle.disk_files.specs.Output.{AppendsFront}
 use Rattle.zonedisk_program.specs.Ends.{EndsAsked, EndsTask, Ways, is_device}
 

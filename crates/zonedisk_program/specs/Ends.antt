@@ -1,8 +1,8 @@
 -- How the program ends.
 use Rattle.std.specs.Prelude.{◌≡◌, Bool, true, false, Option, Some, None, ⊤}
 use Rattle.std.specs.Process.{exit_status}
-use Rattle.command_line.specs.declared.task.Task.{Task}
-use Rattle.command_line.specs.declared.task.Task.TheVariants.{Convert, Device}
+use Rattle.zonedisk_program.specs.declared.task.Task.{Task}
+use Rattle.zonedisk_program.specs.declared.task.Task.TheVariants.{Convert, Device}
 use Rattle.device_jobs.specs.declared.job.DeviceJob.{DeviceJob}
 use Rattle.device_jobs.specs.declared.job.DeviceJob.TheVariants.{Create}
 use Rattle.std.specs.declared.process.ExitCode.{ExitCode}

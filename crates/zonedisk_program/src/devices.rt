@@ -5,15 +5,14 @@ ghost use Rattle.std.specs.Io.KnownBytes.{Appends};
 ghost use Rattle.std.specs.Process.{exit_status};
 ghost use Rattle.disk_files.specs.Output.{AppendsFront};
 
-use crate::files::{counted, fail, tell_failed, tell_forgotten, tell_size};
-use block_copies::ExportFault;
-use copy_jobs::{CopyFault, CopyJob, ExportJob, ImportJob, import_mounted};
+use crate::files::{counted, fail, tell_session, tell_size};
 use device_jobs::{
     DeviceFault, DeviceJob, DeviceRun, Devices, FormatFault, NamedDrive, OpenDevice, SendFault,
     Served, answer_report, check_device, explain_run, explain_sent, export_device, format_device,
     harden, inform_device, plan_device, run_device, run_fault, send_lines, serve_client,
     show_zones, write_device_fault,
 };
+use disk_copies::{CopyFault, CopyJob, ExportFault, ExportJob, ImportJob, import_mounted};
 use disk_files::write_out;
 use disk_jobs::{
     Counted, Explained, Gate, Habit, JobInput, LineCount, ProgramFault, Stop, Watched, run_told,
@@ -345,23 +344,12 @@ fn serve<R: Input + Print, D: Device + Drop, M: Medium + Drop>(
 
 /// Tells on standard error how a session ended.
 fn end_session<R: Eprint>(rt: &R, alloc: Global, job: &NbdJob, served: Served) -> ExitCode {
-    tell_size(rt, alloc, &job.image, job.blocks, served.disk);
-    if let Some(text) = &served.statistics {
-        let _ = eprint!(rt; "{text}");
-    }
-    let forgot = tell_forgotten(rt, alloc, job, served.forgotten);
-    tell_failed(rt, alloc, job, served.failed);
-    let ended = match served.flushed {
-        Ok(()) => forgot,
+    tell_size(rt, alloc, &job.image, job.blocks, served.told.disk);
+    let ended = tell_session(rt, alloc, job, served.told);
+    match served.flushed {
+        Ok(()) => ended,
         Err(_) => unsynced(rt, &job.image),
-    };
-    let Err(fault) = served.session else {
-        return ended;
-    };
-    if let Ok(text) = nbd_jobs::explain(alloc, job, fault) {
-        let _ = eprintln!(rt; "zonedisk: {text}");
     }
-    ExitCode::FAILURE
 }
 
 /// Serves the drive on the standard streams, or only reads it. What people are told goes to standard error.
@@ -499,7 +487,7 @@ fn end_copy<R: Eprint>(
     let Err(fault) = copied else {
         return ExitCode::SUCCESS;
     };
-    if let Ok(text) = copy_jobs::explain(alloc, job, fault) {
+    if let Ok(text) = disk_copies::explain(alloc, job, fault) {
         let _ = eprintln!(rt; "zonedisk: {text}");
     }
     ExitCode::FAILURE

@@ -1,11 +1,11 @@
 // Jobs on drives in files, and those that have no drive.
 
-use copy_jobs::{CopyJob, do_export, do_import};
+use disk_copies::{CopyJob, do_export, do_import};
 use disk_jobs::{
-    Counted, DiskSize, Done, Explained, Gate, Job, JobInput, LineCount, ProgramFault, Saved,
+    Counted, DiskSize, Explained, Gate, Job, JobInput, LineCount, LinesDone, ProgramFault, Saved,
     Watched, do_job, explain, restored_note, size_notes, write_program_fault,
 };
-use nbd_jobs::{Forgotten, NbdJob, do_nbd_job, failed_note, forgotten_note};
+use nbd_jobs::{Forgotten, NbdFault, NbdJob, SessionTold, do_nbd_job, failed_note, forgotten_note};
 use std::alloc::Global;
 use std::io::{Read, Write};
 use std::process::ExitCode;
@@ -49,7 +49,7 @@ fn tell<R: Eprint, I: Read + Drop>(
     rt: &R,
     alloc: Global,
     job: &Job,
-    done: Done,
+    done: LinesDone,
     input: &mut JobInput<'_, I>,
 ) {
     for ended in [done.job, done.saved.map(|_| ())] {
@@ -91,7 +91,7 @@ pub(crate) fn do_lines<R: Eprint + Files<File = fs::File> + Input, W: Write>(
 }
 
 /// Says on standard error what a disk forgot. It ends as a fault if the disk did not apply blocks, and had not stopped.
-pub(crate) fn tell_forgotten<R: Eprint>(
+fn tell_forgotten<R: Eprint>(
     rt: &R,
     alloc: Global,
     job: &NbdJob,
@@ -111,13 +111,39 @@ pub(crate) fn tell_forgotten<R: Eprint>(
 }
 
 /// Says on standard error how many requests failed by chance, if some were to.
-pub(crate) fn tell_failed<R: Eprint>(rt: &R, alloc: Global, job: &NbdJob, failed: Option<u64>) {
+fn tell_failed<R: Eprint>(rt: &R, alloc: Global, job: &NbdJob, failed: Option<u64>) {
     let Some(failed) = failed else {
         return;
     };
     if let Ok(note) = failed_note(alloc, failed) {
         let path = job.image.as_str();
         let _ = eprintln!(rt; "zonedisk: {path}: {note}");
+    }
+}
+
+/// Says on standard error why a drive is not served, or not saved.
+fn tell_fault<R: Eprint>(rt: &R, alloc: Global, job: &NbdJob, fault: NbdFault) -> ExitCode {
+    if let Ok(text) = nbd_jobs::explain(alloc, job, fault) {
+        let _ = eprintln!(rt; "zonedisk: {text}");
+    }
+    ExitCode::FAILURE
+}
+
+/// Says on standard error what is told of a session.
+pub(crate) fn tell_session<R: Eprint>(
+    rt: &R,
+    alloc: Global,
+    job: &NbdJob,
+    told: SessionTold,
+) -> ExitCode {
+    if let Some(text) = &told.statistics {
+        let _ = eprint!(rt; "{text}");
+    }
+    let forgot = tell_forgotten(rt, alloc, job, told.forgotten);
+    tell_failed(rt, alloc, job, told.failed);
+    match told.result {
+        Ok(()) => forgot,
+        Err(fault) => tell_fault(rt, alloc, job, fault),
     }
 }
 
@@ -129,22 +155,13 @@ pub(crate) fn do_nbd<R: Eprint + Files<File = fs::File> + Input, W: Write>(
     output: &mut W,
 ) -> ExitCode {
     let done = do_nbd_job(rt, alloc, job, rt.reader(), output);
-    tell_size(rt, alloc, &job.image, job.blocks, done.disk);
+    tell_size(rt, alloc, &job.image, job.blocks, done.told.disk);
     tell_saved(rt, alloc, &job.image, done.saved.unwrap_or(Saved::IN_PLACE));
-    if let Some(text) = &done.statistics {
-        let _ = eprint!(rt; "{text}");
+    let ended = tell_session(rt, alloc, job, done.told);
+    match done.saved {
+        Ok(_) => ended,
+        Err(fault) => tell_fault(rt, alloc, job, fault),
     }
-    let mut code = tell_forgotten(rt, alloc, job, done.forgotten);
-    tell_failed(rt, alloc, job, done.failed);
-    for ended in [done.session, done.saved.map(|_| ())] {
-        if let Err(fault) = ended {
-            code = ExitCode::FAILURE;
-            if let Ok(text) = nbd_jobs::explain(alloc, job, fault) {
-                let _ = eprintln!(rt; "zonedisk: {text}");
-            }
-        }
-    }
-    code
 }
 
 /// What is counted of a copy, if it is shown how far it is.
@@ -180,7 +197,7 @@ pub(crate) fn copy<R: Eprint + Files<File = fs::File> + Input + Print>(
     for ended in ends {
         if let Err(fault) = ended {
             code = ExitCode::FAILURE;
-            if let Ok(text) = copy_jobs::explain(alloc, job, fault) {
+            if let Ok(text) = disk_copies::explain(alloc, job, fault) {
                 let _ = eprintln!(rt; "zonedisk: {text}");
             }
         }

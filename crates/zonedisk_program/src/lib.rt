@@ -19,6 +19,21 @@
 //!
 //! # What is promised
 //!
+//! Of the words:
+//!
+//! * A task holds what clap's exact matches of the words have: the subcommand and, for each of its options, the value
+//!   under its name; a number is spelled only in digits, and fits. Clap refuses none of these words
+//!   (`specs/Program.antt` has the words that the program takes, and `specs/Words.antt` the task that they ask for).
+//! * A job is one on a device exactly if `--device` is given. Then no file is named, and nothing is asked for that
+//!   only a drive in a file can have (`specs/DeviceWords.antt`).
+//! * A new drive that stays in its file is asked for by `format --in-place`, with a shape. Then no device is named,
+//!   and nothing is forced (`AsksForNew`).
+//! * A drive is put into another file by `convert`, with both paths (`AsksForConvert`).
+//! * Words are refused only where clap refuses them, where they ask for no task in this sense, or where memory runs
+//!   out (`IsAnswerTo`).
+//!
+//! Of the task:
+//!
 //! * [`do_device`] ends each job on a device with the exit status 1 if there is no way to any. So does the program
 //!   with each task that is such a job, or becomes one, and with a `convert` without a way to drives that stay in
 //!   their files.
@@ -29,32 +44,45 @@
 //!
 //! # What is not proved
 //!
-//! The texts, the files and the exit status 0 are tested; so is how a drive that stays in its file is known, and that
-//! a format is forced only where that was asked for (`device_rows`).
+//! * The texts of clap, and the error kinds of refused words, are tested in `call_tests`: clap's contracts say nothing
+//!   of them.
+//! * The texts, the files and the exit status 0 are tested; so is how a drive that stays in its file is known, and that
+//!   a format is forced only where that was asked for (`tool_rows`).
 //!
-//! Tests: the rows of `device_rows`.
+//! Tests: `call_tests`, and the rows of `tool_rows`.
 #![tactic(auto)]
 
 ghost use Rattle.std.specs.Prelude.{◌≡◌, false};
 ghost use Rattle.std.specs.Process.{exit_status};
 ghost use Rattle.zonedisk_program.specs.Ends.{EndsAsked, EndsTask, is_new, reaches};
 
+mod command;
 mod converting;
 mod counterpart;
+mod device_words;
 mod devices;
+mod failing;
 mod files;
+mod forgetting;
 mod in_file;
+mod place;
+mod raw_words;
+mod refusal;
+mod task;
+mod tool_words;
+mod words;
 
 use crate::converting::{into_drive_file, into_image};
 pub use crate::counterpart::in_place;
 pub use crate::devices::do_device;
 use crate::files::{copy, do_lines, do_nbd, fail, use_tool};
 use crate::in_file::{begins_in_place, refuse_in_place};
+pub use crate::task::Task;
+pub use crate::words::task_of;
 use clap::error::ErrorKind;
-pub use command_line::{Task, task_of};
-pub use copy_jobs::{do_export, do_import};
 use device_jobs::DeviceJob;
 pub use device_jobs::{Devices, NoDevices};
+pub use disk_copies::{do_export, do_import};
 use disk_jobs::ProgramFault;
 pub use disk_jobs::do_job;
 use disk_runs::RunFault;
@@ -73,7 +101,7 @@ const REFUSED: u8 = 2;
 const OUT_OF_MEMORY: ProgramFault = ProgramFault::Run(RunFault::Memory);
 
 /// The words of the command line, the program's name first. One that is not UTF-8 is refused.
-fn words<R: Env + Alloc<A = Global>>(rt: &R) -> io::Result<Vec<String>> {
+fn given_words<R: Env + Alloc<A = Global>>(rt: &R) -> io::Result<Vec<String>> {
     Ok(std::env::args(rt)?.collect(rt.alloc())?)
 }
 
@@ -178,7 +206,7 @@ fn asked<R: Env + Alloc<A = Global> + Eprint, W: io::Write>(
     alloc: Global,
     output: &mut W,
 ) -> Result<Task, ExitCode> {
-    let words = match words(rt) {
+    let words = match given_words(rt) {
         Ok(words) => words,
         Err(error) if error.kind() == io::ErrorKind::OutOfMemory => {
             return Err(fail(alloc, OUT_OF_MEMORY, output));

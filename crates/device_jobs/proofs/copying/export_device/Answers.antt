@@ -1,6 +1,6 @@
 use Rattle.std.proofs.Common.{ℕ, Ok, Err, ap, subst, ◌∙◌}
-use Rattle.block_copies.specs.Copies.{Exports}
-use Rattle.copy_jobs.specs.DriveCopies.{blocks_asked}
+use Rattle.disk_copies.specs.Copies.{Exports}
+use Rattle.disk_copies.specs.DriveCopies.{blocks_asked}
 use Rattle.device_jobs.proofs.copying.export_device.Goals as goal
 
 pub returns-in-Ok-exported : goal.returns-in-Ok-exported

@@ -1,4 +1,4 @@
-use Rattle.drive_check.specs.Findings.{AreFindings}
+use Rattle.drive_inspection.specs.Findings.{AreFindings}
 use Rattle.tool_jobs.specs.Telling.{TellsNothing}
 use Rattle.tool_jobs.specs.declared.fault.ToolFault.{ToolFault}
 use Rattle.tool_jobs.proofs.CheckLaws.{none-refuses}

@@ -16,6 +16,6 @@ returns-clause-leaves g c =
       };
       failed_is = c.has_failed.ensures;
       back = λ kept. (refl, refl);
-      stored = stores-nothing c.args.job.now (g.S.Store.held c.args.start.store) left c.requires;
+      stored = stores-nothing c.args.job.now (g.S.ChangeStore.held c.args.start.store) left c.requires;
       mounting = shown_told c.args.job.now _ _ _ _ _ _ _ _ c.show_after-shown.ensures c.run_lines-drive.ensures.mounting;
     }

@@ -16,6 +16,6 @@ returns-clause-leaves g c =
       };
       failed_is = left.failed_is;
       back = left.back;
-      stored = stores-drive c.args.job.now c.args.stored.device.contents (g.S.Store.held c.leave-left.result.1) drive c.requires left.stored;
+      stored = stores-drive c.args.job.now c.args.stored.device.contents (g.S.ChangeStore.held c.leave-left.result.1) drive c.requires left.stored;
       mounting = shown_told c.args.job.now _ _ _ _ _ _ _ _ c.show_after-shown.ensures c.run_lines-device.ensures.mounting;
     }

@@ -5,7 +5,7 @@ use Rattle.disk_runs.specs.Run.{exchange}
 use Rattle.disk_runs.specs.Taken.{disk_lines, flat_lines}
 use Rattle.disk_runs.specs.Trace.{IsNotMounted, RunGives, RunLeaves}
 use Rattle.disk_runs.proofs.TraceLaws.{led, led_gives, led_leaves}
-use Rattle.mounted_disks.specs.Stop.{stopping}
+use Rattle.job_drives.specs.Stop.{stopping}
 use Rattle.disk_jobs.proofs.MountLaws.{mount_told}
 use Rattle.disk_jobs.proofs.lines.run_stopping.Goals as goal
 

@@ -7,7 +7,7 @@ use Rattle.disk_runs.specs.Trace.{IsNotMounted, RunGives, RunLeaves}
 use Rattle.disk_runs.specs.declared.fault.RunFault.TheVariants.{Mount}
 use Rattle.std.specs.Prelude.{Err}
 use Rattle.disk_runs.proofs.TraceLaws.{led, led_gives, led_leaves}
-use Rattle.mounted_disks.specs.Stop.{stopping}
+use Rattle.job_drives.specs.Stop.{stopping}
 use Rattle.disk_jobs.proofs.MountLaws.{mount_told}
 use Rattle.disk_jobs.proofs.statistics.run_counted.Goals as goal
 

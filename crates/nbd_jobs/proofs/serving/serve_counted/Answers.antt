@@ -27,7 +27,7 @@ returns-clause-serves g c =
       defers = false;
       fails = false;
     } in
-    let served = rw (c.served-store.ensures.disk, c.served-store.ensures.medium, c.served-store.ensures.read_only, c.served-store.ensures.cleans) at c.serve_store-after.ensures in
+    let served = rw (c.new-store.ensures.disk, c.new-store.ensures.medium, c.new-store.ensures.read_only, c.new-store.ensures.cleans) at c.serve_store-after.ensures in
     let begun = rw (c.new.ensures, c.flushes-flushes.ensures) at c.in-Ok.ensures.disk in
     let left = failing served.0 last in
     let ends : Ends syncs left new = record {
@@ -49,11 +49,11 @@ returns-clause-tells g c =
 pub returns-in-Err-clause-tells : goal.returns-in-Err-clause-tells
 returns-in-Err-clause-tells g c =
     let refused = rw (c.new.ensures, c.flushes-flushes.ensures) at c.in-Err.ensures.err in
-    none-told (g.M.Medium.flushes c.args.kept.medium) c.args.job.now (g.D.Device.drive c.args.kept.device) _ c.in-Err.fault refused
+    rw (c.unserved.ensures.fault, c.unserved.ensures.statistics, c.unserved.ensures.disk) (none-told (g.M.Medium.flushes c.args.kept.medium) c.args.job.now (g.D.Device.drive c.args.kept.device) _ c.in-Err.fault refused)
 
 pub returns-in-Err-clause-serves : goal.returns-in-Err-clause-serves
 returns-in-Err-clause-serves g c =
     let refused = rw (c.new.ensures, c.flushes-flushes.ensures) at c.in-Err.ensures.err in
-    rw c.into_inner.ensures
+    rw (c.into_inner.ensures, c.unserved.ensures.fault, c.unserved.ensures.forgotten)
     (none-served c.args.kept.read_only c.args.job.now _ (record { before = g.M.Medium.syncs c.args.kept.medium; after = g.M.Medium.syncs c.args.kept.medium; flushes = g.M.Medium.flushes c.args.kept.medium }) (g.D.Device.drive c.args.kept.device) _ c.in-Err.fault refused
     (search rules))

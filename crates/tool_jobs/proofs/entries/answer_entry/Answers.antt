@@ -1,4 +1,4 @@
-use Rattle.entry_forms.specs.Entries.{IsEntryOf}
+use Rattle.tool_forms.specs.Entries.{IsEntryOf}
 use Rattle.tool_jobs.specs.Entries.{HasNoEntry, lines_with}
 use Rattle.tool_jobs.proofs.TellingLaws.{told-ok, untold-err}
 use Rattle.tool_jobs.proofs.entries.answer_entry.Goals as goal

@@ -1,5 +1,0 @@
-pub mod FlatWrites
-pub mod FlatReads
-pub mod Pieces
-pub mod Runs
-pub mod Imports

@@ -1,4 +1,0 @@
-pub mod CommandLaws
-pub mod WordLaws
-pub mod ToolLaws
-pub mod DeviceLaws

@@ -1,0 +1,12 @@
+-- A copy of the drive in a file, whatever ended it.
+use Rattle.std.proofs.Common.{ℕ, Option, List, Result, Ok, Err}
+use Rattle.drive_port.specs.Drive.{DriveState}
+use Rattle.disk_copies.specs.declared.stream_fault.ImportFault.{ImportFault}
+use Rattle.disk_copies.specs.DriveCopies.{ImportsDisk, ImportsDrive, import_end}
+use Rattle.disk_copies.specs.declared.job.ImportJob.{ImportJob}
+
+-- an import into the disk of a drive is an import into the drive, whatever ended it
+pub drive-imported : (job : ImportJob) (input rest : Option (List ℕ)) (old : DriveState) (taken : Result ℕ ImportFault) (new : DriveState) → ImportsDisk job input rest old taken new
+    → ImportsDrive job input rest old (import_end taken) new
+drive-imported job input rest old (Ok count) new i = i
+drive-imported job input rest old (Err fault) new i = i

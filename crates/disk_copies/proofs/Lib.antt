@@ -1,0 +1,6 @@
+pub mod FlatWrites
+pub mod FlatReads
+pub mod Pieces
+pub mod Runs
+pub mod Imports
+pub mod CopyLaws

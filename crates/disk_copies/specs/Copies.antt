@@ -1,0 +1,87 @@
+-- Copies of a disk's blocks as flat bytes: out of the disk to a writer, and into it from a reader.
+use Rattle.std.specs.Prelude.{◌≡◌, ℕ, ◌+◌, ◌*◌, ◌/◌, ◌<◌, ◌≤◌, max, List, [], ◌++◌, length, Result, Ok, Err}
+use Rattle.std.specs.Io.KnownBytes.{Appends, Consumes, IsAtEnd}
+use Rattle.std.specs.List.{AllByRecursion, concat}
+use Rattle.disk_files.specs.Input.{Known}
+use Rattle.disk_files.specs.Output.{AppendsFront}
+use Rattle.zone_translator.specs.Flat.{FlatCall, blocks_from, read, with_nothing, write}
+use Rattle.zone_translator.specs.View.{DiskCause, DiskView, disk_array, disk_size, flat_of}
+use Rattle.zone_translator.specs.declared.fault.DiskFault.{DiskFault}
+use Rattle.disk_copies.specs.declared.stream_fault.ExportFault.{ExportFault}
+use Rattle.disk_copies.specs.declared.stream_fault.ExportFault.TheVariants as exports
+use Rattle.disk_copies.specs.declared.stream_fault.ImportFault.{ImportFault}
+use Rattle.disk_copies.specs.declared.stream_fault.ImportFault.TheVariants as imports
+
+-- how many blocks are copied at a time: as many as 1 MiB has, one at least
+abbrev pub piece_blocks : ℕ → ℕ
+piece_blocks block = max 1 (1048576 / block)
+
+-- ---- out of the disk
+
+-- all n blocks of a range are shown by one read of a flat disk
+abbrev pub ShowsRange : DiskView → ℕ → ℕ → List (List ℕ) → DiskView → Type 0
+ShowsRange old first n shown new = FlatCall (flat_of old) (read first n) (record { result = Ok tt; shown = shown }) (flat_of new)
+
+-- the disk refuses such a read; its first blocks may have been written before
+pub record RefusesRange (old : DiskView) (first n : ℕ) (fault : DiskFault) (written contents : Known) (new : DiskView) : Type 0 where
+  pub done : ℕ
+  pub within : done ≤ n
+  pub bytes : Appends written contents (concat (blocks_from (disk_array old) first done))
+  pub flat : FlatCall (flat_of old) (read first n) (with_nothing (Err fault)) (flat_of new)
+  pub cause : DiskCause new fault
+
+-- An export of n blocks from a given one on. Done, the writer holds the bytes of these blocks more, and no other. Where the writer fails it holds a
+-- beginning of them; where the disk refuses, the first blocks.
+abbrev pub Exports : DiskView → ℕ → ℕ → Known → Known → Result (Unit {0}) ExportFault → DiskView → Type 0
+Exports old first n written contents (Ok done) new = (shown : List (List ℕ)) × ShowsRange old first n shown new × Appends written contents (concat shown)
+Exports old first n written contents (Err exports.Output) new =
+    (shown : List (List ℕ)) × ShowsRange old first n shown new × AppendsFront written contents (concat shown)
+Exports old first n written contents (Err (exports.Disk fault)) new = RefusesRange old first n fault written contents new
+
+-- ---- into the disk
+
+-- what the disk answered to the write of the blocks that an import took
+abbrev pub write_result : {V : Type 0} → Result V ImportFault → Result (Unit {0}) DiskFault
+write_result (Ok count) = Ok tt
+write_result (Err (imports.Disk fault)) = Err fault
+write_result (Err fault) = Ok tt
+
+-- Blocks were taken from a reader, and then bytes of which nothing came. The disk answered as a flat one answers one write of these blocks, from a given
+-- one on: it has them all or, where it refused, a front of them.
+pub record TakesBlocks {V : Type 0} (old : DiskView) (first : ℕ) (input rest : Known) (result : Result V ImportFault) (new : DiskView) : Type 0 where
+  pub blocks : List (List ℕ)
+  pub whole : AllByRecursion (λ (block : List ℕ). length block ≡ old.drive.geometry.block) blocks
+  pub within : 0 < length blocks → first + length blocks ≤ disk_size old
+  pub left : List ℕ
+  pub read : Consumes input rest (concat blocks ++ left)
+  pub flat : FlatCall (flat_of old) (write first blocks) (with_nothing (write_result result)) (flat_of new)
+
+-- Why an import stopped that ended at this block, by the bytes of which nothing came. Where the reader fails they are less than a piece.
+abbrev pub StopsImport : ImportFault → DiskView → ℕ → List ℕ → Known → DiskView → Type 0
+StopsImport imports.Input old end left rest new = length left < piece_blocks old.drive.geometry.block * old.drive.geometry.block
+StopsImport imports.Rest old end left rest new = (0 < length left) × (length left < old.drive.geometry.block) × IsAtEnd rest
+StopsImport imports.PastEnd old end left rest new = (old.drive.geometry.block ≤ length left) × (disk_size old ≤ end)
+StopsImport (imports.Disk fault) old end left rest new = DiskCause new fault
+StopsImport imports.Memory old end left rest new = (left ≡ []) × (new ≡ old)
+
+-- how an import ends that took so many blocks: the reader is at its end, and nothing is left; or it stopped
+abbrev pub EndsImport : Result ℕ ImportFault → DiskView → ℕ → ℕ → List ℕ → Known → DiskView → Type 0
+EndsImport (Ok count) old first taken left rest new = (count ≡ taken) × (left ≡ []) × IsAtEnd rest
+EndsImport (Err fault) old first taken left rest new = StopsImport fault old (first + taken) left rest new
+
+-- An import, from a given block on.
+pub record Imports (old : DiskView) (first : ℕ) (input rest : Known) (result : Result ℕ ImportFault) (new : DiskView) : Type 0 where
+  pub takes : TakesBlocks old first input rest result new
+  pub ends : EndsImport result old first (length takes.blocks) takes.left rest new
+
+-- ---- a piece of an import
+
+-- the same of one piece: the reader is at its end if the piece has no block
+abbrev pub EndsPiece : Result ℕ ImportFault → DiskView → ℕ → ℕ → List ℕ → Known → DiskView → Type 0
+EndsPiece (Ok count) old first taken left rest new = (count ≡ taken) × (left ≡ []) × (count ≡ 0 → IsAtEnd rest)
+EndsPiece (Err imports.Memory) old first taken left rest new = ⊥
+EndsPiece (Err fault) old first taken left rest new = StopsImport fault old (first + taken) left rest new
+
+pub record ImportsPiece (old : DiskView) (first : ℕ) (input rest : Known) (result : Result ℕ ImportFault) (new : DiskView) : Type 0 where
+  pub takes : TakesBlocks old first input rest result new
+  pub ends : EndsPiece result old first (length takes.blocks) takes.left rest new

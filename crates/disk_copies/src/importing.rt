@@ -1,0 +1,81 @@
+// Flat bytes as blocks of a disk.
+
+ghost use Rattle.std.specs.Prelude.{◌≡◌, ◌*◌, ◌<◌, IfOk, length};
+ghost use Rattle.zone_translator.specs.Keeping.{KeepsServed};
+ghost use Rattle.disk_copies.specs.Copies.{Imports, ImportsPiece, piece_blocks};
+
+use crate::filling::fill;
+use crate::piece::{block_of, piece_blocks};
+use crate::putting::put;
+use crate::stream_fault::ImportFault;
+use drive_port::Device;
+use std::alloc::{AllocError, Global};
+use std::io::Read;
+use zone_translator::Disk;
+
+/// A buffer for a piece of blocks of so many bytes.
+fn piece_buffer(alloc: Global, block: u32) -> Result<Vec<u8>, AllocError>
+    requires { 0 < block }
+    ensures { IfOk result (λ piece. length piece.items ≡ piece_blocks block * block) }
+{
+    let bytes = u64::from(piece_blocks(block)) * u64::from(block);
+    let mut piece = Vec::new(alloc);
+    piece.resize(bytes as usize, 0)?;
+    Ok(piece)
+}
+
+/// Reads a piece, and writes its blocks from the block `first` on. It tells how many: none only at the end.
+fn import_piece<D: Device + Drop, R: Read>(
+    disk: &mut Disk<D>,
+    reader: &mut R,
+    piece: &mut [u8],
+    first: u64,
+    sparse: bool,
+) -> Result<u64, ImportFault>
+    requires { length piece.old
+        ≡ piece_blocks disk.old.drive.geometry.block * disk.old.drive.geometry.block }
+    ensures imports { ImportsPiece disk.old first (R.remaining reader.old) (R.remaining reader.new) result disk.new }
+    ensures keeps { KeepsServed disk.old disk.new }
+    ensures length { length piece.new ≡ length piece.old }
+{
+    let block = disk.block_bytes();
+    let count = fill(reader, piece)?;
+    let whole = (count / block) as u64;
+    let room = disk.blocks().saturating_sub(first);
+    let blocks = whole.min(room);
+    put(disk, first, &piece[..blocks as usize * block], sparse)?;
+    if whole > room {
+        return Err(ImportFault::PastEnd);
+    }
+    if count % block != 0 {
+        return Err(ImportFault::Rest);
+    }
+    Ok(blocks)
+}
+
+/// Reads whole blocks until the reader ends, writes them from the block `first` on, and tells how many. If it is
+/// sparse, blocks of zeros are trimmed.
+///
+/// After a fault the blocks before are written. If the reader failed, those are missing that were read with the last
+/// bytes, less than 1 MiB of them; if the disk refused, a front of the last ones is written.
+pub fn import_blocks<D: Device + Drop, R: Read>(
+    alloc: Global,
+    disk: &mut Disk<D>,
+    reader: &mut R,
+    first: u64,
+    sparse: bool,
+) -> Result<u64, ImportFault>
+    ensures imports { Imports disk.old first (R.remaining reader.old) (R.remaining reader.new) result disk.new }
+    ensures keeps { KeepsServed disk.old disk.new }
+{
+    let mut piece = piece_buffer(alloc, block_of(disk))?;
+    // A disk has few blocks, so that their numbers can be added.
+    let _size = disk.blocks();
+    let mut taken = 0;
+    loop {
+        match import_piece(disk, reader, &mut piece, first + taken, sparse)? {
+            0 => return Ok(taken),
+            count => taken += count,
+        }
+    }
+}

@@ -1,6 +1,0 @@
-use Rattle.std.proofs.Common.{◌≡◌, ◌++◌, drop}
-use Rattle.drive_check.specs.Lists.{found_from, found_in, fault_at}
-use Rattle.drive_check.proofs.lists.batch_faults.Given as goal
-
-abbrev pub invariant-loop-number : goal.invariant-loop-number
-invariant-loop-number l = l.found.items ++ found_from fault_at l.number (drop l.number l.reads) ≡ found_in fault_at l.reads

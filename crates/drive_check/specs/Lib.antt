@@ -1,3 +1,0 @@
-pub mod Reads
-pub mod Lists
-pub mod Findings

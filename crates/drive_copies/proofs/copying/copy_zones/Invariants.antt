@@ -1,6 +1,0 @@
-use Rattle.std.proofs.Common.{◌≡◌, take}
-use Rattle.drive_copies.proofs.copying.copy_zones.Given as goal
-
-abbrev pub invariant-loop-index : goal.invariant-loop-index
-invariant-loop-index g l =
-    (l.zones.items ≡ take l.index (g.Z.HeldZones.stored l.fn.held)) × (g.Z.HeldZones.stored l.held ≡ g.Z.HeldZones.stored l.fn.held)

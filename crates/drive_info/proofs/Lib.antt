@@ -1,4 +1,0 @@
-pub mod CountLaws
-pub mod HoldLaws
-pub mod WorkLaws
-pub mod InspectLaws

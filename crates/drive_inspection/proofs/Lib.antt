@@ -1,0 +1,6 @@
+pub mod ListLaws
+pub mod CheckLaws
+pub mod CountLaws
+pub mod HoldLaws
+pub mod WorkLaws
+pub mod InspectLaws

@@ -1,0 +1,5 @@
+pub mod Reads
+pub mod Lists
+pub mod Findings
+pub mod Found
+pub mod Info

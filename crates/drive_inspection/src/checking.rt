@@ -1,0 +1,161 @@
+ghost use Rattle.std.specs.Prelude.{◌≡◌, ◌≢◌, ◌⊎◌, ◌<◌, ◌^◌, [], Some, count_by, length};
+ghost use Rattle.std.specs.Prelude.{IfErr, IfOk, IsFalse, IsTrue, OnOk};
+ghost use Rattle.zone_states.specs.Geometry.{IsInRange};
+ghost use Rattle.drive_port.specs.Contents.{contents};
+ghost use Rattle.drive_port.specs.Drive.{IsLawful};
+ghost use Rattle.drive_array.specs.Mountable.{is_partly_written};
+ghost use Rattle.drive_survey.specs.Reported.{KeepsZones};
+ghost use Rattle.drive_survey.specs.Scan.{AreKnown, IsInterruption};
+ghost use Rattle.drive_survey.specs.Survey.{is_partly_reported};
+ghost use Rattle.drive_inspection.specs.Findings.{AreFindings, ListsNothing, ListsFaults, ListsZones};
+ghost use Rattle.drive_inspection.specs.Lists.{fault_at, found_in, past_end_at, repeats_from, size_read, torn_read_at};
+
+use crate::finding::Findings;
+use crate::foreseen::foresee_mount;
+use crate::lists::{
+    batch_faults, repeated_sequences, size_read, torn_zones, unusable_zones, zones_past_end,
+};
+use crate::reading::{ZoneReading, read_zones};
+use drive_port::Device;
+use drive_survey::{MountFault, ReportedZone, count_partly_written, report_zones};
+use std::alloc::{AllocError, Global};
+
+/// No findings but the refusal.
+fn no_findings(alloc: Global, refusal: Option<MountFault>) -> Findings
+    ensures refusal { result.refusal ≡ refusal }
+    ensures clean { ListsNothing result }
+{
+    Findings {
+        refusal,
+        unusable: Vec::new(alloc),
+        partly_written: 0,
+        batches: Vec::new(alloc),
+        repeated: Vec::new(alloc),
+        past_end: Vec::new(alloc),
+        torn: Vec::new(alloc),
+    }
+}
+
+/// The lists that are made from the headers.
+fn list_reads(
+    alloc: Global,
+    reads: &[ZoneReading],
+    given: u64,
+    findings: &mut Findings,
+) -> Result<(), AllocError>
+    requires { length reads.now < 2 ^ 32 }
+    // Done, each list has exactly the faults of its kind.
+    ensures batches { OnOk result (findings.new.batches.items ≡ found_in fault_at reads.now) }
+    ensures repeated { OnOk result (findings.new.repeated.items ≡ repeats_from 0 [] reads.now) }
+    ensures past_end { OnOk result (findings.new.past_end.items
+        ≡ found_in (past_end_at (size_read given reads.now)) reads.now) }
+    ensures torn { OnOk result (findings.new.torn.items ≡ found_in torn_read_at reads.now) }
+    // Whatever it answers, the other findings stay.
+    ensures refusal { findings.new.refusal ≡ findings.old.refusal }
+    ensures unusable { findings.new.unusable ≡ findings.old.unusable }
+    ensures partly { findings.new.partly_written ≡ findings.old.partly_written }
+{
+    findings.batches = batch_faults(alloc, reads)?;
+    findings.repeated = repeated_sequences(alloc, reads)?;
+    findings.past_end = zones_past_end(alloc, reads, size_read(reads, given))?;
+    findings.torn = torn_zones(alloc, reads)?;
+    Ok(())
+}
+
+/// What is found of the zones of a drive, none of which is Read Only or Offline. The other findings stay.
+fn list_zones<D: Device>(
+    alloc: Global,
+    device: &mut D,
+    zones: &[ReportedZone],
+    given: u64,
+    findings: &mut Findings,
+) -> Result<(), MountFault>
+    // The report is true of all zones, and of how many are partly written.
+    requires known { AreKnown (D.drive device.old) zones.now }
+    requires partly { count_by is_partly_reported zones.now
+        ≡ count_by is_partly_written (contents (D.drive device.old).zones) }
+    // Done, the lists have exactly the faults of the zones.
+    ensures ok { OnOk result (ListsZones (D.drive device.old) given findings.new) }
+    // It fails only if the drive stops or memory runs out.
+    ensures err { IfErr result (IsInterruption (D.drive device.new)) }
+    // Whatever it answers, the other findings stay, and the zones hold what they held.
+    ensures refusal { findings.new.refusal ≡ findings.old.refusal }
+    ensures unusable { findings.new.unusable ≡ findings.old.unusable }
+    ensures kept { KeepsZones (D.drive device.old) (D.drive device.new) }
+{
+    let reads = read_zones(alloc, device, zones)?;
+    findings.partly_written = count_partly_written(zones);
+    list_reads(alloc, &reads, given, findings)?;
+    Ok(())
+}
+
+/// All faults of a drive that a mount refuses, whose geometry is in range.
+fn list_faults<D: Device>(
+    alloc: Global,
+    device: &mut D,
+    given: u64,
+    refusal: MountFault,
+) -> Result<Findings, MountFault>
+    requires in_range { IsInRange (D.drive device.old).geometry }
+    requires lawful { IsLawful (D.drive device.old) }
+    // Done, the unusable zones are listed; without any, all other faults. The refusal is told.
+    ensures ok { IfOk result (ListsFaults (D.drive device.old) given) }
+    ensures refusal { IfOk result (λ findings. findings.refusal ≡ Some refusal) }
+    // It fails only if the drive stops or memory runs out. Whatever it answers, zones hold what they held.
+    ensures err { IfErr result (IsInterruption (D.drive device.new)) }
+    ensures kept { KeepsZones (D.drive device.old) (D.drive device.new) }
+{
+    let zones = report_zones(alloc, device)?;
+    let mut findings = no_findings(alloc, Some(refusal));
+    findings.unusable = unusable_zones(alloc, &zones)?;
+    if !findings.unusable.is_empty() {
+        return Ok(findings);
+    }
+    list_zones(alloc, device, &zones, given, &mut findings)?;
+    Ok(findings)
+}
+
+/// Whether a fault tells nothing of what the drive holds.
+fn is_interruption(fault: MountFault) -> bool
+    ensures yes { IsTrue result → (fault ≡ MountFault.OutOfMemory) ⊎ (fault ≡ MountFault.Halted) }
+    ensures no { IsFalse result → (fault ≢ MountFault.OutOfMemory) × (fault ≢ MountFault.Halted) }
+{
+    match fault {
+        MountFault::OutOfMemory | MountFault::Halted => true,
+        _ => false,
+    }
+}
+
+/// Whether a fault says that the geometry is out of range.
+fn is_limits(fault: MountFault) -> bool
+    ensures yes { IsTrue result → fault ≡ MountFault.Limits }
+    ensures no { IsFalse result → fault ≢ MountFault.Limits }
+{
+    match fault {
+        MountFault::Limits => true,
+        _ => false,
+    }
+}
+
+/// Finds all faults of a drive, taken as `given` logical blocks if no header says how many. Reports and Reads are sent.
+/// The fault is `Halted` (the drive has stopped) or `OutOfMemory`.
+pub fn check_drive<D: Device>(
+    alloc: Global,
+    device: &mut D,
+    given: u64,
+) -> Result<Findings, MountFault>
+    ensures ok { IfOk result (AreFindings (D.drive device.old) given) }
+    ensures err { IfErr result (IsInterruption (D.drive device.new)) }
+    ensures kept { KeepsZones (D.drive device.old) (D.drive device.new) }
+{
+    let Err(refusal) = foresee_mount(alloc, device, given) else {
+        return Ok(no_findings(alloc, None));
+    };
+    if is_interruption(refusal) {
+        return Err(refusal);
+    }
+    if is_limits(refusal) {
+        return Ok(no_findings(alloc, Some(refusal)));
+    }
+    list_faults(alloc, device, given, refusal)
+}

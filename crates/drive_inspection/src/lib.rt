@@ -1,0 +1,86 @@
+//! All faults of a drive, what it holds, and what a mount would do to it. Only a rehearsal changes the drive.
+//!
+//! ```text
+//! let findings = check_drive(alloc, &mut device, 9)?; // reports, and Reads
+//! findings.refusal;                                   // by what a mount is refused; None if it is not
+//! findings.batches;                                   // each zone whose batches have a fault by themselves
+//! findings.repeated;                                  // each sequence that an earlier batch has, too
+//! let info = inspect_drive(alloc, &mut device, 9)?;   // reports, and Reads
+//! let Ok(found) = info.found else { .. };             // or by what a mount is refused
+//! found.holdings.live.written;                        // how many logical blocks have data
+//! found.work.half_clean;                              // the zones that a mount resets as half clean
+//! rehearse_mount(alloc, &mut device, 9)?.commands;    // how many commands a mount takes
+//! ```
+//!
+//! # What is promised
+//!
+//! Of a check:
+//!
+//! * The refusal is the fault by which a mount is refused, the first in its order, or none exactly where the drive can
+//!   be mounted (`Refuses` in specs/Findings). Nothing is listed of a drive that can be mounted, nor of one whose
+//!   geometry is out of range.
+//! * Else the lists have exactly the faults of their kinds (`ListsFaults`): each zone that is Read Only or Offline. If
+//!   there is none: how many zones are partly written; for each zone the first fault of its batches by themselves;
+//!   among zones without a fault each sequence that is met again, each zone that names a block past the end, and each
+//!   torn zone. What one zone holds hides no fault of another one.
+//! * `foresee_mount` tells what a mount does before it changes the drive.
+//!
+//! A check looks at no batch if a zone cannot be used, and tells only the first fault of a zone. It lists a torn zone
+//! also if a mount would empty it.
+//!
+//! Of an inspection:
+//!
+//! * A drive is inspected exactly where it can be mounted; of any other the refusal of a mount is told
+//!   (`InfoOrRefusal` in specs/Info).
+//! * The numbers are those of the drive by definition (`AreHoldings`): the greatest number of logical blocks that it
+//!   can serve, the number that its headers say and the number that it has; the greatest sequence; how many blocks
+//!   have data, and how many are trimmed; of each zone the batches, the live records of both kinds, and whether it is
+//!   torn. A trim is no live data.
+//! * The zones that a mount resets, as half clean or for having no batch, are told exactly; so is the torn zone that
+//!   it repairs, and how many live records that moves in how many Moves (`Foretells`).
+//! * A rehearsal mounts the drive. It tells how many commands that takes, the next sequence, and for how many batches
+//!   of the host sequences are left (`Rehearses`).
+//! * `inspect_and_rehearse` does both (`IsInspected`), and drops the drive. The commands that it counts are as many as
+//!   the mount completes, whether it is done or refused.
+//!
+//! Of a check and of an inspection:
+//!
+//! * No command was refused and nothing was appended. The zones are as before, but that the controller may have closed
+//!   some (`KeepsZones` in drive_survey/specs/Reported). Each ends early only by a stop or a failed allocation.
+//!
+//! # What is not proved
+//!
+//! How many commands of a mount are of which kind: its Reads and Finishes are tested.
+//!
+//! # How it goes
+//!
+//! A check goes as far as a mount does before it changes anything (`foresee_mount`). A drive that a mount refuses is
+//! read anew, each zone by itself (`read_zones`). The lists are made from the headers.
+//!
+//! An inspection reads all headers by a survey. `place_records` of `remount` finds the newest records, which are
+//! counted. `plan_mount` then says what a mount would do.
+//!
+//! Tests: the rows of `tool_rows`.
+#![tactic(auto)]
+
+mod checking;
+mod counting;
+mod finding;
+mod foreseen;
+mod holding;
+mod info;
+mod inspecting;
+mod lists;
+mod reading;
+mod rehearsing;
+mod work;
+
+pub use checking::check_drive;
+pub use finding::{Findings, PastEnd, Repeat, ZoneFault};
+pub use foreseen::foresee_mount;
+pub use info::{
+    DriveInfo, Holdings, Info, InspectedDrive, LiveCount, MountWork, Rehearsal, TornRepair,
+    ZoneInfo,
+};
+pub use inspecting::inspect_drive;
+pub use rehearsing::{inspect_and_rehearse, rehearse_mount};

@@ -1,0 +1,4 @@
+mod HeaderLaws
+mod MountLaws
+mod BackingLaws
+pub mod KeptLaws

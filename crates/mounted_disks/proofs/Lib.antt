@@ -1,2 +1,0 @@
-mod HeaderLaws
-mod MountLaws

@@ -1,3 +1,0 @@
-pub mod Stop
-pub mod DiskSize
-pub mod Mounted

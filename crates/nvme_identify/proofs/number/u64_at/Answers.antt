@@ -1,6 +1,0 @@
-use Rattle.std.proofs.Common.{◌∙◌, arith}
-use Rattle.nvme_wire.proofs.NumberLaws.{little_from-part}
-use Rattle.nvme_identify.proofs.number.u64_at.Goals as goal
-
-pub returns : goal.returns
-returns c = c.read_u64.ensures ∙ little_from-part c.args.at _ 8 c.args.page.now (omega arith)

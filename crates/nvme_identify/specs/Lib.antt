@@ -1,4 +1,0 @@
-pub mod Fields
-pub mod Shape
-pub mod Faults
-pub mod Identity

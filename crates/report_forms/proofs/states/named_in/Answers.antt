@@ -1,5 +1,0 @@
-use Rattle.std.proofs.Common.{below_more, sym, ◌∙◌}
-use Rattle.report_forms.proofs.states.named_in.Goals as goal
-
-pub loop-state-preserved : goal.loop-state-preserved
-loop-state-preserved c = below_more _ _ c.loop-state.invariant (sym c.is_name_of.ensures ∙ c.if-is_name_of.false)

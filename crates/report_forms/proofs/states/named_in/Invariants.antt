@@ -1,7 +1,0 @@
-use Rattle.std.proofs.Common.{◌≡◌, ℕ, ◌<◌, false, get_or}
-use Rattle.nvme_wire.specs.declared.zone_state.ZoneState.TheVariants.{Empty}
-use Rattle.report_forms.specs.Named.{is_name_of}
-use Rattle.report_forms.proofs.states.named_in.Given as goal
-
-abbrev pub invariant-loop-state : goal.invariant-loop-state
-invariant-loop-state l = (k : ℕ) → k < l.state-index → is_name_of l.word (get_or l.states k Empty) ≡ false
