@@ -4,10 +4,10 @@ ghost use Rattle.std.specs.Prelude.{◌≡◌, ◌*◌, ◌<◌, IfOk, length};
 ghost use Rattle.zone_translator.specs.Keeping.{KeepsServed};
 ghost use Rattle.disk_copies.specs.Copies.{Imports, ImportsPiece, piece_blocks};
 
-use crate::filling::fill;
 use crate::piece::{block_of, piece_blocks};
 use crate::putting::put;
 use crate::stream_fault::ImportFault;
+use disk_files::fill;
 use drive_port::Device;
 use std::alloc::{AllocError, Global};
 use std::io::Read;

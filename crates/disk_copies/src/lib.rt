@@ -56,7 +56,6 @@ mod drive_import;
 mod explanation;
 mod exporting;
 mod file;
-mod filling;
 mod importing;
 mod job;
 mod piece;

@@ -2,7 +2,7 @@ ghost use Rattle.std.specs.Prelude.{◌≡◌};
 ghost use Rattle.disk_copies.specs.declared.stream_fault.ExportFault.TheVariants as exports;
 ghost use Rattle.disk_copies.specs.declared.stream_fault.ImportFault.TheVariants as imports;
 
-use disk_files::WriteFault;
+use disk_files::{FillFault, WriteFault};
 use std::alloc::AllocError;
 use thiserror::Error;
 use zone_translator::DiskFault;
@@ -52,6 +52,14 @@ pub enum ImportFault {
     /// There is no memory for what is read. Nothing was read.
     #[error("out of memory")]
     Memory,
+}
+
+impl From<FillFault> for ImportFault {
+    ghost from_gives = { λ _ fault. fault ≡ imports.Input };
+
+    fn from(_fault: FillFault) -> ImportFault {
+        ImportFault::Input
+    }
 }
 
 impl From<DiskFault> for ImportFault {

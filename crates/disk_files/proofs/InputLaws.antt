@@ -1,10 +1,10 @@
 -- Bytes that are read part by part.
-use Rattle.std.proofs.Common.{◌≡◌, ℕ, ◌+◌, ◌<◌, ◌≤◌, Ok, Err, List, [], ◌++◌, length, take, Option, Result, ap, sym, subst, ◌∙◌, arith}
-use Rattle.std.specs.Prelude.{IfErr, IsErrAnd}
-use Rattle.std.specs.Io.KnownBytes.{Consumes, Keeps}
+use Rattle.std.proofs.Common.{◌≡◌, ℕ, ◌+◌, ◌<◌, ◌≤◌, Ok, Err, List, [], ◌++◌, length, take, Option, Some, None, Result, ap, sym, subst, ◌∙◌, arith}
+use Rattle.std.specs.Prelude.{IfErr, IfSome, IsErrAnd}
+use Rattle.std.specs.Io.KnownBytes.{Consumes, IsAtEnd, Keeps}
 use Rattle.std.proofs.KnownBytes.{Consumes-kept, Consumes-trans}
 use Rattle.std.proofs.Math.Seq.{take-append-add}
-use Rattle.std.proofs.lemmas.List.{append-nil, length-append, length-take, take-append-le}
+use Rattle.std.proofs.lemmas.List.{append-nil, length-append, length-take, take-append-le, take_all}
 use borrow.Rule.Slice.PartMut.{put_mid, post_of}
 use Rattle.disk_files.specs.Input.{Drops, DropsFewer}
 
@@ -32,13 +32,21 @@ fewer-kept old middle new a n buffer first within short kept = record {
   consumes = Consumes-kept old middle new (take a buffer) first kept;
 }
 
--- the same where a read gave no byte
-pub fewer-end : (old middle new : Option (List ℕ)) (a n k : ℕ) (buffer more : List ℕ) → Consumes old middle (take a buffer) → a ≤ length buffer → a < n → k ≡ 0 → Consumes middle new (take k more) → DropsFewer old new n
-fewer-end old middle new a n k buffer more first within short none read = record {
-  bytes = take a buffer;
-  fewer = omega (arith, length-take a buffer);
-  consumes = subst (λ bytes. Consumes old new bytes) (append-nil (take a buffer)) (Consumes-trans old middle new (take a buffer) [] first (rw none at read));
-}
+-- a buffer is not filled, since no more came
+pub fewer-front : (old new : Option (List ℕ)) (n : ℕ) (buffer : List ℕ) → Consumes old new (take n buffer) → n < length buffer → DropsFewer old new (length buffer)
+fewer-front old new n buffer text short = record { bytes = take n buffer; fewer = omega (arith, short, length-take n buffer); consumes = text }
+
+-- a buffer that was filled was read
+pub all-read : (old new : Option (List ℕ)) (n count : ℕ) (buffer : List ℕ) → Consumes old new (take n buffer) → length buffer ≡ count → count ≤ n → Consumes old new buffer
+all-read old new n count buffer text long full = subst (Consumes old new) (take_all n buffer (omega (arith, long, full))) text
+
+-- the reader ended before the buffer was full: that many bytes were left
+pub few-left : (old new : Option (List ℕ)) (n count : ℕ) (buffer : List ℕ) → Consumes old new (take n buffer) → length buffer ≡ count → n < count → (n < length buffer → IsAtEnd new) → IfSome old (λ bytes. length bytes ≡ n)
+few-left None new n count buffer text long short ended = tt
+few-left (Some xs) None n count buffer text long short ended = absurd text
+few-left (Some xs) (Some ys) n count buffer text long short ended =
+    let none : ys ≡ [] = ended (omega (arith, long, short)) in
+    omega (arith, ap (λ (l : List ℕ). length l) (text ∙ ap (λ (l : List ℕ). take n buffer ++ l) none ∙ append-nil (take n buffer)), length-take n buffer, long, short)
 
 taken_after : (a n : ℕ) (front ys post : List ℕ) → length front ≡ a → n ≤ length ys → take (a + n) (front ++ (ys ++ post)) ≡ front ++ take n ys
 taken_after a n front ys post long fits = rw (← long) (take-append-add front (ys ++ post) n ∙ ap (λ zs. front ++ zs) (take-append-le n ys post fits))

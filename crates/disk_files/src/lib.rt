@@ -23,6 +23,7 @@
 //! * [`TraceLine::parse`] and [`parse_raw_line`] accept the lines of their grammars and no others, say what those say,
 //!   and decode their data into a buffer that the caller keeps.
 //! * Replies are their texts. [`write_out`] writes all its bytes, or after a fault a beginning of them.
+//! * [`fill`] reads until a buffer is full or the reader ends, and tells how many bytes it read.
 //! * `laws` has what holds of all lines: those that are written are read again.
 //! * A `FailAfter` is a reader or a writer that fails after a number of bytes, for tests.
 //!
@@ -40,6 +41,7 @@ mod bytes;
 mod data;
 mod digits;
 mod fail_after;
+mod input;
 pub mod laws;
 mod line_reader;
 mod output;
@@ -52,6 +54,7 @@ mod words;
 pub use again::{read_again, write_again};
 pub use data::ParseFault;
 pub use fail_after::FailAfter;
+pub use input::{FillFault, fill};
 pub use line_reader::{LONGEST_LINE, LineFault, LineReader};
 pub use output::{WriteFault, write_out};
 pub use raw_line::parse_raw_line;

@@ -1,4 +1,3 @@
-pub mod FillLaws
 pub mod FrontLaws
 pub mod HeadLaws
 pub mod ImageLaws

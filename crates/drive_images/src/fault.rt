@@ -1,6 +1,7 @@
 ghost use Rattle.std.specs.Prelude.{◌≡◌};
-ghost use Rattle.drive_images.specs.declared.fault.ImageFault.TheVariants.{OutOfMemory};
+ghost use Rattle.drive_images.specs.declared.fault.ImageFault.TheVariants.{Input, OutOfMemory};
 
+use disk_files::FillFault;
 use std::alloc::{AllocError, AllocFailed};
 use thiserror::Error;
 
@@ -44,5 +45,13 @@ impl<T: Drop> From<AllocFailed<T>> for ImageFault {
 
     fn from(_error: AllocFailed<T>) -> ImageFault {
         ImageFault::OutOfMemory
+    }
+}
+
+impl From<FillFault> for ImageFault {
+    ghost from_gives = { λ _ fault. fault ≡ Input };
+
+    fn from(_fault: FillFault) -> ImageFault {
+        ImageFault::Input
     }
 }

@@ -3,7 +3,6 @@ ghost use Rattle.std.specs.Io.KnownBytes.{Consumes};
 ghost use Rattle.drive_images.specs.Reading.{TellsFirst, short_of};
 
 use crate::fault::ImageFault;
-use disk_files::read_again;
 use std::io::Read;
 
 /// Reads until the buffer is full. It is `Short` if the reader ends before.
@@ -14,13 +13,8 @@ pub fn fill<R: Read>(reader: &mut R, buffer: &mut [u8]) -> Result<(), ImageFault
         IfSome (R.remaining reader.old)
         (λ bytes. TellsFirst (short_of (length buffer.old) bytes) fault)) }
 {
-    let mut at = 0;
-    while at < buffer.len() {
-        match read_again(reader, &mut buffer[at..]) {
-            Ok(0) => return Err(ImageFault::Short),
-            Ok(n) => at += n,
-            Err(_) => return Err(ImageFault::Input),
-        }
+    if disk_files::fill(reader, buffer)? < buffer.len() {
+        return Err(ImageFault::Short);
     }
     Ok(())
 }

@@ -3,7 +3,6 @@ pub mod StepLaws
 pub mod SumLaws
 pub mod CutLaws
 pub mod PartLaws
-pub mod FillLaws
 pub mod ReadLaws
 pub mod StoredLaws
 pub mod ReplayLaws

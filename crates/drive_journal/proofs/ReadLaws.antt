@@ -8,6 +8,7 @@ use Rattle.std.proofs.KnownBytes.{Consumes-trans}
 use Rattle.std.proofs.lemmas.Bool.{ltb-false, ltb-true}
 use Rattle.std.proofs.lemmas.List.{append-nil, length-append, length-take, take_all, take_at}
 use Rattle.zone_states.specs.declared.geometry.Geometry.{Geometry}
+use Rattle.disk_files.proofs.InputLaws.{few-left}
 use Rattle.drive_journal.specs.Change.{Change, HasNoChange, IsChange, IsEntry, Sum, change_bytes, data_length, earlier_mark, head_bytes, mark, next_sum, sealed_entry, sum_bytes, sum_over}
 use Rattle.drive_journal.specs.Reading.{FindsBody, FindsChange, FindsEnd, IsDamaged, IsOther, IsSealedEntry, ReadsBody}
 use Rattle.drive_journal.specs.Tail.{HasHead, IsCutOff, begins_as_mark}
@@ -21,19 +22,7 @@ pub if-ok : {T E : Type 0} (r : Result T E) (P Q : T → Type 0) → ((x : T) �
 if-ok (Ok x) P Q f p = f x p
 if-ok (Err e) P Q f p = tt
 
--- ---- a buffer that is filled
-
--- a buffer that was filled was read
-pub all-read : (old new : Option (List ℕ)) (n count : ℕ) (buffer : List ℕ) → Consumes old new (take n buffer) → length buffer ≡ count → count ≤ n → Consumes old new buffer
-all-read old new n count buffer text long full = subst (Consumes old new) (take_all n buffer (omega (arith, long, full))) text
-
--- the reader ended before the buffer was full: that many bytes were left
-pub few-left : (old new : Option (List ℕ)) (n count : ℕ) (buffer : List ℕ) → Consumes old new (take n buffer) → length buffer ≡ count → n < count → (n < count → IsAtEnd new) → IfSome old (λ bytes. length bytes ≡ n)
-few-left None new n count buffer text long short ended = tt
-few-left (Some xs) None n count buffer text long short ended = absurd text
-few-left (Some xs) (Some ys) n count buffer text long short ended =
-    let none : ys ≡ [] = ended short in
-    omega (arith, ap (λ (l : List ℕ). length l) (text ∙ ap (λ (l : List ℕ). take n buffer ++ l) none ∙ append-nil (take n buffer)), length-take n buffer, long, short)
+-- ---- known bytes
 
 -- what holds of the bytes that were read and those that are left, where these are known
 pub read-so : (old new : Option (List ℕ)) (front : List ℕ) (P : List ℕ → Type 0) → Consumes old new front → IfSome new (λ rest. P (front ++ rest)) → IfSome old P
@@ -232,13 +221,13 @@ module _ (geometry : Geometry) (sum : Sum) (entry sealed : List ℕ) (long : len
 -- ---- a mark
 
 -- the first 8 bytes that are left, where that many were read or the reader ended
-first-eight : (n : ℕ) (buffer rest : List ℕ) → length buffer ≡ 8 → n ≤ 8 → (n < 8 → rest ≡ []) → take 8 (take n buffer ++ rest) ≡ take n buffer
+first-eight : (n : ℕ) (buffer rest : List ℕ) → length buffer ≡ 8 → n ≤ length buffer → (n < length buffer → rest ≡ []) → take 8 (take n buffer ++ rest) ≡ take n buffer
 first-eight n buffer rest long most ended = by (ltb n 8) refl
   where
     by : (b : Bool) → ltb n 8 ≡ b → take 8 (take n buffer ++ rest) ≡ take n buffer
     by true e =
         let short = ltb-true _ _ e in
-        rw (ended short, append-nil (take n buffer)) (take_all 8 (take n buffer) (omega (arith, length-take n buffer, short)))
+        rw (ended (omega (arith, long, short)), append-nil (take n buffer)) (take_all 8 (take n buffer) (omega (arith, length-take n buffer, short)))
     by false e =
         let full = ltb-false _ _ e in
         take_at (take n buffer) rest 8 (omega (arith, length-take n buffer, long, most, full))
@@ -253,12 +242,12 @@ other-none geometry sum bytes other change rest is same =
 pub earlier-other : (bytes : List ℕ) → take 8 bytes ≡ earlier_mark → begins_as_mark bytes ≡ false
 earlier-other bytes same = ap (λ (l : List ℕ). starts_with nat_eq mark l) same
 
-module _ (geometry : Geometry) (sum : Sum) (old new : Option (List ℕ)) (n : ℕ) (buffer : List ℕ) (text : Consumes old new (take n buffer)) (long : length buffer ≡ 8) (most : n ≤ 8) (ended : n < 8 → IsAtEnd new) where
+module _ (geometry : Geometry) (sum : Sum) (old new : Option (List ℕ)) (n : ℕ) (buffer : List ℕ) (text : Consumes old new (take n buffer)) (long : length buffer ≡ 8) (most : n ≤ length buffer) (ended : n < length buffer → IsAtEnd new) where
   -- what holds of the first 8 bytes
   of-first : (P : List ℕ → Type 0) → P (take n buffer) → IfSome old (λ bytes. P (take 8 bytes))
   of-first P p = by old new text ended
     where
-      by : (old new : Option (List ℕ)) → Consumes old new (take n buffer) → (n < 8 → IsAtEnd new) → IfSome old (λ bytes. P (take 8 bytes))
+      by : (old new : Option (List ℕ)) → Consumes old new (take n buffer) → (n < length buffer → IsAtEnd new) → IfSome old (λ bytes. P (take 8 bytes))
       by None new text ended = tt
       by (Some xs) None text ended = absurd text
       by (Some xs) (Some ys) text ended = subst P (sym (ap (λ (l : List ℕ). take 8 l) text ∙ first-eight n buffer ys long most ended)) p

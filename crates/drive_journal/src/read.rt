@@ -9,30 +9,11 @@ ghost use Rattle.drive_journal.specs.Reading.{FindsBody, FindsChange, FindsEnd, 
 
 use crate::change::{EARLIER_MARK, MARK, Sum, sum_bytes, sum_over};
 use crate::found::Found;
-use disk_files::read_again;
+use disk_files::fill;
 use drive_images::ImageFault;
 use nvme_wire::{Command, DecodeFault};
 use std::io::Read;
 use zone_states::Geometry;
-
-/// Reads until the buffer is full or the reader ends. Answers how many bytes were read.
-fn fill<R: Read>(reader: &mut R, buffer: &mut [u8]) -> Result<usize, ImageFault>
-    ensures read { IfOk result (λ n. Consumes (R.remaining reader.old) (R.remaining reader.new) (take n buffer.new)) }
-    ensures bound { IfOk result (λ n. n ≤ length buffer.old) }
-    ensures ended { IfOk result (λ n. n < length buffer.old → IsAtEnd (R.remaining reader.new)) }
-    ensures length { length buffer.new ≡ length buffer.old }
-    ensures err { IfErr result (λ fault. is_of_bytes fault ≡ false) }
-{
-    let mut at = 0;
-    while at < buffer.len() {
-        match read_again(reader, &mut buffer[at..]) {
-            Ok(0) => return Ok(at),
-            Ok(n) => at += n,
-            Err(_) => return Err(ImageFault::Input),
-        }
-    }
-    Ok(at)
-}
 
 /// Replaces the contents of `bytes` by `count` bytes of the reader, and answers how many it had.
 /// If it had fewer, zeros follow.
@@ -50,7 +31,7 @@ fn fill_bytes<R: Read>(
 {
     bytes.clear();
     bytes.resize(count, 0)?;
-    fill(reader, bytes)
+    Ok(fill(reader, bytes)?)
 }
 
 /// How many blocks of data a command has that changes a drive of this shape. Any other command has

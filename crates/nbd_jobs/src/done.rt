@@ -26,6 +26,7 @@ impl SessionTold {
         ensures statistics { is_some result.statistics ≡ false }
         ensures disk { result.disk ≡ None }
         ensures forgotten { result.forgotten ≡ None }
+        ensures failed { result.failed ≡ None }
     {
         SessionTold {
             result: Err(fault),

@@ -1,6 +1,6 @@
-ghost use Rattle.nbd_session.specs.declared.fault.SessionFault.TheVariants.{Output};
+ghost use Rattle.nbd_session.specs.declared.fault.SessionFault.TheVariants.{Input, Output};
 
-use disk_files::WriteFault;
+use disk_files::{FillFault, WriteFault};
 use thiserror::Error;
 use zone_translator::DiskFault;
 
@@ -22,6 +22,16 @@ pub enum SessionFault {
     /// 2^64 - 1 messages were answered.
     #[error("too many messages came")]
     TooMany,
+}
+
+impl From<FillFault> for SessionFault {
+    ghost use Rattle.std.specs.Prelude.{◌≡◌};
+
+    ghost from_gives = { λ _ fault. fault ≡ Input };
+
+    fn from(_error: FillFault) -> SessionFault {
+        SessionFault::Input
+    }
 }
 
 impl From<WriteFault> for SessionFault {

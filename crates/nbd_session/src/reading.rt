@@ -4,7 +4,6 @@ ghost use Rattle.disk_files.specs.Input.{Drops, DropsFewer};
 ghost use Rattle.nbd_session.specs.Streams.{FillsBuffer};
 
 use crate::fault::SessionFault;
-use disk_files::read_again;
 use std::alloc::AllocError;
 use std::io::Read;
 
@@ -16,16 +15,11 @@ pub fn fill<R: Read>(reader: &mut R, buffer: &mut [u8]) -> Result<bool, SessionF
     ensures fills { FillsBuffer (R.remaining reader.old) (R.remaining reader.new) buffer.new result }
     ensures length { length buffer.new ≡ length buffer.old }
 {
-    let mut at = 0;
-    while at < buffer.len() {
-        match read_again(reader, &mut buffer[at..]) {
-            Ok(0) if at == 0 => return Ok(false),
-            Ok(0) => return Err(SessionFault::Input),
-            Ok(n) => at += n,
-            Err(_) => return Err(SessionFault::Input),
-        }
+    match disk_files::fill(reader, buffer)? {
+        count if count == buffer.len() => Ok(true),
+        0 => Ok(false),
+        _ => Err(SessionFault::Input),
     }
-    Ok(true)
 }
 
 /// Fills the buffer, or fails.

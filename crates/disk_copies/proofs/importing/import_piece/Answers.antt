@@ -1,5 +1,5 @@
 use Rattle.std.proofs.Common.{◌∙◌, ◌-◌, ℕ, ap, arith}
-use Rattle.disk_copies.specs.declared.stream_fault.ImportFault.TheVariants.{Disk}
+use Rattle.disk_copies.specs.declared.stream_fault.ImportFault.TheVariants.{Disk, Input}
 use Rattle.disk_copies.proofs.Imports.{front-whole, import-err, piece-done, piece-past, piece-read, piece-refused, piece-rest, piece-unread}
 use Rattle.disk_copies.proofs.importing.import_piece.Goals as goal
 
@@ -8,9 +8,8 @@ returns-in_err-count-clause-imports g c =
     let old = c.args.disk.now in
     let input = g.R.Read.remaining c.args.reader.now in
     let rest = g.R.Read.remaining c.fill.new.reader in
-    let err = c.in_err-count.ensures.err in
-    let unread = piece-unread old c.args.first _ input rest (c.in_err-count.ensures.length ∙ c.requires) err.1 in
-    import-err old old c.args.first input rest c.from_residual.result c.in_err-count.field-0.0 c.from_residual.ensures.1 (rw err.0 unread)
+    let unread = piece-unread old c.args.first _ input rest (c.in_err-count.ensures.length ∙ c.requires) c.in_err-count.ensures.err in
+    import-err old old c.args.first input rest c.from_residual.result Input c.from_residual.ensures.1 unread
 
 pub put-requires-clause-whole : goal.put-requires-clause-whole
 put-requires-clause-whole g c =

@@ -5,7 +5,8 @@ use Rattle.std.specs.Io.KnownBytes.{Consumes}
 use Rattle.std.proofs.lemmas.List.{take_all}
 use Rattle.drive_journal.specs.Change.{mark}
 use Rattle.drive_journal.specs.Reading.{FindsBody}
-use Rattle.drive_journal.proofs.ReadLaws.{all-read, finds-marked, if-ok, whole-mark}
+use Rattle.disk_files.proofs.InputLaws.{all-read}
+use Rattle.drive_journal.proofs.ReadLaws.{finds-marked, if-ok, whole-mark}
 use Rattle.drive_journal.proofs.read.read_change.Goals as goal
 
 pub returns-clause-ok : goal.returns-clause-ok
@@ -15,7 +16,7 @@ returns-clause-ok g c =
     let buffer = c.fill.new.buffer in
     let count = c.in_ok-count.count in
     let long : length buffer ≡ 8 = search rules in
-    let first = all-read _ mid count 8 buffer c.in_ok-count.ensures.read long c.if-count-lt8.false in
+    let first = all-read _ mid count 8 buffer c.in_ok-count.ensures.ok.1 long c.if-count-lt8.false in
     let all = take_all count buffer (omega (arith, long, c.if-count-lt8.false)) in
     let begins : starts_with nat_eq mark buffer ≡ true = ap (λ (l : List ℕ). starts_with nat_eq mark l) (sym all) ∙ sym c.is_front_of_mark.ensures ∙ c.if-not-is_front_of_mark.false in
     let same = whole-mark buffer long begins in

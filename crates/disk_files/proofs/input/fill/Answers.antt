@@ -1,7 +1,7 @@
-use Rattle.std.proofs.Common.{take, rules, refl, arith}
+use Rattle.std.proofs.Common.{take, rules, arith}
 use Rattle.std.proofs.KnownBytes.{Consumes-trans}
 use Rattle.disk_files.proofs.InputLaws.{fewer-kept, filled}
-use Rattle.disk_copies.proofs.filling.fill.Goals as goal
+use Rattle.disk_files.proofs.input.fill.Goals as goal
 
 pub loop-at-preserved : goal.loop-at-preserved
 loop-at-preserved g c =
@@ -18,4 +18,4 @@ loop-at-preserved g c =
 pub returns-in-Err-clause-err : goal.returns-in-Err-clause-err
 returns-in-Err-clause-err g c =
     let at = c.loop-at in
-    (refl, fewer-kept _ _ _ at.at _ at.buffer at.invariant.read at.invariant.within (search rules) c.in-Err.ensures.bytes)
+    fewer-kept _ _ _ at.at _ at.buffer at.invariant.read at.invariant.within (search rules) c.in-Err.ensures.bytes
