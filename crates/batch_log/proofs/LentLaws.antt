@@ -11,7 +11,7 @@ use Rattle.batch_log.specs.Header.{Heading}
 use Rattle.batch_log.specs.Reading.{heading_in}
 use Rattle.batch_log.specs.Causes.{header_fault, is_zero}
 use Rattle.batch_log.specs.Log.{data_count}
-use Rattle.batch_log.specs.Ending.{Ending, ended, torn, failed, foreign_ending, short_ending}
+use Rattle.batch_log.specs.Ending.{Ending, ended, failed, foreign_ending, short_ending}
 use Rattle.batch_log.specs.Lent.{Item, LentBatch, Reading, batch_at, begins, ending_at, items_of, need, or_else, read_from, torn_of, with_batch}
 use Rattle.batch_log.proofs.EntryLaws.{few-data}
 
@@ -88,10 +88,6 @@ fails r offset fault told result e is = rw (e, is) (refl, refl)
 -- one that ends lends nothing more
 pub ends : (r : Reading) (offset : ℕ) (told : Option ℕ) → r ≡ at_end offset ended → (items r ≡ []) × (told ≡ or_else (tail r) told)
 ends r offset told e = rw e (refl, refl)
-
--- nor does one that finds a torn tail, and tells where
-pub tears : (r : Reading) (offset : ℕ) (told : Option ℕ) → r ≡ at_end offset torn → (items r ≡ []) × (Some offset ≡ or_else (tail r) told)
-tears r offset told e = rw e (refl, refl)
 
 -- one that finds a batch lends it, and then what follows
 pub goes_on : (r next : Reading) (batch : LentBatch) (told : Option ℕ) → r ≡ with_batch batch next → (items r ≡ Ok batch ∷ items next) × (or_else (tail next) told ≡ or_else (tail r) told)

@@ -1,8 +1,9 @@
 // The file of a drive: changes after its image that are cut off or damaged anywhere, and a store that fails.
 
-ghost use Rattle.std.specs.Prelude.{◌≡◌, ◌≤◌, ◌<◌, false};
+ghost use Rattle.std.specs.Prelude.{◌≡◌, ◌≤◌, ◌<◌};
 ghost use Rattle.nvme_wire.specs.Entry.{IsAdmitted};
 
+use crate::small_drives::action;
 use disk_files::{FailAfter, LineReader};
 use disk_runs::run_trace;
 use drive_images::write_image;
@@ -65,17 +66,6 @@ fn append_at(zslba: u64) -> Command
     Command::Append { zslba, blocks: 1 }
 }
 
-/// A command for the zone that starts there.
-fn send_to(slba: u64, action: Action) -> Command
-    ensures { result ≡ Command.Send slba action false }
-{
-    Command::Send {
-        slba,
-        action,
-        all: false,
-    }
-}
-
 /// Submits five commands that change the drive, and one that is refused, and counts those that are done.
 fn run_five<D: Device>(alloc: Global, device: &mut D) -> usize {
     let block = [0xaa; 512];
@@ -89,10 +79,10 @@ fn run_five<D: Device>(alloc: Global, device: &mut D) -> usize {
     if !is_done(device, append_at(0), &block, &mut into) {
         return 2;
     }
-    if !is_done(device, send_to(4, Action::Finish), &[], &mut into) {
+    if !is_done(device, action(4, Action::Finish), &[], &mut into) {
         return 3;
     }
-    if !is_done(device, send_to(0, Action::Reset), &[], &mut into) {
+    if !is_done(device, action(0, Action::Reset), &[], &mut into) {
         return 4;
     }
     if is_done(device, append_at(4), &block, &mut into) {

@@ -1,5 +1,6 @@
 // A small drive with three zones, and what is sent to it.
 
+ghost use Rattle.std.specs.Prelude.{◌≡◌, false};
 ghost use Rattle.nvme_wire.specs.Entry.{IsAdmitted};
 
 use crate::first_looks::first_seen;
@@ -98,9 +99,10 @@ pub const RESET: u32 = 5;
 /// The number of the report.
 pub const REPORT: u32 = 6;
 
-/// An action on one zone.
-fn action(slba: u64, action: Action) -> Command
-    ensures { IsAdmitted result }
+/// An action on the zone that starts there.
+pub fn action(slba: u64, action: Action) -> Command
+    ensures exact { result ≡ Command.Send slba action false }
+    ensures admitted { IsAdmitted result }
 {
     Command::Send {
         slba,

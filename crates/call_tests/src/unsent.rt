@@ -3,7 +3,7 @@
 ghost use Rattle.nvme_wire.specs.Entry.{IsAdmitted};
 
 use crate::first_looks::first_seen;
-use crate::small_drives::{APPEND, COMMANDS, FINISH, RESET, does, drive, reads};
+use crate::small_drives::{APPEND, COMMANDS, FINISH, RESET, action, does, drive, reads};
 use crate::watched_ways::Watch;
 use drive_port::{Device, Halt};
 use nvme_wire::{Action, Command, ReportingOptions};
@@ -34,17 +34,6 @@ fn check(rt: &impl Abort, alloc: Global, command: Command, bytes: &[u8])
         assert!(rt; !does(alloc, &mut device, later), "{later}");
     }
     assert_eq!(rt; device.way().way().sent(), 0);
-}
-
-/// An action on one zone.
-fn action(slba: u64, action: Action) -> Command
-    ensures { IsAdmitted result }
-{
-    Command::Send {
-        slba,
-        action,
-        all: false,
-    }
 }
 
 /// A Reset of all zones.

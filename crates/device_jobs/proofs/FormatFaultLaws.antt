@@ -13,8 +13,7 @@ use Rattle.drive_survey.specs.Reported.{KeepsZones}
 use Rattle.drive_survey.specs.Scan.{IsInterruption}
 use Rattle.tool_jobs.specs.declared.fault.ToolFault.{ToolFault}
 use Rattle.tool_jobs.specs.declared.fault.ToolFault.TheVariants as tools
-use Rattle.device_jobs.specs.Formats.{AreAllEmpty, AreEmptyBelow, AreUsages, IsResetOf, IsUnformatted, IsUnlisted, IsUnlooked, IsUnreset, IsUnsaid, IsUnusable, IsUnusableAt, IsWritten, NoneIsUnusable, SaysNoOk, is_used, unlooked, unreported}
-use Rattle.disk_runs.specs.Run.{Known}
+use Rattle.device_jobs.specs.Formats.{AreAllEmpty, AreEmptyBelow, AreUsages, IsResetOf, IsUnformatted, IsUnlisted, IsUnlooked, IsUnreset, IsUnsaid, IsUnusable, IsUnusableAt, IsWritten, NoneIsUnusable, is_used, unlooked, unreported}
 use Rattle.device_jobs.specs.Looks.{IsUnasked}
 use Rattle.device_jobs.specs.declared.format_fault.FormatFault.{FormatFault}
 use Rattle.device_jobs.specs.declared.format_fault.FormatFault.TheVariants as faults
@@ -156,14 +155,3 @@ module _ (force : Bool) (old new : DriveState) where
   unsaid-so done faults.Limits so = absurd so
   unsaid-so done faults.Stopped so = absurd so
   unsaid-so done faults.Memory so = inr done
-
--- nothing is written before that
-pub says-none : (fault : FormatFault) (written : Known) → SaysNoOk fault written written
-says-none (faults.Written written) was = refl
-says-none (faults.Unusable zone) was = refl
-says-none faults.Untold was = refl
-says-none (faults.Reset zone cause) was = refl
-says-none faults.Output was = inl refl
-says-none faults.Limits was = refl
-says-none faults.Stopped was = refl
-says-none faults.Memory was = refl

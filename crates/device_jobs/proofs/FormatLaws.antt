@@ -153,12 +153,6 @@ unused unusable none = absurd (cc none)
 below-empty : (geometry : Geometry) (reported : List ReportedZone) (i : ℕ) (now : DriveState) → ResetsBelow geometry reported i now → AreEmptyBelow i now
 below-empty geometry reported i now so = λ zone lt. unused (content_at (contents now.zones) zone).usage (so.below zone lt)
 
-pub all-reset : (geometry : Geometry) (reported : List ReportedZone) (i : ℕ) (now : DriveState) → geometry.zones ≤ i → ResetsBelow geometry reported i now → AreAllEmpty now
-all-reset geometry reported i now le so =
-    let count = so.lawful.count in
-    let same = ap (λ (g : Geometry). g.zones) so.geometry_is in
-    λ zone lt. below-empty geometry reported i now so zone (omega (arith, le, lt, count, same))
-
 -- where none is counted, none is written
 none-written : (reported : List ReportedZone) → count_by is_written reported ≡ 0 → (zone : ℕ) (one : ReportedZone) → slice_get reported zone ≡ Some one → is_written one ≡ false
 none-written [] none zone one there = absurd (cc)

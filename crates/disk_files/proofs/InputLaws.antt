@@ -32,10 +32,6 @@ fewer-kept old middle new a n buffer first within short kept = record {
   consumes = Consumes-kept old middle new (take a buffer) first kept;
 }
 
--- a buffer is not filled, since no more came
-pub fewer-front : (old new : Option (List ℕ)) (n : ℕ) (buffer : List ℕ) → Consumes old new (take n buffer) → n < length buffer → DropsFewer old new (length buffer)
-fewer-front old new n buffer text short = record { bytes = take n buffer; fewer = omega (arith, short, length-take n buffer); consumes = text }
-
 -- a buffer that was filled was read
 pub all-read : (old new : Option (List ℕ)) (n count : ℕ) (buffer : List ℕ) → Consumes old new (take n buffer) → length buffer ≡ count → count ≤ n → Consumes old new buffer
 all-read old new n count buffer text long full = subst (Consumes old new) (take_all n buffer (omega (arith, long, full))) text

@@ -143,10 +143,6 @@ idle_untold old new fault answered = by old.status refl
         let is : fault ≡ faults.Unmounted = cc in
         ap refusal_reply is
 
--- turns that were all done, or of which one was refused
-pub turns_all : (n : ℕ) (old new : DiskView) (result : Result (Unit {0}) DiskFault) → result ≡ Ok tt → TakesTurns n old new → TurnsBy result n old new
-turns_all n old new result is taken = rw is taken
-
 pub turns_fewer : (n : ℕ) (old new : DiskView) (fault : DiskFault) (result : Result (Unit {0}) DiskFault) → result ≡ Err fault → TakesFewer n fault old new → TurnsBy result n old new
 turns_fewer n old new fault result is fewer = rw is fewer
 

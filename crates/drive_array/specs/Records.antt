@@ -89,10 +89,6 @@ abbrev pub shown : ℕ → Option Record → List ℕ
 shown block_bytes (Some r) = shown_content block_bytes r.content
 shown block_bytes None = replicate block_bytes 0
 
--- the array of n blocks of `block_bytes` bytes: of each block what its newest record says
-abbrev pub array : ℕ → ℕ → List Record → List (List ℕ)
-array block_bytes n rs = told (shown block_bytes) n rs
-
 -- where a record's data is, or a trim's header: its address, in zones of `zone_size` addresses
 abbrev pub place : ℕ → Option Record → Place
 place zone_size None = places.None

@@ -69,18 +69,6 @@ one-more counts entry bytes completion small =
 abbrev pub IsInStep : ℕ → DriveState → Counts → Type 0
 IsInStep before inner counts = before + commands_of counts ≡ inner.completed
 
--- a lawful drive is lawful if it has completed fewer
-pub tally-lawful : (before : ℕ) (inner : DriveState) (counts : Counts) → IsInStep before inner counts → IsLawful inner → IsLawful (tallied (tally_of inner counts))
-tally-lawful before inner counts step lawful = record {
-  geometry = lawful.geometry;
-  count = lawful.count;
-  zones = lawful.zones;
-  active = lawful.active;
-  open_zones = lawful.open_zones;
-  completed = omega (arith, lawful.completed);
-  stopped = λ (all : commands_of counts ≡ 2 ^ 63). lawful.stopped (omega (arith, lawful.completed));
-}
-
 -- the counts after a submit are in step with the drive within
 pub still-in-step : (before : ℕ) (old new : DriveState) (counts after : Counts) (entry bytes : List ℕ) (result : Result (List ℕ) Halt) (returned : List ℕ)
     → IsInStep before old counts → IsLawful old → SubmitGives old entry bytes result returned new

@@ -1,10 +1,8 @@
 -- A fault that is told after some bytes were read, told of all the bytes.
-use Rattle.std.proofs.Common.{◌≡◌, ℕ, ◌<◌, true, List, ◌++◌, length, take, Option, Some, None, refl, sym, subst, arith}
-use Rattle.std.specs.Prelude.{IfErr, IfSome, IsErrAnd, Ok, Err, Result, nat_lt}
-use Rattle.std.specs.Io.KnownBytes.{Consumes, IsAtEnd}
-use Rattle.std.proofs.lemmas.Bool.Decides.{nat_tests}
-use Rattle.disk_files.proofs.InputLaws.{few-left}
-use Rattle.drive_images.specs.Reading.{TellsFirst, short_of}
+use Rattle.std.proofs.Common.{◌≡◌, ℕ, List, ◌++◌, Option, Some, None, refl, sym, subst}
+use Rattle.std.specs.Prelude.{IfErr, IfSome, IsErrAnd, Ok, Err, Result}
+use Rattle.std.specs.Io.KnownBytes.{Consumes}
+use Rattle.drive_images.specs.Reading.{TellsFirst}
 use Rattle.drive_images.specs.declared.fault.ImageFault.{ImageFault}
 use Rattle.drive_images.specs.declared.fault.ImageFault.TheVariants as faults
 
@@ -50,13 +48,6 @@ after_any (Some xs) (Some ys) front Q text f = subst Q (sym text) (f ys)
 pub some_so : (old : Option (List ℕ)) (P Q : List ℕ → Type 0) → ((bytes : List ℕ) → P bytes → Q bytes) → IfSome old P → IfSome old Q
 some_so None P Q f p = tt
 some_so (Some xs) P Q f p = f xs p
-
--- a buffer is not filled, since fewer bytes were left
-pub not_filled : (old new : Option (List ℕ)) (n count : ℕ) (buffer : List ℕ) → Consumes old new (take n buffer) → length buffer ≡ count → n < count → (n < length buffer → IsAtEnd new)
-    → IfSome old (λ bytes. TellsFirst (short_of count bytes) faults.Short)
-not_filled old new n count buffer text long short ended =
-    some_so old (λ bytes. length bytes ≡ n) (λ bytes. TellsFirst (short_of count bytes) faults.Short)
-    (λ bytes left. let few : nat_lt (length bytes) count ≡ true = grind (arith, nat_tests, left, short) in rw few refl) (few-left old new n count buffer text long short ended)
 
 -- a fault that is handed on
 pub if_fault : {T : Type 0} (r : Result T ImageFault) (fault : ImageFault) (P : ImageFault → Type 0) → IsErrAnd r (λ f. f ≡ fault) → P fault → IfErr r P

@@ -106,10 +106,6 @@ holds-zone drive n survey tables zone info known placed tells =
 abbrev pub EachTold : List ScannedZone → MapView → List ZoneInfo → Type 0
 EachTold scanned map infos = (zone : ℕ) (info : ZoneInfo) → slice_get infos zone ≡ Some info → TellsZone scanned map zone info
 
--- an empty list holds only such infos
-pub each-none : (scanned : List ScannedZone) (map : MapView) → EachTold scanned map []
-each-none scanned map zone info there = absurd (cc)
-
 each-append : {X : Type 0} (P : ℕ → X → Type 0) (xs : List X) (x : X) → ((z : ℕ) (y : X) → slice_get xs z ≡ Some y → P z y) → P (length xs) x
     → (z : ℕ) (y : X) → slice_get (xs ++ x ∷ []) z ≡ Some y → P z y
 each-append P [] x all here zero y there = let same : x ≡ y = cc in subst (P 0) same here

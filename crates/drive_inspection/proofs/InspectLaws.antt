@@ -1,5 +1,5 @@
 -- What is found of a drive that is looked at.
-use Rattle.std.proofs.Common.{◌≡◌, ◌≢◌, ◌^◌, inl, inr, ℕ, List, sym, subst, ◌∙◌, arith}
+use Rattle.std.proofs.Common.{◌≡◌, ◌^◌, inl, inr, ℕ, List, sym, subst, ◌∙◌, arith}
 use Rattle.std.specs.Prelude.{IfErr, IfOk, Result, Ok, Err}
 use Rattle.zone_states.specs.declared.geometry.Geometry.{Geometry}
 use Rattle.zone_states.specs.Geometry.{IsInRange}
@@ -7,12 +7,11 @@ use Rattle.drive_port.specs.Drive.{DriveState, IsLawful}
 use Rattle.drive_port.proofs.ClosingLaws.{IsClosing-trans}
 use Rattle.drive_array.specs.ZoneLogs.{drive_logs}
 use Rattle.drive_survey.specs.declared.fault.MountFault.{MountFault}
-use Rattle.drive_survey.specs.declared.fault.MountFault.TheVariants.{Halted, OutOfMemory}
 use Rattle.drive_survey.specs.declared.reported.ReportedZone.{ReportedZone}
 use Rattle.drive_survey.specs.declared.survey.Survey.{Survey}
 use Rattle.drive_survey.specs.Known.{Knows}
 use Rattle.drive_survey.specs.Reported.{KeepsZones}
-use Rattle.drive_survey.specs.Scan.{FailsBy, IsInterruption}
+use Rattle.drive_survey.specs.Scan.{FailsBy}
 use Rattle.drive_survey.specs.Survey.{Surveys}
 use Rattle.drive_survey.proofs.ReadLaws.{keeps-both}
 use Rattle.remount.specs.declared.plan.Plan.{Plan}
@@ -55,18 +54,6 @@ info-found old middle last n first second geometry plan holdings work same lawfu
     }
 
 -- ---- a drive that is refused
-
--- a fault that is no refusal is an interruption
-pub interrupts : (drive last : DriveState) (n : ℕ) (fault : MountFault) → FailsBy (MountFails drive n) last fault → (IsRefusal fault → ⊥) → IsInterruption last fault
-interrupts drive last n fault (inl memory) none = inl memory
-interrupts drive last n fault (inr (inl halted)) none = inr (inl halted)
-interrupts drive last n fault (inr (inr fails)) none = inl (absurd (none (not-memory fault fails, not-halted fault fails)))
-  where
-    not-memory : (f : MountFault) → MountFails drive n f → f ≢ OutOfMemory
-    not-memory f why same = subst (MountFails drive n) same why
-
-    not-halted : (f : MountFault) → MountFails drive n f → f ≢ Halted
-    not-halted f why same = subst (MountFails drive n) same why
 
 -- a refusal is the mount's
 pub refuses : (drive last : DriveState) (n : ℕ) (fault : MountFault) → FailsBy (MountFails drive n) last fault → IsRefusal fault → MountFails drive n fault

@@ -1,9 +1,9 @@
 -- One of the readable blocks of a zone is read.
-use Rattle.std.proofs.Common.{◌≡◌, ℕ, zero, suc, ◌+◌, ◌-◌, ◌*◌, ◌/◌, ◌%◌, ◌<◌, ◌≤◌, inl, inr, List, [], ◌∷◌, length, get_or, Ok, Err, refl, sym, ap, ◌∙◌, arith, append-nil}
+use Rattle.std.proofs.Common.{◌≡◌, ℕ, zero, suc, ◌+◌, ◌-◌, ◌*◌, ◌/◌, ◌%◌, ◌<◌, ◌≤◌, inl, inr, List, [], ◌∷◌, length, get_or, Err, refl, sym, ap, ◌∙◌, arith, append-nil}
 use Rattle.std.proofs.lemmas.Nat.{div-mul-add, mod-mul-add, mul-le}
 use Rattle.std.proofs.Math.Nat.{add-mul}
 use Rattle.drive_port.specs.Calls.{CanRead, IsNotRefused, Obeys, ReadGives}
-use Rattle.drive_port.specs.Contents.{Content, Counts, block_at, bytes_at, content_at, contents, usage_of}
+use Rattle.drive_port.specs.Contents.{Content, block_at, bytes_at, content_at, contents, usage_of}
 use Rattle.drive_port.specs.Drive.{DriveState, IsClosing, IsLawful}
 use Rattle.drive_port.specs.Step.{end_of, zone_at}
 use Rattle.drive_port.specs.declared.calls.PortFault.{PortFault}
@@ -103,10 +103,6 @@ pub read-shown : (drive : DriveState) (zone offset address : ℕ) (reported : Re
     → bytes ≡ bytes_at drive.geometry (contents drive.zones) address 1 → bytes ≡ block_of drive zone offset
 read-shown drive zone offset address reported bytes known lt is shown =
     shown ∙ append-nil (block_at drive.geometry (contents drive.zones) address) ∙ (known-read drive zone offset address reported known lt is).shows
-
--- a Read that succeeds keeps the zones, though the controller may close some
-pub read-keeps : (old new : DriveState) → Obeys {V = Unit {0}} old (Ok tt) new → IsClosing old.zones new.zones → Counts old new 0 → KeepsZones old new
-read-keeps old new obeys closing counts = record { geometry = obeys.geometry; lawful = obeys.lawful; closing = closing; refused = counts.refused; durable = obeys.durable; appended = omega (arith, counts.appended) }
 
 -- and one that halted
 pub record Halts (old new : DriveState) (fault : PortFault) : Type 0 where

@@ -190,12 +190,6 @@ takes-bad geometry content zone before seen heads ending fault no_more is fails 
 
 -- ---- if no batch begins
 
--- blocks whose first is no header block begin with no batch
-pub none-begins : (size : ℕ) (block : List ℕ) (others : List (List ℕ)) → ((heading : Heading) → IsHeaderBlock size block heading → ⊥) → BeginsWithNoBatch size (block ∷ others)
-none-begins size block others never batch after is encoded =
-    let same : block ≡ header_block size batch.heading = ap (λ (bs : List (List ℕ)). get_or bs 0 []) encoded in
-    never batch.heading (record { says = is.heading; encoded = same })
-
 -- a header block with too few blocks after it begins no batch
 pub short-begins : (size : ℕ) (block : List ℕ) (others : List (List ℕ)) (heading : Heading) → size < 2 ^ 32 → IsHeaderBlock size block heading → length others < data_count heading.entries → BeginsWithNoBatch size (block ∷ others)
 short-begins size block others heading small header few batch after is encoded =

@@ -259,18 +259,6 @@ abbrev pub MovedSoFar : List ScannedZone → BTreeSet ℕ → ℕ → Type 0
 MovedSoFar scanned zones limit =
     ((logs : List (List Batch)) → AreOf scanned logs → (zone : ℕ) → zone < limit → Tells (contains nat_cmp zones zone) (IsMoved logs zone)) × ((zone : ℕ) → limit ≤ zone → contains nat_cmp zones zone ≡ false)
 
--- with the next zone added if it holds Moves, the set has all zones of Moves so far
-pub moved-more : (scanned : List ScannedZone) (old new : BTreeSet ℕ) (limit limit' : ℕ) → limit' ≡ suc limit
-    → (contains nat_cmp old limit ≡ false → (logs : List (List Batch)) → AreOf scanned logs → Tells (contains nat_cmp new limit) (IsMoved logs limit))
-    → ((q : ℕ) → q ≢ limit → contains nat_cmp new q ≡ contains nat_cmp old q) → MovedSoFar scanned old limit → MovedSoFar scanned new limit'
-moved-more scanned old new limit limit' next own others so_far = (below, λ zone le. others zone (λ e. omega (arith, e, le, next)) ∙ so_far.1 zone (omega (arith, le, next)))
-  where
-    below : (logs : List (List Batch)) → AreOf scanned logs → (zone : ℕ) → zone < limit' → Tells (contains nat_cmp new zone) (IsMoved logs zone)
-    below logs are zone lt = elim (cases_eq zone limit) as (λ _. Tells (contains nat_cmp new zone) (IsMoved logs zone)) [
-      | inl here ↦ rw here (own (so_far.1 limit (omega arith)) logs are)
-      | inr apart ↦ rw (others zone apart) (so_far.0 logs are zone (omega (arith, lt, next, apart)))
-    ]
-
 -- a set of them has each half clean zone
 pub all-wait : (zones : BTreeSet ℕ) (block_bytes n : ℕ) (logs : List (List Batch)) (zone : ℕ) → Tells (contains nat_cmp zones zone) (IsMoved logs zone) → IsTrue (contains nat_cmp zones zone) ⊎ IsNeeded block_bytes n logs zone
 all-wait zones block_bytes n logs zone tells = by (contains nat_cmp zones zone) refl tells

@@ -187,13 +187,6 @@ shown-in-file file pages kept at size one within none i low =
     shown-at file pages kept (at + i) (omega (arith, within, low))
     ∙ rw (same-page at size i one low, none) refl
 
-pub holds-file : (file pages kept bytes : List ℕ) (at : ℕ) → at % 4096 + length bytes ≤ 4096 → place_of pages (at / 4096) ≡ None
-    → Holds file at bytes → Holds (shown file pages kept) at bytes
-holds-file file pages kept bytes at one none holds = record {
-  within = rw (length-shown file pages kept) holds.within;
-  each = λ i low. shown-in-file file pages kept at (length bytes) one holds.within none i low ∙ holds.each i low;
-}
-
 -- ---- a write within one page
 
 -- the slot of a place
@@ -355,15 +348,6 @@ all-shown file over room at done long is most = record {
   each = λ i low. sym (is.shown i (omega (arith, low, most)));
 }
 
--- no byte of a room is shown yet
-pub none-shown : (file over room : List ℕ) (at : ℕ) → Holds file at room → IsShown file over at 0 room
-none-shown file over room at holds = record {
-  few = omega arith;
-  within = holds.within;
-  shown = λ i low. absurd (omega (arith, low));
-  rest = λ i from low. sym (holds.each i low);
-}
-
 -- ---- bytes that are written piece by piece
 
 pub more-written : (before old new bytes part : List ℕ) (at done count : ℕ) → IsWritten before old at done bytes
@@ -388,26 +372,6 @@ more-written before old new bytes part at done count is holds same many each few
         ∙ holds.each (i - done) (omega (arith, j, many))
         ∙ each (i - done) j
         ∙ ap (slice_index bytes) (omega (arith, from))
-
-pub none-written : (file bytes : List ℕ) (at : ℕ) → IsWritten file file at 0 bytes
-none-written file bytes at = record {
-  few = omega arith;
-  beside = record { long = refl; below = λ i low. refl; above = λ i high. refl };
-  written = λ i low. absurd (omega (arith, low));
-}
-
-pub beside-wider : (old new bytes : List ℕ) (at done : ℕ) → IsWritten old new at done bytes → SameBeside at (length bytes) old new
-beside-wider old new bytes at done is = record {
-  long = is.beside.long;
-  below = is.beside.below;
-  above = λ i high. is.beside.above i (omega (arith, high, is.few));
-}
-
-pub all-written : (old new bytes : List ℕ) (at done : ℕ) → IsWritten old new at done bytes → length bytes ≤ done → at + length bytes ≤ length old → Holds new at bytes
-all-written old new bytes at done is most within = record {
-  within = rw is.beside.long within;
-  each = λ i low. is.written i (omega (arith, low, most));
-}
 
 -- a part of bytes
 pub part-each : (bytes : List ℕ) (from count j : ℕ) → j < count → slice_index (take count (drop from bytes)) j ≡ slice_index bytes (from + j)

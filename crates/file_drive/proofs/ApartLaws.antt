@@ -194,11 +194,3 @@ free-clear entries index free low apart i d few = elim (cases_eq i index) [
 ]
 
 -- ---- an open
-
--- the first zones are apart, and the next one is
-pub apart-step : (words : List ℕ) (entries : List Entry) (index : ℕ) → ((number : ℕ) → number < index → is_apart (flushed_at words number) (entry_at entries number) ≡ true)
-    → is_apart (flushed_at words index) (entry_at entries index) ≡ true → (number : ℕ) → number < index + 1 → is_apart (flushed_at words number) (entry_at entries number) ≡ true
-apart-step words entries index before next number low = elim (cases_eq number index) [
-  | inl is ↦ rw is next
-  | inr away ↦ before number (omega (arith, low, away))
-]

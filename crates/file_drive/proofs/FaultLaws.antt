@@ -10,10 +10,6 @@ pub err-of : {X E : Type 0} (result : Result X E) (narrow wide : E → Type 0) �
 err-of (Ok x) narrow wide step is = tt
 err-of (Err fault) narrow wide step is = step fault is
 
-pub if-err-of : {X E : Type 0} (result : Result X E) (narrow wide : E → Type 0) → ((fault : E) → narrow fault → wide fault) → IfErr result narrow → IfErr result wide
-if-err-of (Ok x) narrow wide step is = tt
-if-err-of (Err fault) narrow wide step is = step fault is
-
 -- an error where memory was missing
 pub no-memory : {X : Type 0} (result : Result X OpenFault) (wide : OpenFault → Type 0) → wide OutOfMemory → IsErrAnd result (λ fault. fault ≡ OutOfMemory) → IfErr result wide
 no-memory result wide there is = err-of result (λ fault. fault ≡ OutOfMemory) wide (λ fault e. rw e there) is

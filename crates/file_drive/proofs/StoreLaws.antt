@@ -72,9 +72,6 @@ length-written g file number entry long low few =
     let end = zone-ends g place (2 * g.zones) entry.written (place-low number g.zones entry low) few in
     length-take-le (entry.written * g.block) (drop (at_place g place) file) (omega (arith, length-drop (at_place g place) file, end, long))
 
-part-nil : (file : List ℕ) (at : ℕ) → part file at 0 ≡ []
-part-nil file at = refl
-
 -- two parts, one after the other
 pub part-join : (file : List ℕ) (at a b : ℕ) → part file at (a + b) ≡ part file at a ++ part file (at + a) b
 part-join file at a b =

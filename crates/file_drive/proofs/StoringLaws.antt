@@ -8,11 +8,11 @@ use Rattle.sqlite_disk.specs.Disk.{Follows, Holds, Only}
 use Rattle.nvme_wire.specs.declared.zone_state.ZoneState.TheVariants.{Offline}
 use Rattle.zone_states.specs.declared.geometry.Geometry.{Geometry}
 use Rattle.zone_states.specs.Geometry.{IsInRange}
-use Rattle.zone_states.specs.Stored.{AreWholeBlocks, StoredZone, zone_stored}
+use Rattle.zone_states.specs.Stored.{AreWholeBlocks, StoredZone}
 use Rattle.zone_states.specs.Zone.{IsLawfulZone}
 use Rattle.zone_states.proofs.Cutting.{length-cut}
 use Rattle.zone_states.proofs.HoldLaws.{may_hold-most}
-use Rattle.drive_port.specs.Drive.{DriveState, IsLawful}
+use Rattle.drive_port.specs.Drive.{DriveState}
 use Rattle.drive_port.specs.Run.{restarted_zone}
 use Rattle.zone_drive.specs.Held.{restarted_stored}
 use Rattle.zone_drive.specs.Stored.{AreZones, zones_of}
@@ -45,13 +45,6 @@ pub follows-wider : (at n from m : ℕ) (old new : List ℕ → Type 0) → Foll
 follows-wider at n from m old new follows low high bytes may =
     let before = follows bytes may in
     (before.0, before.1, beside-wider at n from m before.0 bytes before.2 low high)
-
--- a synced file of zeros is no drive
-pub zeros-unnamed : (n : ℕ) (left : List ℕ → Type 0) → 8 ≤ n → Only (zeros n) left → AreUnnamed left
-zeros-unnamed n left high only bytes may named =
-    let none : word_in bytes 0 ≡ 0 = ap (λ (xs : List ℕ). word_in xs 0) (only bytes may) ∙ word-zero n 0 (omega (arith, high)) in
-    let both : 0 ≡ magic = sym none ∙ named in
-    absurd (omega (arith, both))
 
 -- a change behind the first word names nothing
 pub unnamed-beside : (at n : ℕ) (old new : List ℕ → Type 0) → Follows (SameBeside at n) old new → 8 ≤ at → AreUnnamed old → AreUnnamed new
@@ -299,17 +292,6 @@ module _ (g : Geometry) (zones : List StoredZone) (in_range : IsInRange g) (are 
         }
 
 -- ---- a drive
-
--- the zones of a drive, as they are stored
-pub drive-zones : (drive : DriveState) (zones : List StoredZone) → IsLawful drive → zones_of drive.geometry.block zones ≡ drive.zones → AllByRecursion (λ (zone : StoredZone). AreWholeBlocks drive.geometry.block zone.bytes) zones
-    → AreZones drive.geometry zones
-drive-zones drive zones lawful is whole = record {
-  count = sym (length-map zones (zone_stored drive.geometry.block)) ∙ ap length is ∙ lawful.count;
-  whole = whole;
-  lawful = rw is lawful.zones;
-  active = rw is lawful.active;
-  open_zones = rw is lawful.open_zones;
-}
 
 stored-restarted : (block : ℕ) (zones : List StoredZone) → zones_of block (map restarted_stored zones) ≡ map restarted_zone (zones_of block zones)
 stored-restarted block [] = refl

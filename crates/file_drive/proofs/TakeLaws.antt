@@ -16,24 +16,6 @@ use Rattle.file_drive.proofs.PlaceLaws.{whole-apart, zones-after, zones-beside}
 
 -- ---- the same last flush
 
-pub keeps-refl : (g : Geometry) (file : List ℕ) → KeepsFlushed g file file
-keeps-refl g file = record { long = refl; head = refl; picked = refl; words = refl; zones = λ number written a b. refl }
-
-pub keeps-both : (g : Geometry) (old middle new : List ℕ) → KeepsFlushed g old middle → KeepsFlushed g middle new → KeepsFlushed g old new
-keeps-both g old middle new first second = record {
-  long = second.long ∙ first.long;
-  head = second.head ∙ first.head;
-  picked = second.picked ∙ first.picked;
-  words = (rw first.picked at second.words) ∙ first.words;
-  zones = λ number written a b. second.zones number written a b ∙ first.zones number written a b;
-}
-
-pub follows-keeps : (g : Geometry) (old middle new : List ℕ → Type 0) → Follows (KeepsFlushed g) old middle → Follows (KeepsFlushed g) middle new → Follows (KeepsFlushed g) old new
-follows-keeps g old middle new first second bytes may =
-    let last = second bytes may in
-    let before = first last.0 last.1 in
-    (before.0, before.1, keeps-both g before.0 last.0 bytes before.2 last.2)
-
 pub follows-by : (g : Geometry) (at n : ℕ) (old new : List ℕ → Type 0) → ((a b : List ℕ) → SameBeside at n a b → KeepsFlushed g a b) → Follows (SameBeside at n) old new
     → Follows (KeepsFlushed g) old new
 follows-by g at n old new step follows bytes may =

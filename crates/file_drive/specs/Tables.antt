@@ -69,11 +69,7 @@ live_table file = word_in file at_live % 2
 abbrev pub flushed_table : List ℕ → ℕ
 flushed_table file = 2 + word_in file at_flushed % 2
 
--- what an open finds where the system went on since the file was written: after a kill
-abbrev pub live_zones : Geometry → List ℕ → List StoredZone
-live_zones geometry file = zones_by geometry file (live_table file)
-
--- what an open finds where it may not have: after a loss of power
+-- what an open finds after a loss of power
 abbrev pub flushed_zones : Geometry → List ℕ → List StoredZone
 flushed_zones geometry file = zones_by geometry file (flushed_table file)
 

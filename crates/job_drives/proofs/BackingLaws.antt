@@ -1,8 +1,8 @@
 -- What appending to a file whose first bytes are whole keeps of them.
-use Rattle.std.proofs.Common.{inl, inr, ◌≡◌, ◌∙◌, ◌≤◌, ◌-◌, ◌+◌, ℕ, List, [], ◌++◌, Some, None, Result, Ok, Err, ap, append_assoc, arith, length, length-append, min, refl, sym, take}
+use Rattle.std.proofs.Common.{inl, inr, ◌≡◌, ◌∙◌, ◌≤◌, ◌-◌, ◌+◌, ℕ, List, [], ◌++◌, Some, None, Result, Ok, Err, ap, arith, length, length-append, min, refl, sym, take}
 use Rattle.std.specs.Prelude.{IfSome, OnErr}
 use Rattle.std.specs.Io.KnownBytes.{append_known}
-use Rattle.std.proofs.lemmas.List.{append-nil, length-take-le, take-append-le, take-take, take_all}
+use Rattle.std.proofs.lemmas.List.{append-nil, length-take-le, take-append-le, take-take}
 use Rattle.std.proofs.Math.Seq.{take-append-add}
 use Rattle.std.proofs.lemmas.Bool.{cases_lt}
 use Rattle.drive_journal.specs.Cut.{front_of}
@@ -22,19 +22,6 @@ front-kept whole old new more within same = rw same (appended-front whole old.by
 pub appended-within : (whole : ℕ) (bytes : Known) (more : List ℕ) → IfSome bytes (λ b. whole ≤ length b) → IfSome (append_known bytes more) (λ b. whole ≤ length b)
 appended-within whole None more within = tt
 appended-within whole (Some bytes) more within = omega (arith, within, length-append bytes more)
-
-pub append-none : (bytes : Known) → append_known bytes [] ≡ bytes
-append-none None = refl
-append-none (Some bytes) = ap Some (append-nil bytes)
-
-pub append-append : (bytes : Known) (one two : List ℕ) → append_known bytes (one ++ two) ≡ append_known (append_known bytes one) two
-append-append None one two = refl
-append-append (Some bytes) one two = ap Some (sym (append_assoc bytes one two))
-
--- all bytes are the first ones, where there are no more
-pub front-all : (whole : ℕ) (bytes : Known) → IfSome bytes (λ b. whole ≡ length b) → front_of whole bytes ≡ bytes
-front-all whole None all = refl
-front-all whole (Some bytes) all = ap Some (take_all whole bytes (omega (arith, all)))
 
 -- the first ones of some bytes and others after them
 cut-bytes : (whole old : ℕ) (bytes gathered : List ℕ) → old ≤ length bytes → take (min old whole) bytes ++ take (whole - old) gathered ≡ take whole (take old bytes ++ gathered)

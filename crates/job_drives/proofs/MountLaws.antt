@@ -1,11 +1,9 @@
 -- The disk that is mounted on a drive, and why there is none.
 use Rattle.std.proofs.Common.{◌≡◌, ◌≢◌, ◌⊎◌, inl, inr, ℕ, length, Bool, true, false, Option, Some, None, Result, Ok, Err, refl, sym, ap, ◌∙◌}
 use Rattle.std.specs.Prelude.{IfErr, IfOk, is_some, not}
-use Rattle.zone_states.specs.declared.geometry.Geometry.{Geometry}
 use Rattle.drive_port.specs.Drive.{DriveState}
 use Rattle.drive_array.specs.Mountable.{IsMountable}
 use Rattle.drive_array.specs.Records.{told}
-use Rattle.drive_array.specs.Reserve.{most_size}
 use Rattle.drive_array.specs.Sizes.{encoded_size, greatest, size_or}
 use Rattle.drive_array.specs.ZoneLogs.{drive_logs, encoded, encoded_array}
 use Rattle.drive_array.proofs.WholeLaws.{length-encoded}
@@ -23,7 +21,7 @@ use Rattle.remount.proofs.RefusalLaws.{only-halts}
 use Rattle.zone_translator.specs.Answers.{IsMounted}
 use Rattle.zone_translator.specs.Mount.{GivesBack}
 use Rattle.zone_translator.specs.View.{DiskView, disk_size, given_size, size_on}
-use Rattle.job_drives.specs.Mounted.{IsFoundAgain, IsLostAgain, IsNotFound, IsNotServed, IsOneBlock, IsRefusedAgain, IsServed, SaysNoSize, TellsFault, TellsNoSize, TellsOutOfRange, given_of}
+use Rattle.job_drives.specs.Mounted.{IsFoundAgain, IsLostAgain, IsNotFound, IsNotServed, IsOneBlock, IsRefusedAgain, IsServed, SaysNoSize, TellsNoSize, TellsOutOfRange}
 use Rattle.job_drives.proofs.HeaderLaws.{kept-logs}
 use Rattle.job_drives.specs.declared.mount_fault.NoDiskFault.{NoDiskFault}
 use Rattle.job_drives.specs.declared.mount_fault.NoDiskFault.TheVariants.{Mount, NoSize, Reserve, Unwritten}
@@ -77,10 +75,6 @@ same-array drive a b size says = rw says refl
 
 -- ---- a disk that is served
 
--- a drive that was mounted with a number is served
-pub given-served : (old : DriveState) (n : ℕ) (disk : DiskView) → IsMounted old n disk → IsServed old (Some n) disk
-given-served old n disk m = record { mounted = inl m; said = λ none. absurd (cc none); array = m.mounts.array; mountable = m.mountable }
-
 -- so is one that says more than one block
 pub said-served : (old : DriveState) (disk : DiskView) → IsMounted old 1 disk → disk_size disk ≢ 1 → IsServed old None disk
 said-served old disk m other = record { mounted = inl m; said = λ none. mounted-said old 1 disk m other; array = m.mounts.array; mountable = m.mountable }
@@ -131,14 +125,6 @@ err-more P Q (Ok x) more is = tt
 err-more P Q (Err y) more is = more y is
 
 -- ---- a drive that is not served
-
--- a mount was refused, and its fault is told
-pub not-mounted : (old back : DriveState) (blocks : Option ℕ) (geometry : Geometry) (fault : MountFault) (told : NoDiskFault) → geometry ≡ old.geometry
-    → TellsFault geometry fault told → GivesBack old (given_of blocks) fault back → IsNotServed old blocks told back
-not-mounted old back blocks geometry fault (Mount f) is tells gives = inl (rw tells gives)
-not-mounted old back blocks geometry fault (Reserve most) is tells gives = (tells.1 ∙ ap most_size is, rw tells.0 at gives)
-not-mounted old back blocks geometry fault (Unwritten most) is tells gives = absurd tells
-not-mounted old back blocks geometry fault (NoSize most) is tells gives = absurd tells
 
 -- what a disk of one block left, and a look at it, can be mounted as before
 one-kept : (old left back : DriveState) → IsOneBlock old left → KeepsZones left back → KeepsMountable 1 old back

@@ -51,24 +51,9 @@ sync-kept below new mine left (Err Medium) s = s.1.kept
 mode-below : (below new : StoreView) (mine left : List Pending) → KeepsMode (cached below mine) (cached new left) → KeepsMode (deferring below) (deferring new)
 mode-below below new mine left m = record { read_only = m.read_only; cleans = m.cleans; flushes = m.flushes; defers = refl; fails = m.fails }
 
-pub sync-mode : (below new : StoreView) (mine left : List Pending) (result : Result (Unit {0}) StoreFault) → Syncs (cached below mine) result (cached new left) → KeepsMode (deferring below) (deferring new)
-sync-mode below new mine left (Ok done) s = mode-below below new mine left s.1.keeps.mode
-sync-mode below new mine left (Err (Disk fault)) (inl s) = record {
-  read_only = ap (λ (store : StoreView). store.read_only) s.1;
-  cleans = ap (λ (store : StoreView). store.cleans) s.1;
-  flushes = ap (λ (store : StoreView). store.flushes) s.1;
-  defers = refl;
-  fails = ap (λ (store : StoreView). store.fails) s.1;
-}
-sync-mode below new mine left (Err (Disk fault)) (inr s) = mode-below below new mine left s.1.keeps.mode
-sync-mode below new mine left (Err Medium) s = mode-below below new mine left s.1.mode
-
 -- done, nothing is pending in the cache
 pub sync-applies : (below new : StoreView) (mine left : List Pending) → Syncs (cached below mine) (Ok tt) (cached new left) → Applies below mine (Ok 0) new
 sync-applies below new mine left s = (rw (none-above new.pending left s.1.done) at s, refl)
-
-pub sync-refused : (below new : StoreView) (mine left : List Pending) (fault : StoreFault) → Syncs (cached below mine) (Err fault) (cached new left) → Applies below mine (Err fault) new
-sync-refused below new mine left fault s = (left, s)
 
 -- ---- what a session and its end keep
 

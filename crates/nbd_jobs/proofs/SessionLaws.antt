@@ -9,12 +9,10 @@ use Rattle.nbd_session.specs.Streams.{Streams}
 use Rattle.nbd_session.proofs.ModeLaws.{session-grows}
 use Rattle.nbd_session.specs.declared.fault.SessionFault.{SessionFault}
 use Rattle.drive_array.specs.Mountable.{IsMountable}
-use Rattle.zone_translator.specs.Answers.{Answers}
 use Rattle.zone_translator.specs.Flat.{Begun, FlatDisk, flush, known_answer, with_nothing}
 use Rattle.zone_translator.specs.View.{DiskView, flat_of, given_size}
 use Rattle.zone_translator.specs.declared.fault.DiskFault.{DiskFault}
 use Rattle.job_drives.specs.DiskSize.{size_of}
-use Rattle.job_drives.specs.Mounted.{IsServed}
 use Rattle.job_drives.specs.declared.disk_size.DiskSize.{DiskSize}
 use Rattle.nbd_jobs.specs.Begun.{BeginsBy, IsBegun, IsNotBegun}
 use Rattle.nbd_jobs.specs.Failing.{fails_in_requests}
@@ -46,13 +44,6 @@ begun-mountable flushes old blocks first is = by flushes is.begins
     by : (flushes : Bool) → BeginsBy flushes is.mounted first → IsMountable first.drive (given_size first)
     by false same = rw same is.served.mountable
     by true a = a.kept.mountable
-
--- a drive that was mounted, and is to be flushed or not
-pub begins-flushed : (old : DriveState) (blocks : Option ℕ) (mounted first : DiskView) → IsServed old blocks mounted → Answers mounted flush (Ok tt) first → IsBegun true old blocks first
-begins-flushed old blocks mounted first served a = record { mounted = mounted; served = served; begins = a }
-
-pub begins-plain : (old : DriveState) (blocks : Option ℕ) (mounted : DiskView) → IsServed old blocks mounted → IsBegun false old blocks mounted
-begins-plain old blocks mounted served = record { mounted = mounted; served = served; begins = refl }
 
 -- ---- a session
 

@@ -1,4 +1,3 @@
-pub mod FillLaws
 pub mod PendingLaws
 pub mod SyncLaws
 pub mod ReplyLaws

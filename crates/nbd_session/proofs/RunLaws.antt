@@ -6,7 +6,7 @@ use Rattle.std.specs.Io.KnownBytes.{Keeps}
 use Rattle.std.proofs.KnownBytes.{Appends-nil, Appends-trans, Consumes-nil, Consumes-trans, Consumes-kept, Appends-kept, Keeps-refl}
 use Rattle.std.proofs.lemmas.List.{append-nil, length-append}
 use Rattle.nbd_session.specs.declared.ending.SessionEnd.{SessionEnd}
-use Rattle.nbd_session.specs.declared.ending.SessionEnd.TheVariants.{Disconnected, InputEnded, LimitReached}
+use Rattle.nbd_session.specs.declared.ending.SessionEnd.TheVariants.{LimitReached}
 use Rattle.nbd_session.specs.declared.fault.SessionFault.{SessionFault}
 use Rattle.nbd_session.specs.declared.fault.SessionFault.TheVariants.{Input, Magic, Output, TooMany, Unsent}
 use Rattle.nbd_session.specs.declared.phase.Phase.{Phase}
@@ -14,7 +14,7 @@ use Rattle.nbd_session.specs.declared.phase.Phase.TheVariants as phases
 use Rattle.nbd_session.specs.Session.{AnswersEach, AnswersMessage, Dialogue, Served, Session, session}
 use Rattle.nbd_session.specs.Store.{StoreView}
 use Rattle.nbd_session.specs.Streams.{Streams, streams}
-use Rattle.nbd_session.specs.Turns.{AnswersOne, DoesNothing, IsOver, RunsToEnd, RunsToLimit, RunsWithin, ServesAtMost, StopsSession, StopsAfter, StopsWithin, end_in, requests_at, requests_in, requests_stopped}
+use Rattle.nbd_session.specs.Turns.{AnswersOne, DoesNothing, IsOver, RunsToLimit, RunsWithin, ServesAtMost, StopsSession, StopsAfter, StopsWithin, end_in, requests_at, requests_in, requests_stopped}
 
 -- that many messages are answered, and that many of them are requests, at most so many
 pub record ServedCount (most : Option ℕ) (bytes : Streams) (old new : Session) (count requests : ℕ) : Type 0 where
@@ -112,12 +112,6 @@ ends_in most bytes old (phases.Options no_zeroes) new runs (inl ended) = absurd 
 ends_in most bytes old (phases.Options no_zeroes) new runs (inr at_end) = record { phase = phases.Options no_zeroes; unsaid = λ ended. cc ended; runs = runs; at_end = at_end }
 ends_in most bytes old phases.Transmission new runs (inl ended) = absurd (cc ended)
 ends_in most bytes old phases.Transmission new runs (inr at_end) = record { phase = phases.Transmission; unsaid = λ ended. cc ended; runs = runs; at_end = at_end }
-
--- a session without a greatest number of requests
-pub runs_to_end : (bytes : Streams) (old : Session) (ended : SessionEnd) (new : StoreView) → ServesAtMost None bytes old (Ok ended) new → RunsToEnd bytes old new
-runs_to_end bytes old Disconnected new s = record { phase = phases.Ended; served = s.served; over = inl refl }
-runs_to_end bytes old InputEnded new s = record { phase = s.phase; served = s.runs.served; over = inr s.at_end }
-runs_to_end bytes old LimitReached new s = absurd s
 
 -- if the bytes and the store are the same as before, nothing was done
 pub nothing_done : (left contents : Option (List ℕ)) (old : Session) → DoesNothing (streams left left contents contents) old old.store

@@ -10,10 +10,6 @@ use Rattle.passthrough.specs.Premise.{AreLawful, ShowsZones, descriptor_in}
 use Rattle.passthrough.specs.Seen.{AreRows, AreSeen, IsRow, no_zone}
 use Rattle.passthrough.specs.declared.seen_zone.SeenZone.{SeenZone}
 
--- no row
-pub rows-none : (geometry : Geometry) (report : List ℕ) (rows : List SeenZone) → AreRows geometry report 0 rows
-rows-none geometry report rows = λ i low. absurd (omega (arith, low))
-
 -- one row more
 pub rows-more : (geometry : Geometry) (report : List ℕ) (count : ℕ) (rows : List SeenZone) (row : SeenZone) → AreRows geometry report count rows → count < length rows
     → IsRow geometry count (descriptor_in report count) row → AreRows geometry report (count + 1) (slice_set rows count row)

@@ -24,7 +24,7 @@ use Rattle.passthrough.specs.Premise.{AreLawful, zone_of}
 use Rattle.passthrough.specs.Reading.{GivesFront, IsAskedFor, ReadsFront}
 use Rattle.passthrough.specs.Seen.{AreSeen, IsState, seen_at}
 use Rattle.passthrough.specs.declared.seen_zone.SeenZone.{SeenZone}
-use Rattle.passthrough.proofs.ReadyLaws.{pointer-has, query-closes, zone-there}
+use Rattle.passthrough.proofs.ReadyLaws.{pointer-has, zone-there}
 use Rattle.passthrough.proofs.SeenLaws.{pointer-seen, seen-count}
 
 -- a zone of a lawful drive holds no more blocks than its capacity
@@ -229,11 +229,6 @@ read-joins geometry old new slba blocks count {end} front some asked gives = joi
         → Effect geometry old (Ok (Read slba blocks)) [] Success 0 (front ++ replicate (blocks * geometry.block - count * geometry.block) 0) new
     joins (inl none) = rw (none.1, none.2) (nothing none.0)
     joins (inr effect) = something effect
-
--- a front that was read left the zones but for a closing
-pub front-closes : (geometry : Geometry) (old new : List Zone) (slba count : ℕ) (front : List ℕ) → GivesFront geometry old slba count front new → IsClosing old new
-front-closes geometry old new slba count front (inl none) = rw none.2 (IsClosing-refl old)
-front-closes geometry old new slba count front (inr effect) = query-closes geometry old new (Read slba count) [] front 0 refl effect
 
 -- a room of zeros into whose front blocks were read
 pub room-joins : (geometry : Geometry) (old new : List Zone) (slba blocks count : ℕ) {end : ℕ} (before after : List ℕ) → 1 ≤ blocks → IsAskedFor geometry old slba blocks count end

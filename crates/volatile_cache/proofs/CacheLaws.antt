@@ -224,9 +224,6 @@ empty_cache below = rw (append-nil below.pending, flat-ones below.since) refl
 
 -- ---- a sync
 
-due-spent : (c d less more e : ℕ) → c + less * e ≤ d + more * e → c ≤ d + more * e
-due-spent c d less more e h = omega (arith, h)
-
 -- What the store below keeps by a sync after some blocks were applied, the cache keeps. `IsLess` says what may be left in it.
 pub keeps_synced : (below middle last : StoreView) (mine left : List Pending) → Settles (cached below mine) (cached middle left)
     → (below.pending ++ mine ≡ [] → (middle ≡ below) × (left ≡ [])) → KeepsBySync middle last → KeepsBySync (cached below mine) (cached last left)

@@ -2,13 +2,13 @@
 use Rattle.std.proofs.Common.{◌≡◌, ◌∙◌, ℕ, zero, suc, ◌+◌, ◌*◌, ◌-◌, ◌<◌, ◌≤◌, List, [], ◌∷◌, ◌++◌, length, take, drop, replicate, refl, sym, ap, arith, Ok, Err, append-nil, append_assoc, length-append, length-drop, length-take, drop-drop, take-take, take_all}
 use Rattle.std.proofs.Math.Nat.{add-mul}
 use Rattle.std.specs.Prelude.{OnErr, Result}
-use Rattle.std.proofs.lemmas.List.{length-replicate, map-append}
+use Rattle.std.proofs.lemmas.List.{length-replicate}
 use Rattle.std.proofs.lemmas.Nat.{mul-le}
 use Rattle.zone_states.specs.Zone.{cut_blocks}
 use Rattle.nbd_session.specs.Pending.{Pending, pieces}
 use Rattle.nbd_session.specs.Store.{StoreView}
 use Rattle.volatile_cache.specs.Cache.{Cache, HasRoom, Keeps}
-use Rattle.volatile_cache.specs.Queue.{all_pending, pending_of}
+use Rattle.volatile_cache.specs.Queue.{all_pending}
 use Rattle.volatile_cache.specs.declared.kept.Kept.{Kept}
 use Rattle.volatile_cache.proofs.CacheLaws.{length_pieces}
 
@@ -55,15 +55,6 @@ take-front (x ∷ xs) ys = ap (λ (zs : List Kept). x ∷ zs) (take-front xs ys)
 pub keeps_none : {S : Type 0} (cache : Cache S) → Keeps cache [] cache
 keeps_none cache = record { store = refl; most = refl; kept = sym (append-nil (all_pending cache.kept)); front = take_all (length cache.kept) cache.kept (omega arith) }
 
--- one block is kept
-pub keeps_one : {S : Type 0} (old new : Cache S) (k : Kept) → new.store ≡ old.store → new.most ≡ old.most → new.kept ≡ old.kept ++ k ∷ [] → Keeps old (pending_of k ∷ []) new
-keeps_one old new k store most kept = record {
-  store = store;
-  most = most;
-  kept = ap (λ (ks : List Kept). all_pending ks) kept ∙ map-append pending_of old.kept (k ∷ []);
-  front = ap (λ (ks : List Kept). take (length old.kept) ks) kept ∙ take-front old.kept (k ∷ []);
-}
-
 pub length_map : (ks : List Kept) → length (all_pending ks) ≡ length ks
 length_map [] = refl
 length_map (k ∷ ks) = ap suc (length_map ks)
@@ -80,16 +71,6 @@ keeps_more a b c xs ys x y = record {
   kept = y.kept ∙ (ap (λ (ps : List Pending). ps ++ ys) x.kept ∙ append_assoc (all_pending a.kept) xs ys);
   front = sym (take-take (length a.kept) (length b.kept) c.kept (omega (arith, keeps_count a b xs x))) ∙ (ap (λ (ks : List Kept). take (length a.kept) ks) y.front ∙ x.front);
 }
-
--- what was kept is taken back
-pub kept_back : {S : Type 0} (a b c : Cache S) (xs : List Pending) → Keeps a xs b → c.store ≡ b.store → c.most ≡ b.most → c.kept ≡ take (length a.kept) b.kept → c ≡ a
-kept_back {S = S} a b c xs x store most kept =
-    same c a (store ∙ x.store) (kept ∙ x.front) (most ∙ x.most)
-  where
-    same : (c d : Cache S) → c.store ≡ d.store → c.kept ≡ d.kept → c.most ≡ d.most → c ≡ d
-    same c d s k m = ap (λ (st : S). record { store = st; kept = c.kept; most = c.most }) s
-        ∙ (ap (λ (ks : List Kept). record { store = d.store; kept = ks; most = c.most }) k
-        ∙ ap (λ (n : ℕ). record { store = d.store; kept = d.kept; most = n }) m)
 
 -- ---- one block more
 

@@ -1,5 +1,5 @@
 -- Where the oldest and the newest block of a place stand in the list, and which places are clear.
-use Rattle.std.proofs.Common.{◌≡◌, ◌≢◌, ◌⊎◌, ℕ, ◌+◌, ◌-◌, ◌<◌, ◌≤◌, List, [], ◌∷◌, ◌++◌, length, drop, Some, None, true, false, refl, sym, ap, inl, inr, ◌∙◌, arith}
+use Rattle.std.proofs.Common.{◌≡◌, ◌≢◌, ◌⊎◌, ℕ, ◌+◌, ◌-◌, ◌<◌, ◌≤◌, List, [], ◌∷◌, ◌++◌, length, Some, None, true, false, refl, sym, ap, inl, inr, ◌∙◌, arith}
 use Rattle.std.specs.Prelude.{◌==◌, Bool, Option, IsSome, slice_get}
 use Rattle.std.proofs.lemmas.Bool.{both_ways, cases_Bool, cases_lt, cases_order, eq-eqb, eqb-true, ne_eqb}
 use Rattle.std.proofs.lemmas.List.{map-append}
@@ -166,12 +166,6 @@ first-oldest [] k first = absurd (no-some k (sym first))
 first-oldest (x ∷ xs) k first =
     let is : x ≡ k = some-is x k first in
     oldest-here k.place x xs (eq-eqb x.place k.place (ap (λ (y : Kept). y.place) is)) ∙ first
-
-pub without-first : (kept : List Kept) (k : Kept) → slice_get kept 0 ≡ Some k → without_oldest k.place kept ≡ drop 1 kept
-without-first [] k first = refl
-without-first (x ∷ xs) k first =
-    let is : x ≡ k = some-is x k first in
-    without-here k.place x xs (eq-eqb x.place k.place (ap (λ (y : Kept). y.place) is))
 
 -- ---- the newest block of a place
 

@@ -442,13 +442,6 @@ shows_again a b c first at next end into into' known from less within (inr x) y 
       },
     )
 
--- all was shown
-pub shows_all : (a b : StoreView) (first at end : ℕ) (into : List ℕ) → first < end → at ≤ end → end ≤ at → ShowsUpTo a first at into b → Shows a first (end - first) (Ok tt) into b
-shows_all a b first at end into some within all (inl none) = absurd (omega (arith, some, all, none.0))
-shows_all a b first at end into some within all (inr x) =
-    let same : at ≡ end = omega (arith, within, all) in
-    record { shown = x.1.shown; reads = rw same at x.1.reads; bytes_are = x.1.bytes_are }
-
 -- a piece was refused
 pub shows_none : (a b c : StoreView) (first at end : ℕ) (into : List ℕ) (fault : DiskFault) → known_range (store_flat a) first (end - first) ≡ None → first ≤ at → at < end
     → ShowsUpTo a first at into b → FailsWithin b at (end - at) fault c → Shows a first (end - first) (Err fault) [] c

@@ -92,9 +92,6 @@ below-largest k lt = ascends zone_sizes k 6 sizes-ascend lt (omega arith)
 pub record NoneHold (blocks count : ℕ) : Type 0 where
   pub none : (j others : ℕ) → j < count → 8 ≤ others → others ≤ 1024 → blocks ≤ share_of (planned_drive others (get_or zone_sizes j 0)) 80 → ⊥
 
-pub none-yet : (blocks : ℕ) → NoneHold blocks 0
-none-yet blocks = record { none = λ j others lt eight few holds. omega arith }
-
 pub none-more : (blocks count zones : ℕ) → NoneHold blocks count → IsFewest blocks (get_or zone_sizes count 0) zones → 1024 < zones → NoneHold blocks (count + 1)
 none-more blocks count zones before fewest more = record {
   none = λ j others lt eight few holds. elim (cases_lt j count) [

@@ -1,5 +1,5 @@
 -- How many live records each zone has.
-use Rattle.std.proofs.Common.{◌≡◌, ℕ, ◌+◌, ◌-◌, ◌<◌, ◌≤◌, ◌^◌, Bool, true, false, cond, ltb, List, ◌++◌, length, set, get_or, replicate, Option, Some, None, refl, sym, ◌∙◌, inl, inr, arith}
+use Rattle.std.proofs.Common.{◌≡◌, ℕ, ◌+◌, ◌-◌, ◌<◌, ◌≤◌, ◌^◌, Bool, true, false, cond, ltb, List, length, set, get_or, Option, Some, None, refl, sym, ◌∙◌, inl, inr, arith}
 use Rattle.std.specs.Option.{IfSome}
 use Rattle.std.proofs.lemmas.Bool.{cases_lt, eq-eqb, le-ltb, lt-ltb, ltb-true}
 use Rattle.std.proofs.lemmas.List.{length-set, set_past}
@@ -9,7 +9,7 @@ use Rattle.logical_map.specs.Live.{is_zone, lies_in, zone_below, zone_in, zone_o
 use Rattle.logical_map.specs.Places.{MapView}
 use Rattle.logical_map.specs.declared.place.Place.{Place}
 use Rattle.logical_map.specs.declared.place.Place.TheVariants as places
-use Rattle.logical_map.proofs.Counting.{counts-set, length-lowered, length-raised, live-grow, lowered-live}
+use Rattle.logical_map.proofs.Counting.{counts-set, length-lowered, length-raised, lowered-live}
 use Rattle.zone_choice.specs.Tables.{AreLive}
 
 -- ---- a block is placed
@@ -65,10 +65,3 @@ live-placed map counts block place are lt =
     })
 
 -- ---- no block has a place, and more blocks
-
--- the same places, and then blocks that have none
-pub live-same : (old new : MapView) (counts : List ℕ) (more : ℕ) → AreLive old counts → new.zones ≡ old.zones → new.zone_size ≡ old.zone_size → new.places ≡ old.places ++ replicate more places.None → AreLive new counts
-live-same old new counts more are zones size places-are = record {
-  long = are.long ∙ sym zones;
-  each = λ zone below. are.each zone (omega (arith, below, zones)) ∙ rw (size, places-are) (sym (live-grow old.zone_size more zone old.places));
-}

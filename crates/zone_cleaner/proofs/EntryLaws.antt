@@ -8,7 +8,7 @@ use Rattle.std.specs.List.{AllByRecursion, concat, flat_map}
 use Rattle.std.specs.Map.{remove_entry}
 use Rattle.std.specs.Option.{option_map}
 use Rattle.std.proofs.lemmas.Bool.{ne_eqb}
-use Rattle.std.proofs.lemmas.List.{append-nil, append_assoc, drop-append-le, drop-drop, drop_all, drop_at, length-append, length-drop, length-map, length-take, take-append-le, take_all}
+use Rattle.std.proofs.lemmas.List.{append-nil, append_assoc, drop-append-le, drop-drop, drop_all, drop_at, length-append, length-drop, length-take, take-append-le, take_all}
 use Rattle.batch_log.specs.Header.{Heading, IsHeading, header_block}
 use Rattle.batch_log.proofs.HeaderLaws.{header_length}
 use Rattle.indexmap.specs.IndexMap.{insert_entry}
@@ -21,9 +21,6 @@ Blocks = List (ℕ × Option ℕ)
 
 abbrev one_shown : ℕ → List ℕ → ℕ × Option ℕ → LiveRecord
 one_shown n bytes b = record { block = b.0; content = option_map (block_from n bytes) b.1 }
-
-length-shown : (n : ℕ) (bytes : List ℕ) (bs : Blocks) → length (gathered_records n bytes bs) ≡ length bs
-length-shown n bytes bs = length-map bs (one_shown n bytes)
 
 -- ---- a record fewer
 

@@ -17,11 +17,9 @@ use Rattle.zone_states.specs.Zone.{Zone}
 use Rattle.drive_port.specs.Drive.{DriveState}
 use Rattle.drive_port.specs.Durable.{Hardens, MayHarden}
 use Rattle.drive_port.specs.Run.{restarted_zone}
-use Rattle.drive_port.proofs.StopLaws.{may_harden-same}
 use Rattle.zone_drive.specs.declared.habit.Habit.{Habit}
 use Rattle.zone_drive.specs.declared.habit.Habit.TheVariants as habits
-use Rattle.zone_drive.specs.Choice.{Keeps}
-use Rattle.zone_drive.specs.Habits.{MemoryDrive, close_implicit, closed_zone, settled}
+use Rattle.zone_drive.specs.Habits.{close_implicit, closed_zone, settled}
 use Rattle.zone_drive.specs.Held.{AreDurable, DurableJust, DurableOrNow, restarted_stored}
 use Rattle.zone_drive.specs.Stored.{AreZones, zones_of}
 use Rattle.zone_drive.specs.Table.{sent_stored}
@@ -98,10 +96,6 @@ on-err (Ok value) P p = tt
 on-err (Err error) P p = p
 
 -- ---- what a command keeps
-
--- a command that was not done, and left the drive
-pub keeps-same : (old new : MemoryDrive) (command : Result Command DecodeFault) → new ≡ old → Keeps old command new
-keeps-same old new command same = rw same (record { hardens = may_harden-same old.state old.state command refl; others = refl })
 
 -- the zones count, and what is durable, and nothing else of a drive
 pub may_harden-as : (command : Result Command DecodeFault) (old new other : DriveState) → other.durable ≡ new.durable → other.zones ≡ new.zones
