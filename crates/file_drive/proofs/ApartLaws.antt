@@ -192,5 +192,3 @@ free-clear entries index free low apart i d few = elim (cases_eq i index) [
       ])
   | inr away ↦ inl (places-apart i index (get_or entries i d) free away)
 ]
-
--- ---- an open

@@ -76,7 +76,7 @@ forgets forget bytes old below new mine told serves kept count leaves kept' mode
 -- ---- a medium that fails in requests
 
 cut-failing : (may : Bool) (forget : Forget) (below new : StoreView) (mine : List Pending) (lost : Result ℕ StoreFault) → IsCut forget below mine lost new → IsCut forget (failing may below) mine lost (failing may new)
-cut-failing may forget below new mine lost c = record { outcome = c.outcome; done = c.done; count = c.count; chosen = c.chosen }
+cut-failing may forget below new mine lost c = record { outcome = c.outcome; done = c.done; count = c.count; chosen = c.chosen; why = c.why }
 
 -- the end leaves the same of a store whose medium may fail
 leaves-failing : (may : Bool) (forget : Forget) (ended : Result SessionEnd SessionFault) (below new : StoreView) (mine : List Pending) (lost : Result ℕ StoreFault) → LeavesBy forget ended below mine lost new → LeavesBy forget ended (failing may below) mine lost (failing may new)

@@ -1,5 +1,5 @@
 -- A session over a disk that forgets: a store with a cache above it.
-use Rattle.std.specs.Prelude.{◌≡◌, ◌≤◌, ℕ, List, [], length, Contains, Option, Some, None, Result, Ok, Err, IfOk, IsSomeAnd}
+use Rattle.std.specs.Prelude.{◌≡◌, ◌≤◌, ℕ, List, [], length, Contains, Option, Some, None, Result, Ok, Err, IfErr, IfOk, IsSomeAnd}
 use Rattle.zone_translator.specs.Keeping.{KeepsServed}
 use Rattle.nbd_session.specs.Pending.{Pending}
 use Rattle.nbd_session.specs.Session.{session}
@@ -11,6 +11,7 @@ use Rattle.nbd_session.specs.declared.ending.SessionEnd.TheVariants.{Disconnecte
 use Rattle.nbd_session.specs.declared.fault.SessionFault.{SessionFault}
 use Rattle.nbd_session.specs.declared.fault.StoreFault.{StoreFault}
 use Rattle.nbd_session.specs.declared.phase.Phase.TheVariants.{Greeting}
+use Rattle.volatile_cache.specs.Cache.{FailsCut}
 use Rattle.volatile_cache.specs.Fates.{chance_of, coin_of, left_by, lost_by}
 use Rattle.volatile_cache.specs.Outcomes.{IsDurable, cached, deferring, outcomes}
 use Rattle.nbd_jobs.specs.declared.forgetting.Forgotten.{Forgotten}
@@ -25,12 +26,14 @@ Applies below mine (Ok lost) new = Syncs (cached below mine) (Ok tt) (cached new
 Applies below mine (Err fault) new = (still : List Pending) × Syncs (cached below mine) (Err fault) (cached new still)
 
 -- What a cut leaves: an array on which some of the pending blocks are written, in order: none, any or all of them. Done,
--- that array is durable, and no more blocks are lost than were pending. Seed and odds choose which.
+-- that array is durable, and no more blocks are lost than were pending. Seed and odds choose which. Not done, the disk is
+-- as the fault says.
 pub record IsCut (forget : Forget) (below : StoreView) (mine : List Pending) (lost : Result ℕ StoreFault) (new : StoreView) : Type 0 where
   pub outcome : Contains (outcomes mine (store_array below)) (store_array new)
   pub done : IfOk lost (λ lost. IsDurable new × (lost ≤ length mine))
   pub count : IfOk lost (λ lost. lost ≡ lost_by (coin_of forget.odds) (chance_of forget.seed) mine)
   pub chosen : IfOk lost (λ _. store_array new ≡ left_by (coin_of forget.odds) (chance_of forget.seed) mine (store_array below))
+  pub why : IfErr lost (FailsCut new.disk)
 
 -- What is left, by how the session ended. Where the client has said so, all is applied. Else the power is cut: at the
 -- end of the input, at the greatest number of requests, and at a fault.

@@ -15,6 +15,7 @@ pub mod KeepLaws
 pub mod PlaceLaws
 pub mod QueueLaws
 pub mod KeptLaws
+pub mod FailLaws
 pub mod FallLaws
 pub mod RoomLaws
 pub mod FateLaws

@@ -1,9 +1,9 @@
 -- A volatile write cache above a store: what it is seen as, and what its calls give.
-use Rattle.std.specs.Prelude.{◌≡◌, ◌⊎◌, ◌<◌, ◌≤◌, ◌+◌, ◌-◌, ℕ, Bool, List, [], ◌∷◌, ◌++◌, length, set, take, drop, Contains, Option, Some, None, Result, Ok, Err}
+use Rattle.std.specs.Prelude.{◌≡◌, ◌⊎◌, ◌<◌, ◌≤◌, ◌+◌, ◌-◌, ℕ, Bool, true, List, [], ◌∷◌, ◌++◌, length, set, take, drop, Contains, Option, Some, None, Result, Ok, Err}
 use Rattle.std.specs.List.{AllByRecursion, concat}
-use Rattle.zone_translator.specs.Flat.{with_nothing, write}
+use Rattle.zone_translator.specs.Flat.{answer_while, may_refuse, with_nothing, write}
 use Rattle.zone_translator.specs.Keeping.{KeepsServed}
-use Rattle.zone_translator.specs.View.{disk_size}
+use Rattle.zone_translator.specs.View.{DiskCause, DiskView, disk_size}
 use Rattle.zone_translator.specs.declared.fault.DiskFault.{DiskFault}
 use Rattle.nbd_session.specs.Pending.{AreApart, Pending}
 use Rattle.nbd_session.specs.Store.{KeepsMode, OrFails, ReadsBlocks, Spares, StoreView, Writes, store_array}
@@ -159,13 +159,20 @@ pub record Falls (below : StoreView) (mine : List Pending) (below' : StoreView) 
   pub outcome : Contains (outcomes mine (store_array below)) (store_array below')
   pub keeps : KeepsBelow below below'
 
+-- Why a cut fails: a write within the disk or the sync was refused, and the disk is as the fault says; or the medium
+-- failed, and the disk serves still.
+abbrev pub FailsCut : DiskView → StoreFault → Type 0
+FailsCut disk (Disk fault) = (answer_while disk.status ≡ Some (Err fault)) ⊎ ((may_refuse (write 0 []) fault ≡ true) × DiskCause disk fault)
+FailsCut disk Medium = answer_while disk.status ≡ None
+
 -- Done, it is durable too, and is what the seed and the odds choose. It is told how many blocks of how many were lost.
-abbrev pub IfDone : ℕ → ℕ → StoreView → List Pending → StoreView → Result Lost StoreFault → Type 0
-IfDone seed odds below mine below' (Ok lost) =
+-- Not done, it is told why.
+abbrev pub TellsCut : ℕ → ℕ → StoreView → List Pending → StoreView → Result Lost StoreFault → Type 0
+TellsCut seed odds below mine below' (Ok lost) =
     IsDurable below' × (lost.pending ≡ length mine) × (lost.lost ≤ lost.pending)
     × (lost.lost ≡ lost_by (coin_of odds) (chance_of seed) mine)
     × (store_array below' ≡ left_by (coin_of odds) (chance_of seed) mine (store_array below))
-IfDone seed odds below mine below' (Err fault) = Unit {0}
+TellsCut seed odds below mine below' (Err fault) = FailsCut below'.disk fault
 
 abbrev pub Cuts : {S : Type 0} → (S → StoreView) → ℕ → ℕ → Cache S → Result Lost StoreFault → Cache S → Type 0
-Cuts view seed odds old result new = Falls (view old.store) (all_pending old.kept) (view new.store) new.kept × IfDone seed odds (view old.store) (all_pending old.kept) (view new.store) result
+Cuts view seed odds old result new = Falls (view old.store) (all_pending old.kept) (view new.store) new.kept × TellsCut seed odds (view old.store) (all_pending old.kept) (view new.store) result

@@ -22,14 +22,15 @@
 //!   own blocks alone. If the store below refuses one of them, or fails, that block stays pending.
 //! * A cut leaves one of the arrays on which some of the pending blocks are written, in order: none, any or all of
 //!   them, and also a part of a write. The seed and the odds choose which blocks are lost. Then that array is durable,
-//!   and nothing is pending. It tells how many blocks of how many were lost (`Cuts`).
+//!   and nothing is pending. It tells how many blocks of how many were lost (`Cuts`). If it fails, the disk below is as
+//!   the fault says (`FailsCut`).
 //! * What was synced, or written with FUA, and is not written again is in each outcome (`laws::synced_is_kept`).
 //! * Each outcome, and that of a kill, is one that the cache says may be left (`laws::cut_is_foreseen`). Each block of
 //!   it is one that was there or was written there (`laws::nothing_is_made_up`).
 //!
 //! # What is not proved
 //!
-//! * That a cut fails only where the store below did.
+//! * That a cut fails only where the store below did: a body that says so while the disk serves would be proved.
 //! * That a write is kept where it has room: a body that sends each block below at once would be proved. The trait's
 //!   contract does not say what is kept. So clauses of private functions say which blocks go below, and which stay.
 //! * That a call gives up for memory only if an allocation failed.

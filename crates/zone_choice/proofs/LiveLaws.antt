@@ -63,5 +63,3 @@ live-placed map counts block place are lt =
       long = long;
       each = λ zone below. counts-set map.zone_size map.places counts block place (λ z h. are.each z (omega (arith, h, are.long))) lt zone (omega (arith, below, long));
     })
-
--- ---- no block has a place, and more blocks

@@ -1,6 +1,7 @@
 use Rattle.std.proofs.Common.{◌≡◌, ◌==◌, ◌∙◌, ◌+◌, ◌<◌, [], ap, arith, length, refl, rules, sym, true, false}
 use Rattle.volatile_cache.specs.Cache.{Cache}
 use Rattle.volatile_cache.specs.Fates.{chance_of, coin_of}
+use Rattle.volatile_cache.proofs.FailLaws.{apply-fails, sync-fails}
 use Rattle.volatile_cache.proofs.FallLaws.{applied_below, below_again, below_same, empty_is, falls, later_outcomes, lost_outcomes, one_fewer, same_outcomes, some_is, sync_array, sync_below, sync_durable}
 use Rattle.volatile_cache.proofs.FateLaws.{fate_first, fate_last, fate_lost, fate_put}
 use Rattle.volatile_cache.proofs.KeepLaws.{length_map}
@@ -39,7 +40,7 @@ returns-in-Err g c =
           (later_outcomes g.S.Store.view c.args.self.now c.loop-coins.self middle c.loop-coins.invariant.0 (rw (← c.self-else-random_ratio.view_is) at c.apply_oldest.ensures.outcomes)) refl c.truncate.ensures
           (below_again (g.S.Store.view c.args.self.now.store) (g.S.Store.view c.loop-coins.self.store) (g.S.Store.view last.store) c.loop-coins.invariant.2
           (applied_below g.S.Store.view c.loop-coins.self middle c.apply_oldest.result (rw (← c.self-else-random_ratio.view_is) at c.apply_oldest.ensures.applies))),
-      tt,
+      apply-fails g.S.Store.view c.loop-coins.self middle c.in-Err.fault (rw (← c.self-else-random_ratio.view_is, c.in-Err.is) at c.apply_oldest.ensures.applies),
     )
 
 pub returns-in-Err-sync : goal.returns-in-Err-sync
@@ -49,7 +50,7 @@ returns-in-Err-sync g c =
     let none : c.self-2.inside.queue ≡ [] = ap (λ k. k.kept) (c.self-2.view_is ∙ sym c.self-in-loop-coins.view_is) ∙ empty_is c.self-in-loop-coins.inside.queue (sym c.is_empty.ensures ∙ c.loop-coins-test.false) in (
       falls g.S.Store.view c.args.self.now middle last (rw (← c.self-2.view_is) at c.loop-coins.invariant.0) (sync_array (g.S.Store.view c.self-2.inside.store) (g.S.Store.view c.sync.new.self) c.sync.result c.sync.ensures) none
           (below_again (g.S.Store.view c.args.self.now.store) (g.S.Store.view middle.store) (g.S.Store.view last.store) (rw (← c.self-2.view_is) at c.loop-coins.invariant.2) (sync_below (g.S.Store.view c.self-2.inside.store) (g.S.Store.view c.sync.new.self) c.sync.result c.sync.ensures)),
-      tt,
+      sync-fails (g.S.Store.view c.self-2.inside.store) (g.S.Store.view c.sync.new.self) c.in-Err-sync.fault (rw c.in-Err-sync.is at c.sync.ensures),
     )
 
 pub returns : goal.returns
