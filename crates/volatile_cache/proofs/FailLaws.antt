@@ -1,5 +1,5 @@
 -- Why a cut fails.
-use Rattle.std.proofs.Common.{◌≡◌, ◌∙◌, ◌+◌, ◌<◌, ℕ, [], ◌∷◌, List, refl, sym, ap, arith, inl, inr, Some, None, Ok, Err, true, false}
+use Rattle.std.proofs.Common.{◌≡◌, ◌∙◌, ◌+◌, ◌<◌, ℕ, [], ◌∷◌, List, refl, sym, ap, arith, inl, inr, Some, None, Err, true, false}
 use Rattle.std.proofs.lemmas.Bool.Decides.{nat_tests}
 use Rattle.std.specs.Prelude.{◌⊎◌, Bool, MatchOption, Option, Result, if◌then◌else◌, nat_lt}
 use Rattle.zone_translator.specs.Flat.{Answer, Begun, Call, FlatDisk, answer_while, known_answer, known_range, may_refuse, with_nothing, write}
@@ -13,29 +13,29 @@ use Rattle.nbd_session.specs.declared.fault.StoreFault.TheVariants.{Disk, Medium
 use Rattle.volatile_cache.specs.Cache.{Applies, Cache, FailsCut, Puts}
 
 -- a fault by which a write of a block may be refused, or a sync
-may-write : (place : ℕ) (block : List ℕ) (fault : DiskFault) → may_refuse (write place (block ∷ [])) fault ≡ true → may_refuse (write 0 []) fault ≡ true
-may-write place block OutOfMemory may = refl
-may-write place block Stopped may = refl
-may-write place block Spent may = refl
-may-write place block OutOfRange may = may
-may-write place block Unmounted may = may
-may-write place block Smaller may = may
-may-write place block Reserve may = may
+by-write : (place : ℕ) (block : List ℕ) (fault : DiskFault) → may_refuse (write place (block ∷ [])) fault ≡ true → may_refuse (write 0 []) fault ≡ true
+by-write place block OutOfMemory may = refl
+by-write place block Stopped may = refl
+by-write place block Spent may = refl
+by-write place block OutOfRange may = may
+by-write place block Unmounted may = may
+by-write place block Smaller may = may
+by-write place block Reserve may = may
 
-may-sync : (ws : List Pending) (fault : DiskFault) → may_fail ws fault ≡ true → may_refuse (write 0 []) fault ≡ true
-may-sync (w ∷ ws) fault may = may-write w.place w.block fault may
-may-sync [] OutOfMemory may = refl
-may-sync [] Stopped may = refl
-may-sync [] Spent may = refl
-may-sync [] OutOfRange may = may
-may-sync [] Unmounted may = may
-may-sync [] Smaller may = may
-may-sync [] Reserve may = may
+by-sync : (ws : List Pending) (fault : DiskFault) → may_fail ws fault ≡ true → may_refuse (write 0 []) fault ≡ true
+by-sync (w ∷ ws) fault may = by-write w.place w.block fault may
+by-sync [] OutOfMemory may = refl
+by-sync [] Stopped may = refl
+by-sync [] Spent may = refl
+by-sync [] OutOfRange may = may
+by-sync [] Unmounted may = may
+by-sync [] Smaller may = may
+by-sync [] Reserve may = may
 
 -- a sync failed
 pub sync-fails : (old new : StoreView) (fault : StoreFault) → Syncs old (Err fault) new → FailsCut new.disk fault
 sync-fails old new (Disk fault) (inl s) = inl (rw s.1 s.0)
-sync-fails old new (Disk fault) (inr s) = inr (may-sync old.pending fault s.1.may, s.1.cause)
+sync-fails old new (Disk fault) (inr s) = inr (by-sync old.pending fault s.1.may, s.1.cause)
 sync-fails old new Medium s = ap (λ (d : FlatDisk). answer_while d.status) s.2 ∙ s.0
 
 -- the answer to a call within the disk is known before only if the disk does not serve
@@ -53,7 +53,7 @@ refused-block : (is_trim : Bool) (old new : StoreView) (w : Pending) (fault : Di
 refused-block is_trim old new w fault within puts =
     elim (refused-by (known_answer (store_flat old) (write w.place (w.block ∷ []))) (store_flat old) (store_flat new) (write w.place (w.block ∷ [])) fault (known-within (store_flat old) w.place within) puts.calls.flat) [
       | inl status ↦ inl status
-      | inr may ↦ inr (may-write w.place w.block fault may, puts.calls.cause)
+      | inr may ↦ inr (by-write w.place w.block fault may, puts.calls.cause)
     ]
 
 -- a call whose answer was not known before is one of a disk that serves

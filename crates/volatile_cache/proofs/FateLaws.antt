@@ -1,10 +1,9 @@
 -- The coins of a cut fall one after the other, and leave what they would leave together.
-use Rattle.std.proofs.Common.{◌≡◌, ◌∙◌, ℕ, ◌+◌, ◌<◌, List, [], ◌∷◌, length, drop, set, refl, sym, ap, arith, true, false}
-use Rattle.std.specs.Prelude.{Bool, if◌then◌else◌, slice_get}
+use Rattle.std.proofs.Common.{◌≡◌, ◌∙◌, ℕ, ◌+◌, ◌<◌, List, [], ◌∷◌, length, drop, set, refl, sym, ap, arith, true}
+use Rattle.std.specs.Prelude.{if◌then◌else◌, Bool}
 use Rattle.rand_core.specs.Stream.{Stream}
-use Rattle.nbd_session.specs.Pending.{Pending}
 use Rattle.nbd_session.specs.Store.{StoreView, store_array}
-use Rattle.volatile_cache.specs.Cache.{Cache, IsPut}
+use Rattle.volatile_cache.specs.Cache.{Cache}
 use Rattle.volatile_cache.specs.Fates.{left_by, lost_by}
 use Rattle.volatile_cache.specs.Queue.{all_pending, bytes_of}
 use Rattle.volatile_cache.specs.declared.kept.Kept.{Kept}
@@ -19,18 +18,6 @@ lost-count : (coin : Stream → Bool × Stream) (a b : Stream) (kept : List Kept
     → 1 + lost_by coin b (all_pending (drop 1 kept)) ≡ lost_by coin a (all_pending kept)
 lost-count coin a b [] some falls = absurd (omega (arith, some))
 lost-count coin a b (k ∷ ks) some falls = rw (← falls) refl
-
-put-left : (coin : Stream → Bool × Stream) (a b : Stream) (kept : List Kept) (old new : List (List ℕ)) → IsPut (slice_get kept 0) old new → (false, b) ≡ coin a
-    → left_by coin b (all_pending (drop 1 kept)) new ≡ left_by coin a (all_pending kept) old
-put-left coin a b [] old new put falls = put
-put-left coin a b (k ∷ ks) old new put falls =
-    ap (λ (array : List (List ℕ)). left_by coin b (all_pending ks) array) put
-    ∙ ap (λ (fall : Bool × Stream). left_by coin fall.1 (all_pending ks) (if fall.0 then old else set old k.place (bytes_of k.content))) falls
-
-put-count : (coin : Stream → Bool × Stream) (a b : Stream) (kept : List Kept) → (false, b) ≡ coin a
-    → lost_by coin b (all_pending (drop 1 kept)) ≡ lost_by coin a (all_pending kept)
-put-count coin a b [] falls = refl
-put-count coin a b (k ∷ ks) falls = rw (← falls) refl
 
 -- What the coins yet to be thrown leave of a cache now is what all of them leave of it as it was; so many are lost yet.
 abbrev pub SharesFate : {S : Type 0} → (S → StoreView) → (Stream → Bool × Stream) → Stream → Cache S → ℕ → Stream → Cache S → Type 0
@@ -53,16 +40,6 @@ fate_lost {S = S} view coin first a b old now next lost lost' fate some falls st
           ∙ (ap (λ (ks : List Kept). left_by coin b (all_pending ks) (store_array (view now.store))) kept
           ∙ (lost-left coin a b now.kept (store_array (view now.store)) some falls ∙ fate.0)),
       omega (arith, count, fate.1, more),
-    )
-
--- the oldest block is written
-pub fate_put : {S : Type 0} (view : S → StoreView) (coin : Stream → Bool × Stream) (first a b : Stream) (old now next : Cache S) (lost : ℕ) → SharesFate view coin first old lost a now
-    → (false, b) ≡ coin a → IsPut (slice_get now.kept 0) (store_array (view now.store)) (store_array (view next.store)) → next.kept ≡ drop 1 now.kept → SharesFate view coin first old lost b next
-fate_put view coin first a b old now next lost fate falls put kept =
-    let count : lost_by coin b (all_pending next.kept) ≡ lost_by coin a (all_pending now.kept) = rw kept (put-count coin a b now.kept falls) in (
-      ap (λ (ks : List Kept). left_by coin b (all_pending ks) (store_array (view next.store))) kept
-          ∙ (put-left coin a b now.kept (store_array (view now.store)) (store_array (view next.store)) put falls ∙ fate.0),
-      omega (arith, count, fate.1),
     )
 
 -- none is pending: all coins have fallen

@@ -12,7 +12,6 @@ use Rattle.zone_states.specs.declared.geometry.Geometry.{Geometry}
 use Rattle.zone_translator.specs.Answers.{count_of_blocks, write_bytes}
 use Rattle.zone_translator.specs.Flat.{Answer, FlatDisk, read, trim}
 use Rattle.zone_translator.specs.View.{disk_array}
-use Rattle.zone_translator.specs.declared.fault.DiskFault.TheVariants as disk
 use Rattle.nbd_session.specs.declared.asked.Asked.{Asked}
 use Rattle.nbd_session.specs.declared.asked.Asked.TheVariants.{Read, Write, Trim, WriteZeroes, Flush}
 use Rattle.nbd_session.specs.declared.fault.StoreFault.{StoreFault}

@@ -1,8 +1,8 @@
 -- Which blocks stay pending, and of which kind those are that come to them.
-use Rattle.std.proofs.Common.{◌≡◌, ◌≢◌, ◌∙◌, ℕ, zero, suc, ◌+◌, ◌-◌, ◌<◌, ◌≤◌, List, [], ◌∷◌, ◌++◌, length, length-drop, drop, drop-drop, refl, sym, ap, arith, inl, inr, true, false}
+use Rattle.std.proofs.Common.{◌≡◌, ◌≢◌, ◌∙◌, ℕ, zero, suc, ◌+◌, ◌-◌, ◌<◌, ◌≤◌, List, [], ◌∷◌, ◌++◌, length, length-drop, drop, drop-drop, refl, ap, arith, inl, inr}
 use Rattle.std.proofs.lemmas.Bool.{cases_Bool, cases_lt, eqb-true}
 use Rattle.std.proofs.lemmas.List.Elements.{Contains-append_cases}
-use Rattle.std.specs.Prelude.{◌⊎◌, ◌==◌, Bool, Contains}
+use Rattle.std.specs.Prelude.{◌==◌, Bool, Contains}
 use Rattle.volatile_cache.specs.Cache.{AddsOnly, Cache, HasOnly, LeavesOthers, MakesRoom}
 use Rattle.volatile_cache.specs.Queue.{is_trim, without_oldest}
 use Rattle.volatile_cache.specs.declared.kept.Kept.{Kept}

@@ -3,7 +3,7 @@ use Rattle.volatile_cache.specs.Cache.{Cache}
 use Rattle.volatile_cache.specs.Fates.{chance_of, coin_of}
 use Rattle.volatile_cache.proofs.FailLaws.{apply-fails, sync-fails}
 use Rattle.volatile_cache.proofs.FallLaws.{applied_below, below_again, below_same, empty_is, falls, later_outcomes, lost_outcomes, one_fewer, same_outcomes, some_is, sync_array, sync_below, sync_durable}
-use Rattle.volatile_cache.proofs.FateLaws.{fate_first, fate_last, fate_lost, fate_put}
+use Rattle.volatile_cache.proofs.FateLaws.{fate_first, fate_last, fate_lost}
 use Rattle.volatile_cache.proofs.KeepLaws.{length_map}
 use Rattle.volatile_cache.proofs.cache.VolatileCache.cut.Goals as goal
 
