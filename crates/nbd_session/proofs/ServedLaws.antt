@@ -15,7 +15,7 @@ use Rattle.drive_array.proofs.ReserveLaws.{div_ceil-le}
 use Rattle.zone_translator.proofs.KeepingLaws.{keeps_call, keeps_same}
 use Rattle.zone_translator.specs.Answers.{Answers, AnswersRead, CostsAtMost, Stores, TakesTurn, write_commands}
 use Rattle.zone_translator.specs.Changes.{batch_commands}
-use Rattle.zone_translator.specs.Flat.{Answer, Begun, Call, FlatDisk, IsFront, answer_while, flush, grow, idle, known_answer, may_refuse, read, replaced, report, status_after, with_nothing, write}
+use Rattle.zone_translator.specs.Flat.{Answer, Begun, Call, FlatDisk, IsFront, answer_while, flush, grow, idle, known_answer, may_refuse, read, replaced, report, status_after, with_nothing, write, write_list}
 use Rattle.zone_translator.specs.View.{CompletesAtMost, DiskView, KeepsDisk, disk_array, disk_turns, flat_of, given_size}
 use Rattle.zone_translator.specs.declared.fault.DiskFault.{DiskFault}
 use Rattle.nbd_session.specs.declared.fault.StoreFault.{StoreFault}
@@ -76,6 +76,7 @@ since-call false old new Moment kept durable (inr moment) array found = inr (rw 
 part-none : (call : Call) (array : List (List ℕ)) → IsPart call array array
 part-none (read first n) array = refl
 part-none (write first blocks) array = same-torn array first blocks array refl
+part-none (write_list puts) array = record { length_is = refl; either = λ place. inl refl }
 part-none (grow size) array = refl
 part-none flush array = refl
 part-none idle array = refl

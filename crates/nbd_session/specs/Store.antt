@@ -1,9 +1,9 @@
 -- A disk that is served, what of it a loss of power leaves, and how often it was synced.
-use Rattle.std.specs.Prelude.{◌≡◌, ◌⊎◌, ℕ, ◌+◌, ◌<◌, ◌≤◌, ◌&&◌, Bool, true, false, not, List, [], ◌∷◌, length, slice_index_or, Contains, Some, None, Result, Ok, Err, IfErr, OnOk}
+use Rattle.std.specs.Prelude.{◌≡◌, ◌⊎◌, ℕ, ◌+◌, ◌<◌, ◌≤◌, ◌&&◌, Bool, true, false, not, List, [], ◌∷◌, length, map, slice_index_or, Contains, Some, None, Result, Ok, Err, IfErr, OnOk}
 use Rattle.std.specs.List.{concat}
 use Rattle.drive_port.specs.Durable.{MayBeDurable}
 use Rattle.zone_translator.specs.Answers.{CostsAtMost, Stores, TakesTurn, count_of_blocks, write_bytes, write_commands}
-use Rattle.zone_translator.specs.Flat.{Answer, Call, FlatCall, FlatDisk, IsFront, answer_while, flush, idle, known_range, may_refuse, read, replaced, status_after, trim, with_nothing, write}
+use Rattle.zone_translator.specs.Flat.{Answer, Call, FlatCall, FlatDisk, IsFront, IsListFront, Put, answer_while, flush, idle, known_range, may_refuse, put_all, read, replaced, status_after, trim, with_nothing, write, write_list}
 use Rattle.zone_translator.specs.Keeping.{KeepsServed}
 use Rattle.zone_translator.specs.View.{CompletesAtMost, DiskCause, DiskView, KeepsDisk, disk_array, disk_turns, flat_of}
 use Rattle.zone_translator.specs.declared.fault.DiskFault.{DiskFault}
@@ -50,9 +50,11 @@ pub record KeepsMode (old new : StoreView) : Type 0 where
 
 -- ---- what a call makes of the arrays that a loss of power leaves
 
--- the array at a moment of a call: after some first blocks of a write, none or all of them; of any other call as it was
+-- the array at a moment of a call: after some first blocks of a write or of a list, none or all of them; of any other
+-- call as it was
 abbrev pub IsMoment : FlatDisk → Call → List (List ℕ) → Type 0
 IsMoment disk (write first blocks) array = IsFront disk.array first blocks array
+IsMoment disk (write_list puts) array = IsListFront disk.array puts array
 IsMoment disk call array = array ≡ disk.array
 
 -- some blocks of a write are written: each block is as before it, or as after all of it
@@ -61,14 +63,26 @@ pub record IsTorn (old : List (List ℕ)) (first : ℕ) (blocks new : List (List
   pub either : (place : ℕ) → (slice_index_or new place [] ≡ slice_index_or old place [])
       ⊎ (slice_index_or new place [] ≡ slice_index_or (replaced old first blocks) place [])
 
--- a part of a call is done: some blocks of a write; any other call changes nothing
+-- the same of a list
+pub record IsListTorn (old : List (List ℕ)) (puts : List Put) (new : List (List ℕ)) : Type 0 where
+  pub length_is : length new ≡ length old
+  pub either : (place : ℕ) → (slice_index_or new place [] ≡ slice_index_or old place [])
+      ⊎ (slice_index_or new place [] ≡ slice_index_or (put_all old puts) place [])
+
+-- a part of a call is done: some blocks of a write or of a list; any other call changes nothing
 abbrev pub IsPart : Call → List (List ℕ) → List (List ℕ) → Type 0
 IsPart (write first blocks) old new = IsTorn old first blocks new
+IsPart (write_list puts) old new = IsListTorn old puts new
 IsPart call old new = new ≡ old
+
+-- a block of a list, by itself
+abbrev pub pending_of : Put → Pending
+pending_of p = record { place = p.block; block = p.content }
 
 -- a block that a call writes
 abbrev pub IsOfCall : Call → Pending → Type 0
 IsOfCall (write first blocks) w = Contains (pieces first blocks) w
+IsOfCall (write_list puts) w = Contains (map pending_of puts) w
 IsOfCall call w = ⊥
 
 -- one of these arrays, with a part of a call

@@ -2,7 +2,7 @@
 use Rattle.std.proofs.Common.{◌≡◌, ℕ, zero, suc, ◌+◌, ◌<◌, ◌≤◌, List, [], ◌∷◌, length, get_or, take, Option, Some, None, Ok, Err, refl, sym, ap, inl, inr, ◌∙◌, arith}
 use Rattle.std.specs.Prelude.{◌⊎◌, Contains, MatchOption, Result}
 use Rattle.std.proofs.lemmas.List.{length-take-le}
-use Rattle.zone_translator.specs.Flat.{Answer, Begun, Call, FlatDisk, IsFront, flush, grow, idle, known_answer, read, replaced, report, with_nothing, write}
+use Rattle.zone_translator.specs.Flat.{Answer, Begun, Call, FlatDisk, IsFront, flush, grow, idle, known_answer, read, replaced, report, with_nothing, write, write_list}
 use Rattle.zone_translator.specs.View.{disk_array}
 use Rattle.zone_translator.specs.declared.fault.DiskFault.{DiskFault}
 use Rattle.nbd_session.specs.Pending.{AreApart, Pending, pieces}
@@ -10,9 +10,10 @@ use Rattle.nbd_session.specs.Store.{Calls, Hardens, IsOfCall, IsPart, KeepsBySyn
 use Rattle.nbd_session.proofs.PendingLaws.{all-apart, some-apart}
 use Rattle.volatile_cache.specs.Laws.{IsSettled}
 
--- a call does not write a block; none of these is a growth
+-- a call does not write a block; none of these is a list or a growth
 abbrev pub IsElsewhere : ℕ → Call → Type 0
 IsElsewhere place (write first blocks) = (place < first) ⊎ (first + length blocks ≤ place)
+IsElsewhere place (write_list puts) = ⊥
 IsElsewhere place (grow size) = ⊥
 IsElsewhere place call = Unit {0}
 
@@ -66,6 +67,7 @@ part-elsewhere (write first blocks) old new place far torn =
       | inr done ↦ done ∙ replaced-elsewhere old first blocks place far
     ]
 part-elsewhere (read first n) old new place far part = ap (λ (a : List (List ℕ)). get_or a place []) part
+part-elsewhere (write_list puts) old new place far part = absurd far
 part-elsewhere (grow size) old new place far part = absurd far
 part-elsewhere flush old new place far part = ap (λ (a : List (List ℕ)). get_or a place []) part
 part-elsewhere idle old new place far part = ap (λ (a : List (List ℕ)). get_or a place []) part
@@ -80,6 +82,7 @@ begun-elsewhere (write first blocks) old (Ok done) shown new place far b = ap (�
 begun-elsewhere (write first blocks) old (Err fault) shown new place far b = front-elsewhere old.array first blocks new.array place far b.2
 begun-elsewhere (read first n) old (Ok done) shown new place far b = at-place old new place b.1
 begun-elsewhere (read first n) old (Err fault) shown new place far b = ap (λ (a : List (List ℕ)). get_or a place []) b.2
+begun-elsewhere (write_list puts) old result shown new place far b = absurd far
 begun-elsewhere (grow size) old result shown new place far b = absurd far
 begun-elsewhere flush old (Ok done) shown new place far b = at-place old new place b.1
 begun-elsewhere flush old (Err fault) shown new place far b = ap (λ (a : List (List ℕ)). get_or a place []) b.2
@@ -107,6 +110,7 @@ of-call-apart (write first blocks) w place old new far from apart found =
       | inr mine ↦ piece-apart place first blocks w far mine
     ]
 of-call-apart (read first n) w place old new far from apart found = only-before w place old apart (from found)
+of-call-apart (write_list puts) w place old new far from apart found = absurd far
 of-call-apart (grow size) w place old new far from apart found = absurd far
 of-call-apart flush w place old new far from apart found = only-before w place old apart (from found)
 of-call-apart idle w place old new far from apart found = only-before w place old apart (from found)

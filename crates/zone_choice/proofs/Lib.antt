@@ -14,3 +14,4 @@ pub mod AloneLaws
 pub mod ReadLaws
 pub mod FreshLaws
 pub mod VictimLaws
+pub mod ReadyLaws

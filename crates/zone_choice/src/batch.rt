@@ -98,6 +98,14 @@ impl BatchBuilder {
         self.name(first, count, true)
     }
 
+    /// Names these blocks more, each as a trim or with data.
+    pub fn name_all(&mut self, entries: &[Entry]) -> Result<(), AllocError>
+        ensures heading { OnOk result (self.new.heading ≡ naming self.old.heading entries.now) }
+        ensures bytes { self.new.bytes ≡ self.old.bytes }
+    {
+        self.header.entries.extend_from_slice(entries)
+    }
+
     /// Writes the header block of the batch, `block_bytes` bytes: 512 or 4,096.
     pub fn encode(&mut self, block_bytes: u32) -> Result<(), AllocError>
         // A block of this size can hold the header: its numbers are in range, and no block is named twice.

@@ -12,6 +12,7 @@ ghost use Rattle.zone_choice.specs.Tables.{AreOfEmptyDrive, AreReserved, GrowsTo
 ghost use Rattle.zone_choice.specs.Tables.{size_of, with_places};
 
 use crate::roles::{Filling, Roles, Second};
+use batch_log::Entry;
 use live_index::LiveIndex;
 use logical_map::{Map, Place};
 use std::alloc::{AllocError, Global};
@@ -158,6 +159,25 @@ impl Tables {
         self.map.reserve_in(zone, count)?;
         for block in first..first + count {
             self.map.reserve_for(block)?;
+        }
+        Ok(())
+    }
+
+    /// Makes room for the places of these blocks, and to note them in a zone. Where an allocation fails, there is room
+    /// for some of them.
+    pub fn reserve_all(&mut self, zone: u32, entries: &[Entry]) -> Result<(), AllocError>
+        // The blocks are the disk's, and their numbers fit in 32 bits.
+        requires in_range { AllByRecursion (λ e. e.block < size_of self.old) entries.now }
+        requires few { size_of self.old ≤ 2 ^ 31 }
+        requires entries { length entries.now < 2 ^ 32 }
+        // Done, each is ready to be placed. Whatever it answers, nothing changes except which blocks are ready.
+        ensures ok { OnOk result
+            (AllByRecursion (λ e. IsReady self.new.map e.block) entries.now) }
+        ensures kept { SameButReady self.old self.new }
+    {
+        self.map.reserve_in(zone, entries.len() as u32)?;
+        for entry in entries {
+            self.map.reserve_for(entry.block as u32)?;
         }
         Ok(())
     }

@@ -36,7 +36,7 @@ take-none : {X : Type 0} → (b : ℕ) → take {A = X} b [] ≡ []
 take-none zero = refl
 take-none (suc b) = refl
 
-take-more : {X : Type 0} → (a b : ℕ) (xs : List X) → take a xs ++ take b (drop a xs) ≡ take (a + b) xs
+pub take-more : {X : Type 0} → (a b : ℕ) (xs : List X) → take a xs ++ take b (drop a xs) ≡ take (a + b) xs
 take-more zero b xs = let e : 0 + b ≡ b = omega arith in rw e refl
 take-more {X} (suc a) b [] = let e : suc a + b ≡ suc (a + b) = omega arith in rw e (take-none {X = X} b)
 take-more {X} (suc a) b (x ∷ xs) = let e : suc a + b ≡ suc (a + b) = omega arith in rw e (ap (λ (ys : List X). x ∷ ys) (take-more a b xs))

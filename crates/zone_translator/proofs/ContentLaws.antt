@@ -51,7 +51,7 @@ drop-replicates (suc a) b zero x e = absurd (omega arith)
 drop-replicates (suc a) b (suc n) x e = drop-replicates a b n x (omega arith)
 
 -- blocks that are cut from bytes
-cut-drop : (size n done left : ℕ) (bytes : List ℕ) → n ≡ done + left → cut_blocks size left (drop (done * size) bytes) ≡ drop done (cut_blocks size n bytes)
+pub cut-drop : (size n done left : ℕ) (bytes : List ℕ) → n ≡ done + left → cut_blocks size left (drop (done * size) bytes) ≡ drop done (cut_blocks size n bytes)
 cut-drop size n zero left bytes e = let same : n ≡ left = omega arith in let none : 0 * size ≡ 0 = omega arith in rw (same, none) refl
 cut-drop size zero (suc done) left bytes e = absurd (omega arith)
 cut-drop size (suc n) (suc done) left bytes e =

@@ -193,14 +193,14 @@ pub record Refused (a b : MountedView) (clean clean' : Option CleanView) (fault 
   pub kept : KeepsDurable (view_of a clean was) (view_of b clean' (status_left fault))
   pub size : size_of b.tables ≡ size_of a.tables
 
-refused-serving : (a b : MountedView) (clean clean' : Option CleanView) (fault : DiskFault) (was : DiskStatus) → FitsReserve a.drive.geometry a.tables.given → status_left fault ≡ statuses.Serving → KeepsByCleaning a b × AgreesWithClean b clean' → Refused a b clean clean' fault was
+pub refused-serving : (a b : MountedView) (clean clean' : Option CleanView) (fault : DiskFault) (was : DiskStatus) → FitsReserve a.drive.geometry a.tables.given → status_left fault ≡ statuses.Serving → KeepsByCleaning a b × AgreesWithClean b clean' → Refused a b clean clean' fault was
 refused-serving a b clean clean' fault was fits is kept = record {
   holds = rw is (holds-serving b clean' (reserve-kept a b kept.0.geometry kept.0.given fits) kept.1);
   kept = cleaned-disk a b clean clean' was (status_left fault) (refused-status fault was) (below-next b clean' (status_left fault) kept.1) kept.0;
   size = kept.0.size;
 }
 
-refused-stopped : (a b : MountedView) (clean clean' : Option CleanView) (was : DiskStatus) → FitsReserve a.drive.geometry a.tables.given → AgreesWithClean a clean → StopKeeps a b → Refused a b clean clean' Stopped was
+pub refused-stopped : (a b : MountedView) (clean clean' : Option CleanView) (was : DiskStatus) → FitsReserve a.drive.geometry a.tables.given → AgreesWithClean a clean → StopKeeps a b → Refused a b clean clean' Stopped was
 refused-stopped a b clean clean' was fits serves stops = record {
   holds = holds-stopped a b clean clean' fits serves stops;
   kept = keeps-disk a b clean clean' was statuses.Stopped (refused-status Stopped was) (λ e. absurd (cc)) stops.keeps;

@@ -16,3 +16,7 @@ pub mod CallLaws
 pub mod BackLaws
 pub mod AgainLaws
 pub mod LossLaws
+pub mod ListedLaws
+pub mod ListedWriteLaws
+pub mod ListedDiskLaws
+pub mod OrderLaws

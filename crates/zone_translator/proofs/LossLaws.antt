@@ -3,7 +3,7 @@ use Rattle.std.proofs.Common.{◌≡◌, List, [], ◌∷◌, Ok, Err, ap, inl, 
 use Rattle.std.specs.Prelude.{Contains, Result}
 use Rattle.zone_states.specs.Zone.{Zone}
 use Rattle.zone_translator.specs.Answers.{HardensBy}
-use Rattle.zone_translator.specs.Flat.{flush, grow, idle, read, report, write}
+use Rattle.zone_translator.specs.Flat.{flush, grow, idle, read, report, write, write_list}
 use Rattle.zone_translator.specs.Laws.{AllSteps, CanMountAgain, LeftAfter, LossIsFound, LossLeaves, Step, Steps, call, remount}
 use Rattle.zone_translator.specs.View.{DiskView}
 use Rattle.zone_translator.specs.declared.fault.DiskFault.{DiskFault}
@@ -35,6 +35,8 @@ loss Left first last (call (read from n) answer ∷ steps) can all covers =
     loss Left all.0 last steps (step-can first all.0 (call (read from n) answer) can all.1) all.2 (covers-same Left first all.0 all.1.keeps.1 covers)
 loss Left first last (call (write from blocks) answer ∷ steps) can all covers =
     loss Left all.0 last steps (step-can first all.0 (call (write from blocks) answer) can all.1) all.2 (covers-same Left first all.0 all.1.keeps.1 covers)
+loss Left first last (call (write_list puts) answer ∷ steps) can all covers =
+    loss Left all.0 last steps (step-can first all.0 (call (write_list puts) answer) can all.1) all.2 (covers-same Left first all.0 all.1.keeps.1 covers)
 loss Left first last (call (grow size) answer ∷ steps) can all covers =
     loss Left all.0 last steps (step-can first all.0 (call (grow size) answer) can all.1) all.2 (covers-same Left first all.0 all.1.keeps.1 covers)
 loss Left first last (call idle answer ∷ steps) can all covers =

@@ -40,7 +40,7 @@ use Rattle.zone_cleaner.specs.Start.{AgreesWithClean, KeepsByCleaning, trims}
 use Rattle.zone_cleaner.proofs.NextLaws.{cleaning_kept}
 use Rattle.zone_cleaner.proofs.TurnLaws.{cleans_mountable, keeps-more}
 use Rattle.zone_translator.specs.declared.write.Rest.{Rest}
-use Rattle.zone_translator.specs.Batches.{CanWrite, IsBatchCount, IsCut, IsNextBatch, IsRoom, KeepsCut, LogsAreCut, WritesRest, batch_count, bytes_of, next_heading, host_heading, is_trim, rest_blocks}
+use Rattle.zone_translator.specs.Batches.{CanWrite, IsBatchCount, IsCut, IsNextBatch, IsRoom, KeepsCut, KeepsCutTo, LogsAreCut, WritesRest, batch_count, bytes_of, next_heading, host_heading, is_trim, rest_blocks}
 use Rattle.zone_translator.specs.declared.fault.DiskFault.{DiskFault}
 use Rattle.zone_translator.specs.declared.fault.DiskFault.TheVariants.{OutOfRange, OutOfMemory, Stopped, Spent, Unmounted, Smaller, Reserve}
 use Rattle.zone_translator.specs.Changes.{IsCause, Keeps, Names, RoomLeaves, StopKeeps, WriteLeaves, WritesBlocks, disk_fault}
@@ -167,7 +167,7 @@ next-batch disk host rest count builder agrees room write count-is reserved head
 -- ---- after a zone and memory were found for it
 
 -- the tables have more room, and the drive is the same
-room-array : (b w : MountedView) → w.drive ≡ b.drive → SameButReady b.tables w.tables → Agrees b → KeepsArray b w
+pub room-array : (b w : MountedView) → w.drive ≡ b.drive → SameButReady b.tables w.tables → Agrees b → KeepsArray b w
 room-array b w drive room agrees =
     let kept : KeepsArray b (mounted b.drive w.tables) = keeps-room b.drive b.tables w.tables room agrees in
     subst (λ (d : DriveState). KeepsArray b (mounted d w.tables)) (sym drive) kept
@@ -345,27 +345,32 @@ write_no_memory a b clean rest result is kept = rw is kept
 
 -- ---- how it is cut
 
--- a batch that may have been appended is cut as it should be
-pub cut-appended : (a b : MountedView) (c : DriveState) (host : Filling) (rest : Rest) (count : ℕ) (builder : BuilderView) → KeepsByCleaning a b → Agrees b → IsRoom b host → 1 ≤ rest.left
-    → count ≡ batch_count b.drive.geometry host rest.left (is_trim rest.content) → builder.heading.entries ≡ entries_from (is_trim rest.content) rest.first count
-    → (drive_logs c ≡ drive_logs b.drive) ⊎ (drive_logs c ≡ append_log (drive_logs b.drive) host.zone (built b.drive.geometry.block builder)) → KeepsCut a.drive rest c
-cut-appended a b c host rest count builder kept agrees room some count-is entries logs start cut =
+-- logs to which a batch may have been appended that is cut as it should be
+pub cut-batch : (a b : MountedView) (c : DriveState) (host : Filling) (last : ℕ) (batch : Batch) → KeepsByCleaning a b → Agrees b → IsRoom b host
+    → ((start : List (List Batch)) (offset : ℕ) → offset ≡ host.written → IsCut b.drive.geometry start last offset batch)
+    → (drive_logs c ≡ drive_logs b.drive) ⊎ (drive_logs c ≡ append_log (drive_logs b.drive) host.zone batch) → KeepsCutTo last a.drive c
+cut-batch a b c host last batch kept agrees room one logs start cut =
     let g = a.drive.geometry in
-    let last = rest.first + rest.left - 1 in
-    let batch = built b.drive.geometry.block builder in
     let found = cut-only g start last (drive_logs a.drive) (drive_logs b.drive) kept.moves cut in
     let here = host-filled b.drive b.tables host room.host_is agrees in
     let lt : host.zone < length (drive_logs b.drive) = omega (arith, filling-in_range b.drive b.tables host.zone agrees (filling-host b.tables.roles host room.host_is), length-map b.drive.zones content_of, length-map (contents b.drive.zones) (zone_log b.drive.geometry)) in
-    let one = cut-next b.drive.geometry start rest.first rest.left count (log_size (log_at (drive_logs b.drive) host.zone)) host (is_trim rest.content) batch room.free some count-is entries here.batches in
+    let offset = log_size (log_at (drive_logs b.drive) host.zone) in
     elim logs as (λ _. LogsAreCut g start last (drive_logs c)) [
       | inl none ↦ subst (LogsAreCut g start last) (sym none) found
-      | inr more ↦ cut-more g start last (drive_logs b.drive) (drive_logs c) host.zone batch lt more (subst (λ (x : Geometry). IsCut x start last (log_size (log_at (drive_logs b.drive) host.zone)) batch) kept.geometry one) found
+      | inr more ↦ cut-more g start last (drive_logs b.drive) (drive_logs c) host.zone batch lt more (subst (λ (x : Geometry). IsCut x start last offset batch) kept.geometry (one start offset here.batches)) found
     ]
 
+-- a batch of a write is cut as it should be
+pub cut-appended : (a b : MountedView) (c : DriveState) (host : Filling) (rest : Rest) (count : ℕ) (builder : BuilderView) → KeepsByCleaning a b → Agrees b → IsRoom b host → 1 ≤ rest.left
+    → count ≡ batch_count b.drive.geometry host rest.left (is_trim rest.content) → builder.heading.entries ≡ entries_from (is_trim rest.content) rest.first count
+    → (drive_logs c ≡ drive_logs b.drive) ⊎ (drive_logs c ≡ append_log (drive_logs b.drive) host.zone (built b.drive.geometry.block builder)) → KeepsCut a.drive rest c
+cut-appended a b c host rest count builder kept agrees room some count-is entries logs =
+    cut-batch a b c host (rest.first + rest.left - 1) (built b.drive.geometry.block builder) kept agrees room
+    (λ start offset offset-is. cut-next b.drive.geometry start rest.first rest.left count offset host (is_trim rest.content) (built b.drive.geometry.block builder) room.free some count-is entries offset-is) logs
+
 -- and so are the logs where only a zone was found
-pub cut-found : (a b : MountedView) (c : DriveState) (rest : Rest) → KeepsByCleaning a b → drive_logs c ≡ drive_logs b.drive → KeepsCut a.drive rest c
-cut-found a b c rest kept same start cut =
-    let last = rest.first + rest.left - 1 in
+pub cut-found : (a b : MountedView) (c : DriveState) (last : ℕ) → KeepsByCleaning a b → drive_logs c ≡ drive_logs b.drive → KeepsCutTo last a.drive c
+cut-found a b c last kept same start cut =
     subst (LogsAreCut a.drive.geometry start last) (sym same) (cut-only a.drive.geometry start last (drive_logs a.drive) (drive_logs b.drive) kept.moves cut)
 
 -- which logs an Append that did not succeed leaves

@@ -3,6 +3,7 @@ use Rattle.std.specs.Prelude.{◌≡◌, ◌⊎◌, ℕ, ◌+◌, ◌-◌, ◌*�
 use Rattle.std.specs.Prelude.{slice_index_or, Some, None, IfErr, IfSome, OnOk, OnErr, Result, Ok, Err}
 use Rattle.logical_map.specs.declared.place.Place.{Place}
 use Rattle.logical_map.specs.declared.place.Place.TheVariants as places
+use Rattle.batch_log.specs.declared.header.Entry.{Entry}
 use Rattle.drive_survey.specs.declared.fault.MountFault.{MountFault}
 use Rattle.remount.specs.Kept.{KeepsMountable}
 use Rattle.drive_survey.specs.Scan.{IsInterruption}
@@ -23,7 +24,8 @@ use Rattle.zone_translator.specs.Batches.{LogsAreCut, blocks_of}
 use Rattle.zone_translator.specs.Calls.{IsTurn, Reads, is_known}
 use Rattle.zone_translator.specs.Changes.{Names, batch_commands}
 use Rattle.zone_translator.specs.Cleaning.{AreNewer, log_in_zone}
-use Rattle.zone_translator.specs.Flat.{Call, FlatCall, FlatRemount, flush, read, with_nothing, write}
+use Rattle.zone_translator.specs.Flat.{Call, FlatCall, FlatRemount, flush, read, with_nothing, write, write_list}
+use Rattle.zone_translator.specs.Listed.{NamesAll, last_block, list_puts}
 use Rattle.zone_translator.specs.Mount.{MountsDisk}
 use Rattle.zone_translator.specs.View.{CompletesAtMost, DiskCause, DiskView, KeepsDisk, disk_size, disk_turns, flat_of, given_size}
 use Rattle.zone_translator.specs.View.{logs_of, mounted_of, most_batches, next_sequence, disk_places, size_on}
@@ -38,6 +40,10 @@ write_content disk first n content = write first (blocks_of disk.drive.geometry.
 abbrev pub write_bytes : DiskView → ℕ → List ℕ → Call
 write_bytes disk first bytes = write first (data_blocks disk.drive.geometry bytes)
 
+-- a write of the blocks that these entries name, with these data for those that are not trimmed
+abbrev pub write_entries : DiskView → List Entry → List ℕ → Call
+write_entries disk entries bytes = write_list (list_puts disk entries bytes)
+
 -- how many blocks these bytes are
 abbrev pub count_of_blocks : DiskView → List ℕ → ℕ
 count_of_blocks disk bytes = block_count disk.drive.geometry bytes
@@ -49,6 +55,10 @@ AreBlocksOf disk bytes = length bytes ≡ count_of_blocks disk bytes * disk.driv
 -- at most how many commands a write of n blocks takes
 abbrev pub write_commands : Bool → DiskView → ℕ → ℕ
 write_commands trim disk n = most_batches trim disk n * batch_commands disk.drive.geometry
+
+-- at most how many commands a list of so many entries takes
+abbrev pub list_commands : DiskView → ℕ → ℕ
+list_commands disk n = n * batch_commands disk.drive.geometry
 
 -- ---- every call
 
@@ -94,6 +104,14 @@ pub record Stores (trim : Bool) (old : DiskView) (first n : ℕ) (result : Resul
   pub says : OnOk result (1 ≤ n → size_on new ≡ Some (disk_size new))
   pub early : OnOk result (1 ≤ n → next_sequence new ≤ sequence_end old.drive.geometry)
   pub cut : LogsAreCut old.drive.geometry (logs_of old) (first + n - 1) (logs_of new)
+
+-- The same of a list of entries: the newest record of each of their blocks says what its entry says. Its last block is
+-- that of its last entry.
+pub record StoresList (old : DiskView) (entries : List Entry) (result : Result (Unit {0}) DiskFault) (new : DiskView) : Type 0 where
+  pub names : OnOk result (NamesAll entries (disk_places old) (disk_places new))
+  pub says : OnOk result (1 ≤ length entries → size_on new ≡ Some (disk_size new))
+  pub early : OnOk result (1 ≤ length entries → next_sequence new ≤ sequence_end old.drive.geometry)
+  pub cut : LogsAreCut old.drive.geometry (logs_of old) (last_block entries) (logs_of new)
 
 -- a clean still runs, of the same zone, and has as many turns left as before, or fewer
 pub record RunsOn (clean : CleanView) (old new : DiskView) : Type 0 where

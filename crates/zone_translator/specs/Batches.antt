@@ -157,8 +157,10 @@ AreCut geometry old last offset (batch ∷ log) = IsCut geometry old last offset
 abbrev pub LogsAreCut : Geometry → List (List Batch) → ℕ → List (List Batch) → Type 0
 LogsAreCut geometry old last logs = (zone : ℕ) → AreCut geometry old last 0 (log_at logs zone)
 
--- one batch of what is left keeps them so, whatever the logs were at the beginning of the write
+-- one batch of a write whose last block this is keeps them so, whatever the logs were at the beginning of the write
+abbrev pub KeepsCutTo : ℕ → DriveState → DriveState → Type 0
+KeepsCutTo last old new = (start : List (List Batch)) → LogsAreCut old.geometry start last (drive_logs old) → LogsAreCut old.geometry start last (drive_logs new)
+
+-- and so does one batch of what is left
 abbrev pub KeepsCut : DriveState → Rest → DriveState → Type 0
-KeepsCut old rest new =
-    (start : List (List Batch)) → LogsAreCut old.geometry start (rest.first + rest.left - 1) (drive_logs old)
-    → LogsAreCut old.geometry start (rest.first + rest.left - 1) (drive_logs new)
+KeepsCut old rest new = KeepsCutTo (rest.first + rest.left - 1) old new

@@ -1,6 +1,7 @@
 -- The flat disk: an array of blocks, and what a conventional disk that can grow answers to a call.
 use Rattle.std.specs.Prelude.{◌≡◌, ◌⊎◌, ℕ, zero, suc, ◌+◌, ◌≤◌, ◌==◌, nat_lt, if◌then◌else◌, Bool, true, false, List, []}
-use Rattle.std.specs.Prelude.{◌∷◌, length, replicate, take, drop, MatchOption, Option, Some, None, Result, Ok, Err}
+use Rattle.std.specs.Prelude.{◌∷◌, length, map, replicate, slice_set, take, drop, MatchOption, Option, Some, None, Result, Ok, Err}
+use Rattle.std.specs.List.{list_all}
 use Rattle.batch_log.specs.Log.{zero_block}
 use Rattle.drive_array.specs.Sizes.{extended}
 use Rattle.drive_survey.specs.declared.fault.MountFault.{MountFault}
@@ -29,6 +30,22 @@ pub record IsFront (old : List (List ℕ)) (first : ℕ) (blocks : List (List �
   pub within : done ≤ length blocks
   pub written : new ≡ replaced old first (take done blocks)
 
+-- one block that is written, and its new content
+pub record Put : Type 0 where
+  pub block : ℕ
+  pub content : List ℕ
+
+-- an array in which these blocks are written, one after the other
+abbrev pub put_all : List (List ℕ) → List Put → List (List ℕ)
+put_all array [] = array
+put_all array (p ∷ ps) = put_all (slice_set array p.block p.content) ps
+
+-- a front of a list of blocks: only the first of them are written, none and all of them included
+pub record IsListFront (old : List (List ℕ)) (puts : List Put) (new : List (List ℕ)) : Type 0 where
+  pub done : ℕ
+  pub within : done ≤ length puts
+  pub written : new ≡ put_all old (take done puts)
+
 -- ---- the disk
 
 -- An array, and whether the disk serves it, has answered `Stopped`, or has refused a remount. The size is the number
@@ -43,11 +60,13 @@ pub record FlatDisk : Type 0 where
 
 -- ---- calls
 
--- what a host asks of a disk: to show n blocks from a given one on, to write these blocks from a given one on, to have
--- that many blocks, to make its array durable, to clean for one turn, or to report the drive's zones
+-- what a host asks of a disk: to show n blocks from a given one on, to write these blocks from a given one on, to write
+-- the blocks of a list, to have that many blocks, to make its array durable, to clean for one turn, or to report the
+-- drive's zones
 pub data Call : Type 0 where
   read : ℕ → ℕ → Call
   write : ℕ → List (List ℕ) → Call
+  write_list : List Put → Call
   grow : ℕ → Call
   flush : Call
   idle : Call
@@ -66,16 +85,19 @@ abbrev pub shown_by : FlatDisk → Call → List (List ℕ)
 shown_by disk (read first n) = blocks_from disk.array first n
 shown_by disk call = []
 
--- the disk after a call that is done: a write replaces its blocks, blocks that are new are zeros, and nothing else changes
+-- the disk after a call that is done: a write replaces its blocks, a list the blocks that it names, blocks that are new
+-- are zeros, and nothing else changes
 abbrev pub disk_after : FlatDisk → Call → FlatDisk
 disk_after disk (write first blocks) = record disk { array = replaced disk.array first blocks }
+disk_after disk (write_list puts) = record disk { array = put_all disk.array puts }
 disk_after disk (grow size) = record disk { array = extended (zero_block disk.block) size disk.array; size = size }
 disk_after disk call = disk
 
--- The array after a call that was refused midway: a front of a write, and the same array after any other call.
+-- The array after a call that was refused midway: a front of a write or of a list, and the same array after any other.
 -- Where the drive stopped inside a growth, the array may have grown.
 abbrev pub IsAfterFront : FlatDisk → Call → DiskFault → List (List ℕ) → Type 0
 IsAfterFront disk (write first blocks) fault new = IsFront disk.array first blocks new
+IsAfterFront disk (write_list puts) fault new = IsListFront disk.array puts new
 IsAfterFront disk (grow size) Stopped new = (new ≡ disk.array) ⊎ (new ≡ extended (zero_block disk.block) size disk.array)
 IsAfterFront disk call fault new = new ≡ disk.array
 
@@ -84,6 +106,7 @@ abbrev pub may_refuse : Call → DiskFault → Bool
 may_refuse call OutOfMemory = true
 may_refuse call Stopped = true
 may_refuse (write first blocks) Spent = true
+may_refuse (write_list puts) Spent = true
 may_refuse (grow size) Spent = true
 may_refuse idle Spent = true
 may_refuse call fault = false
@@ -113,6 +136,13 @@ known_range disk first n =
     else if nat_lt disk.size (first + n) then Some (Err OutOfRange)
     else answer_while disk.status
 
+-- of a call that names each of its blocks, in the same order
+abbrev pub known_blocks : FlatDisk → List ℕ → Option (Result (Unit {0}) DiskFault)
+known_blocks disk [] = Some (Ok tt)
+known_blocks disk blocks =
+    if list_all (λ block. nat_lt block disk.size) blocks then answer_while disk.status
+    else Some (Err OutOfRange)
+
 -- of a growth: a size below the disk's is refused, and then one above the reserve
 abbrev pub known_growth : FlatDisk → ℕ → Option (Result (Unit {0}) DiskFault)
 known_growth disk size =
@@ -124,6 +154,7 @@ known_growth disk size =
 abbrev pub known_answer : FlatDisk → Call → Option (Result (Unit {0}) DiskFault)
 known_answer disk (read first n) = known_range disk first n
 known_answer disk (write first blocks) = known_range disk first (length blocks)
+known_answer disk (write_list puts) = known_blocks disk (map (λ (p : Put). p.block) puts)
 known_answer disk (grow size) = known_growth disk size
 known_answer disk call = answer_while disk.status
 

@@ -1,6 +1,6 @@
 -- What holds of the flat disk, and of a disk whose drive stops.
-use Rattle.std.specs.Prelude.{◌≡◌, ◌⊎◌, ℕ, ◌+◌, ◌<◌, ◌≤◌, List, [], ◌∷◌, Contains, length, map, slice_index_or, IfErr, Ok, Err, Result}
-use Rattle.std.specs.List.{concat}
+use Rattle.std.specs.Prelude.{◌≡◌, ◌⊎◌, ℕ, ◌+◌, ◌<◌, ◌≤◌, List, [], ◌∷◌, Contains, IsPermutation, length, map, nat_eq, slice_index_or, IfErr, Ok, Err, Result}
+use Rattle.std.specs.List.{IsDistinct, concat}
 use Rattle.zone_states.specs.Zone.{Zone}
 use Rattle.drive_port.specs.Drive.{DriveState}
 use Rattle.drive_port.specs.Run.{restarted, restarted_zone}
@@ -8,7 +8,7 @@ use Rattle.drive_survey.specs.Scan.{IsInterruption}
 use Rattle.drive_survey.specs.declared.fault.MountFault.{MountFault}
 use Rattle.remount.specs.Mount.{IsToMount}
 use Rattle.zone_translator.specs.Answers.{Answers, AnswersRead, HardensBy, IsMounted, Remounts}
-use Rattle.zone_translator.specs.Flat.{Answer, Call, FlatCall, FlatDisk, FlatRemount, flush, read, replaced, with_nothing, write}
+use Rattle.zone_translator.specs.Flat.{Answer, Call, FlatCall, FlatDisk, FlatRemount, Put, flush, read, replaced, with_nothing, write, write_list}
 use Rattle.zone_translator.specs.Mount.{GivesBack, MountsDisk}
 use Rattle.zone_translator.specs.View.{DiskCause, DiskView, KeepsDisk, disk_array, flat_of, given_size}
 use Rattle.zone_translator.specs.declared.fault.DiskFault.{DiskFault}
@@ -79,6 +79,16 @@ pub record Steps (old : DiskView) (step : Step) (new : DiskView) : Type 0 where
 abbrev pub AllSteps : {S : Type 0} → (S → Step → S → Type 0) → S → List Step → S → Type 0
 AllSteps Takes old [] new = new ≡ old
 AllSteps {S} Takes old (step ∷ steps) new = (middle : S) × Takes old step middle × AllSteps Takes middle steps new
+
+-- a block is written by a call of its own, which is done
+abbrev pub written_alone : Put → Step
+written_alone put = call (write put.block (put.content ∷ [])) (with_nothing (Ok tt))
+
+-- A list that is done leaves the disk that its blocks leave where each is written by a call of its own, in any order.
+abbrev pub ListIsItsWrites : Type 0
+ListIsItsWrites =
+    (old new last : FlatDisk) (puts order : List Put) → IsDistinct nat_eq (map (λ (p : Put). p.block) puts) → IsPermutation puts order
+    → FlatCall old (write_list puts) (with_nothing (Ok tt)) new → AllSteps FlatStep old (map written_alone order) last → new ≡ last
 
 -- each call of a disk is a step: a read with the blocks that it showed, any other call with nothing shown, and a remount
 pub record CallsAreSteps : Type 0 where

@@ -10,3 +10,4 @@ pub mod Laws
 pub mod Cleaning
 pub mod Parts
 pub mod Answers
+pub mod Listed

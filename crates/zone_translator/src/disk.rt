@@ -1,5 +1,7 @@
 ghost use Rattle.std.specs.Prelude.{◌≡◌, ◌+◌, ◌<◌, ◌≤◌, ◌^◌, ◌++◌, [], IfErr, IfOk, None, OnErr, OnOk, false};
-ghost use Rattle.std.specs.Prelude.{is_some, length, slice_index_or, true};
+ghost use Rattle.std.specs.Prelude.{is_some, length, nat_eq, nat_lt, slice_index_or, true, ◌*◌};
+ghost use Rattle.std.specs.List.{AllByRecursion, IsDistinct, list_all};
+ghost use Rattle.batch_log.specs.Log.{data_count};
 ghost use Rattle.logical_map.specs.declared.place.Place.TheVariants as places;
 ghost use Rattle.remount.specs.Kept.{KeepsMountable};
 ghost use Rattle.remount.specs.Mount.{MountFails, Mounts};
@@ -10,13 +12,15 @@ ghost use Rattle.zone_choice.specs.Roles.{empty_count};
 ghost use Rattle.zone_choice.specs.Tables.{size_of};
 ghost use Rattle.zone_translator.specs.Answers.{Answers, AnswersRead, AreBlocksOf, CostsAtMost, IsMounted};
 ghost use Rattle.zone_translator.specs.Answers.{KeepsClean, Remounts, SaysSize, Stores, TakesTurn};
-ghost use Rattle.zone_translator.specs.Answers.{count_of_blocks, write_bytes, write_commands, write_content};
-ghost use Rattle.zone_translator.specs.Batches.{CanWrite, HasBlocks, KeepsCut, is_trim};
+ghost use Rattle.zone_translator.specs.Answers.{StoresList, count_of_blocks, list_commands, write_bytes};
+ghost use Rattle.zone_translator.specs.Answers.{write_commands, write_content, write_entries};
+ghost use Rattle.zone_translator.specs.Batches.{CanWrite, HasBlocks, KeepsCut, KeepsCutTo, is_trim};
 ghost use Rattle.zone_translator.specs.Calls.{IsSound, ReportsAll, answer_before, done_of, refusal_before, status_left};
 ghost use Rattle.zone_translator.specs.Changes.{batch_commands};
 ghost use Rattle.zone_translator.specs.Cleaning.{KeepsCleaning};
-ghost use Rattle.zone_translator.specs.Flat.{answer_while, fill, flush, grow, idle, known_growth, known_range};
-ghost use Rattle.zone_translator.specs.Flat.{report, trim};
+ghost use Rattle.zone_translator.specs.Flat.{answer_while, fill, flush, grow, idle, known_blocks, known_growth};
+ghost use Rattle.zone_translator.specs.Flat.{known_range, report, trim};
+ghost use Rattle.zone_translator.specs.Listed.{CanPutAll, PutSome, RefusedPuts, blocks_named, last_block};
 ghost use Rattle.zone_translator.specs.Mount.{GivesBack};
 ghost use Rattle.zone_translator.specs.Parts.{KeepsByRead, ReadStops, RefusedSome, WroteSome};
 ghost use Rattle.zone_translator.specs.View.{CompletesAtMost, DiskCause, HasLive, KeepsDurable, disk_array};
@@ -25,10 +29,12 @@ ghost use Rattle.zone_translator.specs.declared.status.DiskStatus.TheVariants.{S
 
 use crate::fault::DiskFault;
 use crate::flush::flush_drive;
+use crate::list::{ListRest, Taken, next_listed};
 use crate::read::read_block;
 use crate::report::report_all;
 use crate::status::DiskStatus;
 use crate::write::{Content, Rest, grow_batch, next_batch};
+use batch_log::Entry;
 use drive_port::Device;
 use logical_map::Place;
 use remount::{MountFault, mount};
@@ -359,6 +365,111 @@ impl<D: Device + Drop> Disk<D> {
             (write_commands true self.old blocks) result self.new }
     {
         self.write_all(first, blocks, Content::Trim)
+    }
+
+    /// One batch of a list. After a refusal none of the blocks that are left is written; after a stop the first of them
+    /// may be.
+    fn write_listed(&mut self, left: ListRest) -> Result<Taken, DiskFault>
+        // The disk serves, and what is left of the list can be written.
+        requires serving { self.old.status ≡ Serving }
+        requires can { CanPutAll (mounted_of self.old) left }
+        // Done, it has written the first of the blocks left. Refused, it may have, and the fault has its cause.
+        ensures wrote { IfOk result (PutSome self.old left.entry self.new) }
+        ensures err { IfErr result (RefusedPuts self.old left.entry self.new) }
+        // Whatever it answers, the drive can be mounted, and the size is the same. Its batch is as long as it can be.
+        ensures kept { KeepsDurable self.old self.new }
+        ensures size { disk_size self.new ≡ disk_size self.old }
+        ensures cut { KeepsCutTo (last_block left.entry.entries.now) self.old.drive self.new.drive }
+        // It adds no turns to a clean that ran, and costs at most the commands of one batch.
+        ensures clean { KeepsCleaning (mounted_of self.old) self.old.clean result
+            (mounted_of self.new) self.new.clean }
+        ensures completed { CompletesAtMost self.old
+            (batch_commands self.old.drive.geometry) self.new }
+    {
+        match next_listed(&mut self.mounted, &mut self.cleaner, &mut self.batch, left) {
+            Ok(taken) => Ok(taken),
+            Err(fault) => {
+                self.status = status_of(fault);
+                Err(fault)
+            }
+        }
+    }
+
+    /// Whether all blocks of a list are the disk's.
+    fn has_all(&self, entries: &[Entry]) -> bool
+        ensures value { result ≡ list_all (λ e. nat_lt e.block (disk_size self.now)) entries.now }
+        ensures sound { IsSound self.now }
+    {
+        let size = mounted_blocks(&self.mounted);
+        for entry in entries {
+            if entry.block >= size {
+                return false;
+            }
+        }
+        true
+    }
+
+    /// Whether a list is done before it begins: it is where it names no block. One that names a block past the end is
+    /// refused, and so is each while the disk does not serve.
+    fn is_list_done(&self, entries: &[Entry]) -> Result<bool, DiskFault>
+        // It answers what a flat array knows beforehand.
+        ensures known { known_blocks (flat_of self.now) (blocks_named entries.now)
+            ≡ answer_before result }
+        // If the call continues, it names a block, its blocks are in range, and the disk serves.
+        ensures some { IfOk result (λ done. done ≡ false → 1 ≤ length entries.now) }
+        ensures in_range { IfOk result (λ done. done ≡ false
+            → AllByRecursion (λ e. e.block < disk_size self.now) entries.now) }
+        ensures serving { IfOk result (λ done. done ≡ false → self.now.status ≡ Serving) }
+        // If it is done, it names no block. A refusal has its cause, and the drive can be mounted in any case.
+        ensures none { IfOk result (λ done. done ≡ true → length entries.now ≡ 0) }
+        ensures cause { IfErr result (DiskCause self.now) }
+        ensures sound { IsSound self.now }
+    {
+        if !self.has_all(entries) {
+            return Err(DiskFault::OutOfRange);
+        }
+        if entries.is_empty() {
+            return Ok(true);
+        }
+        self.check_serving()?;
+        Ok(false)
+    }
+
+    /// Writes and trims the blocks of a list, in its order, by as few batches as a write of as many blocks in a row.
+    /// `bytes` are the blocks of those entries that are not trims, in the same order. No block is named twice.
+    ///
+    /// A list with a block past the end is refused, and nothing is done. After a refusal midway the first blocks of the
+    /// list are written, perhaps none or all, as after one of a `fill`.
+    pub fn write_list(&mut self, entries: &[Entry], bytes: &[u8]) -> Result<(), DiskFault>
+        requires distinct { IsDistinct nat_eq (blocks_named entries.now) }
+        requires whole { length bytes.now
+            ≡ data_count entries.now * self.old.drive.geometry.block }
+        // It answers as a flat array does. Whatever it answers, the drive can be mounted again.
+        ensures answers { Answers self.old
+            (write_entries self.old entries.now bytes.now) result self.new }
+        // Done, the newest record of each block is its entry's. In any case each batch is as long as it can be.
+        ensures stores { StoresList self.old entries.now result self.new }
+        // It completes at most that many commands and, unless the drive stops, adds no turns to a clean that runs.
+        ensures costs { CostsAtMost self.old
+            (list_commands self.old (length entries.now)) result self.new }
+    {
+        if self.is_list_done(entries)? {
+            return Ok(());
+        }
+        let block = self.mounted.geometry().block as usize;
+        let mut named = 0;
+        let mut copied = 0;
+        while named < entries.len() {
+            let left = ListRest::after(entries, bytes, named, copied * block);
+            match self.write_listed(left) {
+                Ok(taken) => {
+                    named += taken.entries;
+                    copied += taken.blocks;
+                }
+                Err(fault) => return Err(fault),
+            }
+        }
+        Ok(())
     }
 
     /// Whether a growth to `blocks` blocks is refused before it begins.

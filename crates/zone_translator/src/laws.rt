@@ -1,8 +1,9 @@
 //! What holds of the flat disk, whose answers every call of `Disk` gives, and of a disk whose drive stops. Each
 //! function carries laws as its contract, and changes nothing.
 
-ghost use Rattle.zone_translator.specs.Laws.{CalledCan, CallsAreSteps, LeftIsFound, ListIsFound, LossIsFound};
-ghost use Rattle.zone_translator.specs.Laws.{MountedCan, RemountedCan, WriteKeepsOthers, WrittenReadsBack};
+ghost use Rattle.zone_translator.specs.Laws.{CalledCan, CallsAreSteps, LeftIsFound, ListIsFound, ListIsItsWrites};
+ghost use Rattle.zone_translator.specs.Laws.{LossIsFound, MountedCan, RemountedCan, WriteKeepsOthers};
+ghost use Rattle.zone_translator.specs.Laws.{WrittenReadsBack};
 ghost use Rattle.zone_translator.specs.View.{flat_of};
 
 use crate::disk::Disk;
@@ -18,6 +19,11 @@ pub fn written_reads_back<D: Device + Drop>(disk: &Disk<D>)
 /// A write changes no block but those that it names.
 pub fn write_keeps_others()
     ensures { WriteKeepsOthers }
+{}
+
+/// A list leaves the array that its writes and trims leave one by one, in any order.
+pub fn list_is_its_writes()
+    ensures { ListIsItsWrites }
 {}
 
 /// What was answered is found again. Whatever is called of a disk, and whatever ends it, its drive can be mounted again

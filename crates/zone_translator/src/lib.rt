@@ -11,6 +11,7 @@
 //! disk.write(2, &bytes)?;          // from block 2 on
 //! disk.fill(5, 3, 0xaa)?;          // blocks 5 to 7
 //! disk.trim(6, 1)?;                // block 6 reads as zeros
+//! disk.write_list(&entries, &bytes)?; // each block that an entry names is written or trimmed
 //! disk.grow(9)?;                   // one block more
 //! disk.read(2, 3, &mut shown)?;    // blocks 2 to 4
 //! disk.flush()?;                   // a loss of power leaves these blocks, if the drive says what one leaves
@@ -26,11 +27,12 @@
 //! * Each answer is a flat array's answer (`FlatCall` in specs/Flat), by these cases in order: a call of no block is
 //!   done; one past the end is `OutOfRange`; a disk that refused a remount answers `Unmounted`; one that has answered
 //!   `Stopped` answers it again; any other call is done or refused midway.
-//! * Done, a read shows the array's blocks, and a write, a fill or a trim has replaced them. A growth is refused as
-//!   `Smaller` below the disk's size, then as `Reserve` above what the drive allows. Done, its new blocks are zeros.
-//! * A read or a report is refused midway only by `OutOfMemory` or `Stopped`, and shows nothing. A refused write, fill
-//!   or trim has written a front of its blocks, and nothing else. A refused growth leaves the array the same, or after
-//!   a stop the array before or after the growth.
+//! * Done, a read shows the array's blocks, and a write, a fill, a trim or a list has replaced them. A growth is
+//!   refused as `Smaller` below the disk's size, then as `Reserve` above what the drive allows. Done, its new blocks
+//!   are zeros.
+//! * A read or a report is refused midway only by `OutOfMemory` or `Stopped`, and shows nothing. A refused write, fill,
+//!   trim or list has written a front of its blocks, and nothing else. A refused growth leaves the array the same, or
+//!   after a stop the array before or after the growth.
 //! * No call is refused for lack of room: once it was begun, only by `OutOfMemory` or `Stopped`; all but reads and
 //!   reports also by `Spent`. A read of a disk that serves answers `Stopped` only if one of its blocks has data
 //!   (`HasData`).
@@ -43,27 +45,27 @@
 //!   a mount meets, and is unchanged up to closings (`IsMounted`, `GivesBack`). A remount is refused only by `Halted`
 //!   or `OutOfMemory`. Done, the disk serves the same array, and no clean runs; refused, it is unmounted (`Remounts`).
 //! * A completed trim leaves on the drive a record of each of its blocks, newer than all others, also for blocks that
-//!   were never written. A write or a fill leaves one with data (`names` of `Stores`). All other blocks have records
-//!   as before.
-//! * After a write, a fill or a trim of some blocks the greatest size in the drive's headers is the disk's. A
+//!   were never written. A write or a fill leaves one with data (`names` of `Stores`), and a list what its entries say
+//!   (`names` of `StoresList`). All other blocks have records as before.
+//! * After a write, a fill, a trim or a list of some blocks the greatest size in the drive's headers is the disk's. A
 //!   completed growth appended at least one batch that says the new one (`says`).
 //! * After these calls the next sequence is at most 2^63 - `capacity`: the sequences kept for repairs are left
 //!   (`early`). It rises by one with each Append, and falls only by a remount. While the disk serves, it is above
 //!   every sequence on the drive.
 //! * Every new host batch is full, unless it is the last of the call or ends its zone, whatever the call answers.
 //!   Moves are the only other new batches (`cut`, `LogsAreCut`).
-//! * Completed commands are at most, with c for 2 * `capacity` + 1: `n` for a read of `n` blocks; `n` * c for a write
-//!   or a fill; ceil(`n` / `batch_most`) * c for a trim; c for a growth; 2 for a turn; 1 for a report or a flush
+//! * Completed commands are at most, with c for 2 * `capacity` + 1: `n` for a read of `n` blocks; `n` * c for a write,
+//!   a fill or a list; ceil(`n` / `batch_most`) * c for a trim; c for a growth; 2 for a turn; 1 for a report or a flush
 //!   (`completed`).
 //! * An `idle` of a serving disk is exactly one turn of cleaning (`IsTurn`). Each completed turn leaves fewer turns, a
 //!   refused one as many, and no other completed call adds any. A clean that a turn starts has at most `capacity` - 1.
-//! * A refused write, fill, trim or growth does not set back a clean that ran before it: it still runs, of the same
-//!   zone, or its zone was emptied (`KeepsClean`).
+//! * A refused write, fill, trim, list or growth does not set back a clean that ran before it: it still runs, of the
+//!   same zone, or its zone was emptied (`KeepsClean`).
 //! * While the disk serves, `place_of` tells where the newest record of a block is, `live` how many blocks have theirs
 //!   in a zone, and `is_cleaning` whether a clean runs. If none runs, a zone is kept empty.
 //! * A report shows all zones, whole, at one moment of the call, up to closings (`ReportsAll`).
-//! * Blocks that are written read back, and a write changes no other block (`laws`). `into_device` gives the drive
-//!   back as it is.
+//! * Blocks that are written read back, and a write changes no other block. A list leaves the array that its writes and
+//!   trims leave one by one, in any order (`laws`). `into_device` gives the drive back as it is.
 //! * Only a `flush` changes what a loss of power leaves (`HardensBy` in specs/Answers). Done, that is this array.
 //! * A batch finds a host zone with two free blocks. A new one is the next zone or, without one, the lowest empty
 //!   zone, never the last. Only a host zone with fewer than two free blocks is given up. Only a disk without a host
@@ -80,19 +82,21 @@
 //!   rest.
 //! * The room for a batch is a contract of its parts, and not of the disk's own calls.
 //!
-//! Tests: the rows of `worked_runs`, with a stop at every place.
+//! Tests: the rows of `worked_runs`, with a stop at every place; of lists a test of `call_tests`.
 #![tactic(auto)]
 
 mod disk;
 mod fault;
 mod flush;
 pub mod laws;
+mod list;
 mod read;
 mod report;
 mod room;
 mod status;
 mod write;
 
+pub use batch_log::Entry;
 pub use disk::Disk;
 pub use fault::DiskFault;
 pub use laws::{write_keeps_others, written_reads_back};

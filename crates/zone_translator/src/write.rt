@@ -81,7 +81,10 @@ fn next_sequence<D: Device>(disk: &Mounted<D>) -> u64
 }
 
 /// The zone that the next batch goes to. A batch needs a sequence number, too.
-fn find_room<D: Device>(disk: &mut Mounted<D>, cleaner: &mut Cleaner) -> Result<Filling, DiskFault>
+pub(crate) fn find_room<D: Device>(
+    disk: &mut Mounted<D>,
+    cleaner: &mut Cleaner,
+) -> Result<Filling, DiskFault>
     requires agrees { AgreesWithClean disk.old cleaner.old }
     // The array never changes. Done, there is room and a sequence is left; refused, the fault has its cause.
     ensures leaves { RoomLeaves disk.old disk.new cleaner.new result }

@@ -1,4 +1,4 @@
-use Rattle.std.proofs.Common.{Err, Ok, inr, refl, rules}
+use Rattle.std.proofs.Common.{◌+◌, ◌-◌, Err, Ok, inr, refl, rules}
 use Rattle.zone_choice.specs.declared.roles.Filling.{Filling}
 use Rattle.zone_translator.proofs.CleaningLaws.{append-stays, stays-cleaning, stays-join}
 use Rattle.zone_translator.proofs.RoomLaws.{room-keeps}
@@ -13,7 +13,7 @@ returns-in_err-host-clause-leaves g c =
 
 pub returns-in_err-host-clause-cut : goal.returns-in_err-host-clause-cut
 returns-in_err-host-clause-cut g c =
-    cut-found c.args.disk.now c.find_room.new.disk c.find_room.new.disk.drive c.args.rest (room-keeps Filling c.args.disk.now c.find_room.new.disk c.find_room.new.cleaner c.in_err-host.field-0.0 c.in_err-host.ensures.leaves) refl
+    cut-found c.args.disk.now c.find_room.new.disk c.find_room.new.disk.drive (c.args.rest.first + c.args.rest.left - 1) (room-keeps Filling c.args.disk.now c.find_room.new.disk c.find_room.new.cleaner c.in_err-host.field-0.0 c.in_err-host.ensures.leaves) refl
 
 -- ---- or no memory
 
@@ -30,7 +30,7 @@ returns-in_err-count-clause-leaves g c =
     (kept-room c.args.disk.now c.find_room.new.disk c.build_batch.new.disk c.find_room.new.cleaner found.0 found.1 c.build_batch.ensures.drive c.build_batch.ensures.kept)
 
 pub returns-in_err-count-clause-cut : goal.returns-in_err-count-clause-cut
-returns-in_err-count-clause-cut g c = rw c.build_batch.ensures.drive (cut-found c.args.disk.now c.find_room.new.disk c.find_room.new.disk.drive c.args.rest c.in_ok-host.ensures.leaves.0 refl)
+returns-in_err-count-clause-cut g c = rw c.build_batch.ensures.drive (cut-found c.args.disk.now c.find_room.new.disk c.find_room.new.disk.drive (c.args.rest.first + c.args.rest.left - 1) c.in_ok-host.ensures.leaves.0 refl)
 
 pub returns-in_err-count-clause-clean : goal.returns-in_err-count-clause-clean
 returns-in_err-count-clause-clean g c =

@@ -1,0 +1,17 @@
+use Rattle.std.proofs.Common.{◌≡◌, take}
+use Rattle.std.specs.List.{AllByRecursion}
+use Rattle.batch_log.specs.declared.header.Entry.{Entry}
+use Rattle.logical_map.specs.Places.{IsReady}
+use Rattle.zone_choice.specs.Tables.{AreLive}
+use Rattle.zone_choice.proofs.tables.Tables.reserve_all.Given as goal
+
+abbrev pub invariant-loop-entry : goal.invariant-loop-entry
+invariant-loop-entry l =
+    (l.self-inside.map.places ≡ l.fn.self.map.places)
+    × (l.self-inside.map.zones ≡ l.fn.self.map.zones)
+    × (l.self-inside.map.zone_size ≡ l.fn.self.map.zone_size)
+    × (l.self-inside.roles ≡ l.fn.self.roles)
+    × (l.self-inside.next ≡ l.fn.self.next)
+    × (l.self-inside.given ≡ l.fn.self.given)
+    × AreLive l.self-inside.map l.self-inside.index
+    × AllByRecursion (λ (e : Entry). IsReady l.self-inside.map e.block) (take l.entry-index l.fn.entries)
