@@ -16,3 +16,4 @@ pub mod CallLaws
 pub mod BackLaws
 pub mod AgainLaws
 pub mod LossLaws
+pub mod JoinedLaws
