@@ -32,7 +32,7 @@ fn export_piece<D: Device + Drop, W: Write>(
     ensures exports { Exports disk.old first blocks (W.contents writer.old) (W.contents writer.new) result disk.new }
     ensures keeps { KeepsServed disk.old disk.new }
 {
-    disk.read(first, blocks, piece)?;
+    disk.read_joined(first, blocks, piece)?;
     write_out(writer, piece)?;
     Ok(())
 }

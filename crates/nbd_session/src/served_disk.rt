@@ -131,7 +131,7 @@ impl<D: Device + Drop, M: Medium + Drop> Store for ServedDisk<D, M> {
     }
 
     fn read(&mut self, first: u64, blocks: u64, into: &mut Vec<u8>) -> Result<(), StoreFault> {
-        self.disk.read(first, blocks, into)?;
+        self.disk.read_joined(first, blocks, into)?;
         Ok(())
     }
 

@@ -266,7 +266,7 @@ none-spare disk (Some c) none serves = absurd (cc)
 -- ---- the tables name the places that the drive has
 
 -- the places of the tables are the disk's
-places-on : (disk : MountedView) (clean : Option CleanView) (status : DiskStatus) → AgreesWithClean disk clean → disk.tables.map.places ≡ disk_places (view_of disk clean status)
+pub places-on : (disk : MountedView) (clean : Option CleanView) (status : DiskStatus) → AgreesWithClean disk clean → disk.tables.map.places ≡ disk_places (view_of disk clean status)
 places-on disk clean status serves = serves.0.places
 
 -- and what they name

@@ -20,3 +20,4 @@ pub mod ListedLaws
 pub mod ListedWriteLaws
 pub mod ListedDiskLaws
 pub mod OrderLaws
+pub mod JoinedLaws

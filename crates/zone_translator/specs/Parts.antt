@@ -1,5 +1,5 @@
 -- What the parts of a disk's calls leave: one batch of a write, and one block of a read.
-use Rattle.std.specs.Prelude.{◌≡◌, ℕ, ◌≤◌, Some, slice_index_or, take, false}
+use Rattle.std.specs.Prelude.{◌≡◌, ℕ, ◌+◌, ◌≤◌, List, length, Some, slice_index_or, take, false}
 use Rattle.logical_map.specs.declared.place.Place.TheVariants as places
 use Rattle.zone_choice.specs.Changes.{sequence_end}
 use Rattle.zone_cleaner.specs.Start.{trims}
@@ -11,7 +11,7 @@ use Rattle.zone_translator.specs.Batches.{IsTaken, is_trim, rest_blocks}
 use Rattle.zone_translator.specs.Calls.{status_left}
 use Rattle.zone_translator.specs.Changes.{IsCause, Names}
 use Rattle.zone_translator.specs.Flat.{IsFront, replaced}
-use Rattle.zone_translator.specs.Read.{IsReadFault}
+use Rattle.zone_translator.specs.Read.{ArePieces, IsReadFault}
 use Rattle.zone_translator.specs.View.{DiskView, KeepsDurable, disk_array, disk_size, disk_turns, next_sequence, disk_places, size_on}
 
 -- One batch of a write took as many of the blocks that are left: they are in the array, and their records on the drive.
@@ -42,3 +42,9 @@ pub record ReadStops (old : DiskView) (block : ℕ) (new : DiskView) (fault : Di
   pub status : new.status ≡ status_left fault
   pub cause : IsReadFault new.drive fault
   pub stops : fault ≡ Stopped → trims (slice_index_or (disk_places old) block places.None) ≡ Some false
+
+-- A read of n blocks from one on was done by one command at most for each piece.
+pub record ReadsPieces (old : DiskView) (first n : ℕ) (new : DiskView) : Type 0 where
+  pub counts : List ℕ
+  pub are : ArePieces old.drive.geometry (disk_places old) first n counts
+  pub completed : new.drive.completed ≤ old.drive.completed + length counts

@@ -1,6 +1,6 @@
 ghost use Rattle.std.specs.Prelude.{◌≡◌, ◌+◌, ◌<◌, ◌≤◌, ◌^◌, ◌++◌, [], IfErr, IfOk, None, OnErr, OnOk, false};
 ghost use Rattle.std.specs.Prelude.{is_some, length, nat_eq, nat_lt, slice_index_or, true, ◌*◌};
-ghost use Rattle.std.specs.List.{AllByRecursion, IsDistinct, list_all};
+ghost use Rattle.std.specs.List.{AllByRecursion, IsDistinct, concat, list_all};
 ghost use Rattle.batch_log.specs.Log.{data_count};
 ghost use Rattle.logical_map.specs.declared.place.Place.TheVariants as places;
 ghost use Rattle.remount.specs.Kept.{KeepsMountable};
@@ -19,10 +19,11 @@ ghost use Rattle.zone_translator.specs.Calls.{IsSound, ReportsAll, answer_before
 ghost use Rattle.zone_translator.specs.Changes.{batch_commands};
 ghost use Rattle.zone_translator.specs.Cleaning.{KeepsCleaning};
 ghost use Rattle.zone_translator.specs.Flat.{answer_while, fill, flush, grow, idle, known_blocks, known_growth};
-ghost use Rattle.zone_translator.specs.Flat.{known_range, report, trim};
+ghost use Rattle.zone_translator.specs.Flat.{blocks_from, known_range, report, trim};
 ghost use Rattle.zone_translator.specs.Listed.{CanPutAll, PutSome, RefusedPuts, blocks_named, last_block};
 ghost use Rattle.zone_translator.specs.Mount.{GivesBack};
-ghost use Rattle.zone_translator.specs.Parts.{KeepsByRead, ReadStops, RefusedSome, WroteSome};
+ghost use Rattle.zone_translator.specs.Parts.{KeepsByRead, ReadStops, ReadsPieces, RefusedSome, WroteSome};
+ghost use Rattle.zone_translator.specs.Read.{IsPiece};
 ghost use Rattle.zone_translator.specs.View.{CompletesAtMost, DiskCause, HasLive, KeepsDurable, disk_array};
 ghost use Rattle.zone_translator.specs.View.{disk_places, disk_size, disk_turns, flat_of, mounted_of};
 ghost use Rattle.zone_translator.specs.declared.status.DiskStatus.TheVariants.{Serving};
@@ -30,7 +31,7 @@ ghost use Rattle.zone_translator.specs.declared.status.DiskStatus.TheVariants.{S
 use crate::fault::DiskFault;
 use crate::flush::flush_drive;
 use crate::list::{ListRest, Taken, next_listed};
-use crate::read::read_block;
+use crate::read::{read_block, read_piece};
 use crate::report::report_all;
 use crate::status::DiskStatus;
 use crate::write::{Content, Rest, grow_batch, next_batch};
@@ -271,6 +272,33 @@ impl<D: Device + Drop> Disk<D> {
     {
         match read_block(&mut self.mounted, block, into) {
             Ok(()) => Ok(()),
+            Err(fault) => {
+                self.status = status_of(fault);
+                Err(fault)
+            }
+        }
+    }
+
+    /// One piece of a read, shown after what `into` holds: of at most `left` blocks from one on, the first and all its
+    /// neighbours. It answers how many.
+    fn read_some(&mut self, block: u32, left: u32, into: &mut Vec<u8>) -> Result<u32, DiskFault>
+        // The blocks are the disk's, and the disk serves.
+        requires some { 1 ≤ left }
+        requires in_range { block + left ≤ disk_size self.old }
+        requires serving { self.old.status ≡ Serving }
+        // Whatever it answers, the array is the same, and the drive can be mounted again.
+        ensures keeps { KeepsByRead self.old self.new }
+        // Done, it has added the bytes of a piece, and the disk still serves. Refused, the fault has its cause.
+        ensures ok { IfOk result (λ count. into.new.items ≡ into.old.items
+            ++ concat (blocks_from (disk_array self.old) block count)) }
+        ensures piece { IfOk result (λ count. IsPiece self.old.drive.geometry (disk_places self.old) block left count) }
+        ensures serving { OnOk result (self.new.status ≡ Serving) }
+        ensures err { IfErr result (ReadStops self.old block self.new) }
+        // It completes one command at most.
+        ensures completed { CompletesAtMost self.old 1 self.new }
+    {
+        match read_piece(&mut self.mounted, block, left, into) {
+            Ok(count) => Ok(count),
             Err(fault) => {
                 self.status = status_of(fault);
                 Err(fault)
@@ -630,6 +658,37 @@ impl<D: Device + Drop> Disk<D> {
             if let Err(fault) = self.read_one(first as u32 + i, into) {
                 into.clear();
                 return Err(fault);
+            }
+        }
+        Ok(())
+    }
+
+    /// Shows blocks as [`read`](Disk::read) does, by fewer commands: one for all blocks whose data are neighbours on the
+    /// drive, as far as one command reaches.
+    pub fn read_joined(
+        &mut self,
+        first: u64,
+        blocks: u64,
+        into: &mut Vec<u8>,
+    ) -> Result<(), DiskFault>
+        ensures answers { AnswersRead self.old first blocks result into.new.items self.new }
+        ensures turns { disk_turns self.new ≡ disk_turns self.old }
+        // Done, it has sent one command for each piece at most. In any case there are no more than blocks.
+        ensures joins { OnOk result (ReadsPieces self.old first blocks self.new) }
+        ensures completed { CompletesAtMost self.old blocks self.new }
+    {
+        into.clear();
+        if self.is_done(first, blocks)? {
+            return Ok(());
+        }
+        let mut done = 0;
+        while done < blocks as u32 {
+            match self.read_some(first as u32 + done, blocks as u32 - done, into) {
+                Ok(count) => done += count,
+                Err(fault) => {
+                    into.clear();
+                    return Err(fault);
+                }
             }
         }
         Ok(())

@@ -14,6 +14,7 @@
 //! disk.write_list(&entries, &bytes)?; // each block that an entry names is written or trimmed
 //! disk.grow(9)?;                   // one block more
 //! disk.read(2, 3, &mut shown)?;    // blocks 2 to 4
+//! disk.read_joined(2, 3, &mut shown)?; // the same, by fewer commands
 //! disk.flush()?;                   // a loss of power leaves these blocks, if the drive says what one leaves
 //! disk.remount()?;                 // the same blocks, found again on the drive
 //! let drive = disk.into_device();
@@ -57,6 +58,8 @@
 //! * Completed commands are at most, with c for 2 * `capacity` + 1: `n` for a read of `n` blocks; `n` * c for a write,
 //!   a fill or a list; ceil(`n` / `batch_most`) * c for a trim; c for a growth; 2 for a turn; 1 for a report or a flush
 //!   (`completed`).
+//! * A `read_joined` answers as a `read` does. Done, it has sent one command at most for each piece: a block without
+//!   data, or a block and all its neighbours on the drive that one command reaches (`ReadsPieces` in specs/Parts).
 //! * An `idle` of a serving disk is exactly one turn of cleaning (`IsTurn`). Each completed turn leaves fewer turns, a
 //!   refused one as many, and no other completed call adds any. A clean that a turn starts has at most `capacity` - 1.
 //! * A refused write, fill, trim, list or growth does not set back a clean that ran before it: it still runs, of the

@@ -1,8 +1,11 @@
-ghost use Rattle.std.specs.Prelude.{◌≡◌, ◌≤◌, ◌+◌, ◌++◌, ◌<◌, [], IfErr, OnOk, length, replicate, slice_index_or};
+ghost use Rattle.std.specs.Prelude.{◌≡◌, ◌≤◌, ◌+◌, ◌++◌, ◌<◌, [], IfErr, IfOk, OnOk, length, replicate, slice_index_or};
+ghost use Rattle.std.specs.List.{concat};
+ghost use Rattle.logical_map.specs.declared.place.Place.TheVariants as places;
 ghost use Rattle.zone_choice.specs.Agreement.{Agrees, mounted_array};
 ghost use Rattle.zone_choice.specs.Changes.{KeepsArray};
 ghost use Rattle.zone_choice.specs.Tables.{size_of};
-ghost use Rattle.zone_translator.specs.Read.{IsBlockFault};
+ghost use Rattle.zone_translator.specs.Flat.{blocks_from};
+ghost use Rattle.zone_translator.specs.Read.{AreNeighbours, EndsThere, IsBlockFault, IsPiece};
 
 use crate::fault::DiskFault;
 use crate::room::fault_of;
@@ -18,6 +21,63 @@ fn extend_zeros(into: &mut Vec<u8>, count: usize) -> Result<(), AllocError>
     let length = into.len() + count;
     into.resize(length, 0)?;
     Ok(())
+}
+
+/// How many blocks from `block` on, at most `left`, have their data in a row from this address on, where the data of the
+/// first is.
+fn neighbours<D: Device>(disk: &Mounted<D>, block: u32, address: u64, left: u32) -> u32
+    requires agrees { Agrees disk.now }
+    requires some { 1 ≤ left }
+    requires in_range { block + left ≤ size_of disk.now.tables }
+    requires at { slice_index_or disk.now.tables.map.places block places.None ≡ Place.At address }
+    ensures some { 1 ≤ result }
+    ensures few { result ≤ left }
+    ensures row { AreNeighbours disk.now.drive.geometry disk.now.tables.map.places block address result }
+    ensures ends { EndsThere disk.now.drive.geometry disk.now.tables.map.places block address left result }
+{
+    let geometry = disk.geometry();
+    let in_zone = geometry.size - (address % geometry.size as u64) as u32;
+    let most = left.min(geometry.transfer).min(in_zone);
+    for count in 1..most {
+        if disk.tables.place_of(block + count) != Place::At(address + count as u64) {
+            return count;
+        }
+    }
+    most
+}
+
+/// Shows one block and its neighbours after what `into` holds, at most `left` of them: their data by one command, or zeros
+/// for one block without data. It answers how many.
+pub(crate) fn read_piece<D: Device>(
+    disk: &mut Mounted<D>,
+    block: u32,
+    left: u32,
+    into: &mut Vec<u8>,
+) -> Result<u32, DiskFault>
+    // Tables and drive agree, and the blocks are the disk's.
+    requires agrees { Agrees disk.old }
+    requires some { 1 ≤ left }
+    requires in_range { block + left ≤ size_of disk.old.tables }
+    // Whatever it answers, array and tables are the same, and tables and drive agree.
+    ensures kept { KeepsArray disk.old disk.new }
+    ensures tables { disk.new.tables ≡ disk.old.tables }
+    // Done, it has added the bytes of a piece. Refused, it is out of memory, or the drive stopped at a block with data.
+    ensures ok { IfOk result (λ count. into.new.items ≡ into.old.items
+        ++ concat (blocks_from (mounted_array disk.old) block count)) }
+    ensures piece { IfOk result (λ count. IsPiece disk.old.drive.geometry disk.old.tables.map.places block left count) }
+    ensures err { IfErr result (IsBlockFault disk.new block) }
+    // It completes one command at most.
+    ensures completed { disk.new.drive.completed ≤ disk.old.drive.completed + 1 }
+{
+    let Place::At(address) = disk.tables.place_of(block) else {
+        extend_zeros(into, disk.geometry().block as usize)?;
+        return Ok(1);
+    };
+    let count = neighbours(disk, block, address, left);
+    if let Err(fault) = read_extending(&mut disk.device, address, count, into) {
+        return Err(fault_of(halt_of(fault)));
+    }
+    Ok(count)
 }
 
 /// Shows one block after what `into` holds: the data at its place, or zeros if it has none.
