@@ -85,7 +85,7 @@
 //!   rest.
 //! * The room for a batch is a contract of its parts, and not of the disk's own calls.
 //!
-//! Tests: the rows of `worked_runs`, with a stop at every place; of lists a test of `call_tests`.
+//! Tests: the rows of `worked_runs`, with a stop at every place.
 #![tactic(auto)]
 
 mod disk;
