@@ -12,6 +12,7 @@ import random
 import shlex
 import shutil
 import signal
+import sys
 import tempfile
 import time
 from typing import NamedTuple, Optional
@@ -210,6 +211,29 @@ class Summary:
                 "seconds": round(self.ended - self.begun)}
 
 
+class Progress:
+    """Shows on standard error how far a sweep is: on a terminal in one line, and elsewhere in a line now and then."""
+
+    def __init__(self, name, cuts):
+        self.name, self.cuts, self.is_terminal = name, cuts, sys.stderr.isatty()
+        self.wait = 1 if self.is_terminal else 10
+        self.next = time.monotonic() + self.wait
+
+    def show(self, summary):
+        """Shows the counts, if it is time."""
+        if time.monotonic() < self.next:
+            return
+        self.next = time.monotonic() + self.wait
+        text = f"{self.name}, {summary.mode}: {summary.cuts} of {self.cuts} cuts, {summary.failed} failed"
+        print(f"\r{text}" if self.is_terminal else text, end="" if self.is_terminal else "\n", file=sys.stderr,
+              flush=True)
+
+    def end(self):
+        """Clears the line of a terminal."""
+        if self.is_terminal:
+            print("\r\033[K", end="", file=sys.stderr, flush=True)
+
+
 def sweep(plan, tell):
     """Does a sweep. `tell` gets the first failure. The summary."""
     with scratch_folder("crash_sweep.") as scratch:
@@ -221,8 +245,19 @@ def sweep_within(plan, tell):
     recording, summary = Recording(plan.folder), Summary(plan.mode)
     recording.check_digests()
     Cutter(recording, plan.program, plan.scratch).prepare()
-    for result in results_of(plan, cuts_of(recording, plan)):
-        if summary.add(result):
-            tell(finding_of(plan, recording, result))
+    cuts = cuts_of(recording, plan)
+    progress = Progress(os.path.basename(plan.folder.rstrip("/")), len(cuts))
+    try:
+        for result in results_of(plan, cuts):
+            if summary.add(result):
+                tell(finding_of(plan, recording, result))
+            progress.show(summary)
+    except SystemExit:
+        # A signal came: what was found so far is told.
+        summary.ended = time.monotonic()
+        tell({**summary.shown(), "of": len(cuts), "ended_by": "signal"})
+        raise
+    finally:
+        progress.end()
     summary.ended = time.monotonic()
     return summary
