@@ -92,6 +92,7 @@ mod reading;
 mod releasing;
 mod serving;
 mod storing;
+mod syncing;
 mod tables;
 mod words;
 mod zones;
