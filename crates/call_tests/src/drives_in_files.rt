@@ -380,9 +380,9 @@ fn a_stored_drive_is_found(rt: HostRuntime) -> Result<(), Fail> {
     Ok(())
 }
 
-/// How many changes of the file a store of that drive takes: the blocks of four zones, three words in each table, the
-/// seven words of the shape, a sync, the first word, and a sync.
-const CHANGES: u64 = 20;
+/// How many changes of the file a store of that drive takes: six blocks of zeros, the blocks of four zones, three words in
+/// each table, the seven words of the shape, a sync, the first word, and a sync.
+const CHANGES: u64 = 26;
 
 /// What an open says of a file in which that drive was stored up to a change.
 fn opened_after(alloc: Global, changes: u64) -> Option<Result<(), OpenFault>> {

@@ -323,6 +323,7 @@ impl FileBytes for MemoryFile {
     {
         self.usable = false;
         if self.syncs == 0 {
+            self.syncs = u64::MAX;
             return Err(io::Error::other("the sync fails"));
         }
         self.syncs -= 1;

@@ -12,6 +12,7 @@ ghost use Rattle.file_drive.specs.declared.boot.Boot.{Boot};
 
 use crate::boot::System;
 use crate::found::Found;
+use crate::freed::Freed;
 use crate::zones::FileZones;
 use file_bytes::FileBytes;
 use std::alloc::Global;
@@ -47,7 +48,7 @@ impl<F: FileBytes + Drop, S: System + Drop> FileZones<F, S> {
     {
         let named = system.boot();
         let resources = Resources::of(&found.entries);
-        let freed = Vec::new(*found.entries.allocator());
+        let freed = Freed::new(*found.entries.allocator());
         let tables = found.tables;
         FileZones {
             file,

@@ -4,6 +4,7 @@ ghost use Rattle.file_drive.specs.InFile.{flushed_at, is_apart};
 
 use crate::boot::{Boot, System};
 use crate::entry::Entry;
+use crate::freed::Freed;
 use crate::layout::at_table;
 use crate::words::put_word;
 use drive_port::Halt;
@@ -47,7 +48,7 @@ pub struct FileZones<F: FileBytes + Drop, S: System + Drop> {
     pub(crate) unsure: bool,
     /// Zones from which a Reset took blocks. The next flush gives their room back to the file
     /// system.
-    pub(crate) freed: Vec<usize>,
+    pub(crate) freed: Freed,
 }
 
 impl<F: FileBytes + Drop, S: System + Drop> Model for FileZones<F, S> {
