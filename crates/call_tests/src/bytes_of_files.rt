@@ -1,6 +1,6 @@
 ghost use Rattle.std.specs.Prelude.{refl};
 ghost use Rattle.std.proofs.Common.{inl};
-ghost use Rattle.file_bytes.specs.Pending.{MayLeave};
+ghost use Rattle.file_bytes.specs.Pending.{MayLeave, MayShow};
 
 use file_bytes::{FileBytes, MemoryFile, ReadAheadFile, ReadOnlyFile, StoppingFile};
 use std::alloc::Global;
@@ -19,6 +19,27 @@ fn a_loss_of_power_takes_what_was_not_synced(rt: HostRuntime) -> Result<(), Fail
     assert!(rt; file.lose_power(b"axd\0")?);
     assert_eq!(rt; file.bytes(), b"axd\0".as_slice());
     assert!(rt; !file.may_leave(b"acd\0"));
+    Ok(())
+}
+
+/// A sync fails, and then a word is written: whether older bytes may be read later, but not another word.
+#[test]
+fn a_failed_sync_may_show_what_was_not_synced(rt: HostRuntime) -> Result<(), Fail> {
+    let mut file = MemoryFile::new(rt.alloc(), 16)?;
+    file.write(0, b"abcd")?;
+    assert!(rt; !file.may_show(b"axcd\0\0\0\0\0\0\0\0\0\0\0\0"));
+    file.sync()?;
+    file.write(1, b"ef")?;
+    file.write_word(8, 1)?;
+    file.fail_sync(0);
+    assert!(rt; file.sync().is_err());
+    assert!(rt; file.may_show(b"abxd\0\0\0\0\0\0\0\0\0\0\0\0"));
+    assert!(rt; !file.may_show(b"xbcd\0\0\0\0\0\0\0\0\0\0\0\0"));
+    file.write_word(8, 3)?;
+    assert!(rt; !file.open_again(b"abcd\0\0\0\0\x01\0\0\0\0\0\0\0")?);
+    assert!(rt; file.open_again(b"abcd\0\0\0\0\x03\0\0\0\0\0\0\0")?);
+    assert_eq!(rt; file.bytes(), b"abcd\0\0\0\0\x03\0\0\0\0\0\0\0".as_slice());
+    assert!(rt; file.may_leave(b"aefd\0\0\0\0\0\0\0\0\0\0\0\0"));
     Ok(())
 }
 
@@ -47,9 +68,15 @@ impl FileBytes for CountingFile {
 
     ghost may_leave = { λ f. MayLeave f.file };
 
+    ghost may_show = { λ f. MayShow f.file };
+
     ghost is_usable = { λ f. f.file.usable };
 
+    ghost is_stuck = { λ f. f.file.stuck };
+
     ghost seen_may_stay = { λ f. inl refl };
+
+    ghost seen_is_shown = { λ f usable shown may. may.seen usable };
 
     fn len(&self) -> u64 {
         self.file.len()

@@ -78,9 +78,15 @@ impl<F: FileBytes + Drop> FileBytes for Unreadable<F> {
 
     ghost may_leave = { λ f. F.FileBytes.may_leave f.file };
 
+    ghost may_show = { λ f. F.FileBytes.may_show f.file };
+
     ghost is_usable = { λ f. F.FileBytes.is_usable f.file };
 
+    ghost is_stuck = { λ f. F.FileBytes.is_stuck f.file };
+
     ghost seen_may_stay = { λ f. F.FileBytes.seen_may_stay f.file };
+
+    ghost seen_is_shown = { λ f usable. F.FileBytes.seen_is_shown f.file usable };
 
     fn len(&self) -> u64 {
         self.file.len()

@@ -260,6 +260,93 @@ fn a_kill_at_each_change_loses_nothing(rt: HostRuntime) -> Result<(), Fail> {
     Ok(())
 }
 
+/// Puts the second word of the boot of other bytes into bytes of a file.
+fn take_boot(bytes: &mut Vec<u8>, others: &[u8]) {
+    if bytes.len() >= 80 && others.len() >= 80 {
+        bytes[72..80].copy_from_slice(&others[72..80]);
+    }
+}
+
+/// What may be read after a failed sync: bytes as they are now, or older ones in each block whose number is even, odd,
+/// or any. The second word of the boot is the newest.
+fn torn(alloc: Global, old: &[u8], new: &[u8], which: usize) -> Option<Vec<u8>> {
+    let mut bytes = Vec::new(alloc);
+    for at in 0..old.len().min(new.len()) {
+        let is_old = which == 2 || at / 512 % 2 == which;
+        bytes.push(if is_old { old[at] } else { new[at] }).ok()?;
+    }
+    take_boot(&mut bytes, new);
+    Some(bytes)
+}
+
+/// The bytes of a file after the first of the steps.
+fn bytes_after(alloc: Global, steps: usize) -> Option<Vec<u8>> {
+    let mut drive = opened(alloc, formatted(alloc, &GEOMETRY)?, Before)?;
+    for number in 0..steps {
+        if !step(alloc, &mut drive, number) {
+            return None;
+        }
+    }
+    copied(alloc, drive.into_zones().into_file().bytes())
+}
+
+/// What is left of a file in which a sync fails after that many others, of an open or of a step.
+fn failing(alloc: Global, syncs: u64, answered: usize) -> Option<MemoryFile> {
+    let drive = opened(alloc, formatted(alloc, &GEOMETRY)?, Before)?;
+    let file = drive.into_zones().into_file();
+    let left = copied(alloc, file.bytes())?;
+    let mut file = after_loss(file, &left)?;
+    file.fail_sync(syncs);
+    let found = match open(alloc, &mut file, &Before) {
+        Ok(found) => found,
+        Err(OpenFault::Unsynced(_)) if answered == 0 => return Some(file),
+        Err(_) => return None,
+    };
+    let mut drive = serve(alloc, file, Before, found);
+    if done(alloc, &mut drive)?.len() != answered {
+        return None;
+    }
+    Some(drive.into_zones().into_file())
+}
+
+/// A sync fails after that many others. In the same boot another program reads older blocks. It has to find the drive as
+/// after the last flush, or as the one that failed has it. Those are steps, and the next one failed.
+fn survives_a_failed_sync(
+    alloc: Global,
+    syncs: u64,
+    which: usize,
+    steps: (usize, usize),
+) -> Option<bool> {
+    let (flushed, last) = steps;
+    let mut drive = opened(alloc, formatted(alloc, &GEOMETRY)?, Before)?;
+    let wanted = done(alloc, &mut drive)?;
+    let mut file = failing(alloc, syncs, if syncs == 0 { 0 } else { last + 1 })?;
+    let bytes = torn(alloc, &bytes_after(alloc, flushed)?, file.bytes(), which)?;
+    if file.open_again(&bytes) != Ok(true) {
+        return None;
+    }
+    let mut drive = opened(alloc, file, Before)?;
+    let found = shown(alloc, &mut drive)?;
+    Some(wanted.get(flushed) == Some(&found) || wanted.get(last) == Some(&found))
+}
+
+/// The open syncs once, and each of the two flushes twice.
+fn survives_all_failed_syncs(alloc: Global) -> bool {
+    (0..3).all(|which| {
+        survives_a_failed_sync(alloc, 0, which, (0, 0)) == Some(true)
+            && survives_a_failed_sync(alloc, 1, which, (0, 2)) == Some(true)
+            && survives_a_failed_sync(alloc, 2, which, (0, 2)) == Some(true)
+            && survives_a_failed_sync(alloc, 3, which, (3, 6)) == Some(true)
+            && survives_a_failed_sync(alloc, 4, which, (3, 6)) == Some(true)
+    })
+}
+
+#[test]
+fn a_failed_sync_loses_nothing_that_was_flushed(rt: HostRuntime) -> Result<(), Fail> {
+    assert!(rt; survives_all_failed_syncs(rt.alloc()));
+    Ok(())
+}
+
 /// A drive in memory: an opened zone with two blocks, one Full with all six, one Full with one, and an Empty one.
 fn in_memory(alloc: Global) -> Option<Drive> {
     let mut drive = Drive::new(alloc, GEOMETRY).ok()?;
@@ -293,9 +380,9 @@ fn a_stored_drive_is_found(rt: HostRuntime) -> Result<(), Fail> {
     Ok(())
 }
 
-/// How many changes of the file a store of that drive takes: the blocks of four zones, three words in each table, the
-/// seven words of the shape, a sync, the first word, and a sync.
-const CHANGES: u64 = 20;
+/// How many changes of the file a store of that drive takes: six blocks of zeros, the blocks of four zones, three words in
+/// each table, the seven words of the shape, a sync, the first word, and a sync.
+const CHANGES: u64 = 26;
 
 /// What an open says of a file in which that drive was stored up to a change.
 fn opened_after(alloc: Global, changes: u64) -> Option<Result<(), OpenFault>> {

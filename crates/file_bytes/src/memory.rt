@@ -5,7 +5,7 @@ ghost use Rattle.std.specs.List.{AllByRecursion, splice};
 ghost use Rattle.std.specs.Int.{to_le_bytes, w64};
 ghost use Rattle.sqlite_disk.specs.Disk.{Follows, Holds, Only};
 ghost use Rattle.file_bytes.specs.Changes.{SameBeside};
-ghost use Rattle.file_bytes.specs.Pending.{AreLeft, IsOutside, MayLeave};
+ghost use Rattle.file_bytes.specs.Pending.{AreLeft, HasTold, IsOutside, IsUntold, MayLeave, MayShow};
 
 use crate::file::FileBytes;
 use std::alloc::{AllocError, Global};
@@ -17,10 +17,13 @@ use std::marker::Model;
 pub struct Range {
     pub start: u64,
     pub length: u64,
+    /// It is a word that was written after a sync had failed.
+    pub told: bool,
 }
 
-/// A file in memory, which may leave after a loss of power all that the contract of a file allows. Its changes and syncs
-/// fail only where memory is missing. After a sync that failed, only `lose_power` makes it usable again.
+/// A file in memory, which may leave after a loss of power all that the contract of a file allows, and shows all that it
+/// allows to whoever opens it after a sync that failed. Its changes fail only where memory is missing, its syncs also
+/// where that was asked. Then only `lose_power` and `open_again` make it usable again.
 #[derive(Drop)]
 pub struct MemoryFile {
     bytes: Vec<u8>,
@@ -29,6 +32,9 @@ pub struct MemoryFile {
     /// What was written since.
     changed: Vec<Range>,
     usable: bool,
+    stuck: bool,
+    /// How many syncs are done before one fails.
+    syncs: u64,
 }
 
 impl Model for MemoryFile {
@@ -42,6 +48,7 @@ impl Model for MemoryFile {
       synced = f.synced.items;
       changed = f.changed.items;
       usable = f.usable;
+      stuck = f.stuck;
     } };
 
     ghost invariant = { λ f. AreLeft f.changed.items f.synced.items f.bytes.items };
@@ -59,6 +66,13 @@ fn is_outside(ranges: &[Range], at: u64) -> bool
     ranges.iter().all(|range| at < range.start || at - range.start >= range.length)
 }
 
+/// Whether an offset is in no word that was written after a sync had failed.
+fn is_untold(ranges: &[Range], at: u64) -> bool
+    ensures { IsTrue result ↔ AllByRecursion (IsUntold at) ranges.now }
+{
+    ranges.iter().all(|range| !range.told || at < range.start || at - range.start >= range.length)
+}
+
 impl MemoryFile {
     /// A file of that many zeros, which is synced; an error where memory is missing.
     pub fn new(alloc: Global, len: usize) -> Result<MemoryFile, AllocError>
@@ -67,6 +81,7 @@ impl MemoryFile {
           synced = replicate len 0;
           changed = [];
           usable = true;
+          stuck = false;
         }) }
     {
         let mut bytes = Vec::new(alloc);
@@ -78,7 +93,16 @@ impl MemoryFile {
             synced,
             changed: Vec::new(alloc),
             usable: true,
+            stuck: false,
+            syncs: u64::MAX,
         })
+    }
+
+    /// From now on that many syncs are done, and then one fails.
+    pub fn fail_sync(&mut self, after: u64)
+        ensures { self.new ≡ self.old }
+    {
+        self.syncs = after;
     }
 
     /// The bytes that a read returns.
@@ -109,6 +133,7 @@ impl MemoryFile {
           synced = left.now;
           changed = [];
           usable = true;
+          stuck = false;
         }) }
         ensures kept { IfOk result (λ done. (done ≡ false) → self.new ≡ self.old) }
         ensures err { OnErr result (self.new ≡ self.old) }
@@ -122,6 +147,45 @@ impl MemoryFile {
         self.bytes = bytes;
         self.changed.clear();
         self.usable = true;
+        self.stuck = false;
+        Ok(true)
+    }
+
+    /// Whether these bytes have each word that was written after a sync had failed.
+    fn has_told(&self, shown: &[u8]) -> bool
+        requires { length shown.now ≡ length self.now.bytes }
+        ensures { IsTrue result ↔ HasTold self.now.changed self.now.bytes shown.now }
+    {
+        (0..self.bytes.len()).all(|at| {
+            shown[at] == self.bytes[at] || is_untold(&self.changed, at as u64)
+        })
+    }
+
+    /// Whether whoever opens the file later, without a loss of power, may read these bytes.
+    pub fn may_show(&self, shown: &[u8]) -> bool
+        ensures { IsTrue result ↔ MayShow self.now shown.now }
+    {
+        if self.usable {
+            return shown == self.bytes.as_slice();
+        }
+        self.may_leave(shown) && self.has_told(shown)
+    }
+
+    /// Another program opens the file, and reads these bytes, if it may. A loss of power may leave the same as before. If
+    /// not, or where memory is missing, nothing changes.
+    pub fn open_again(&mut self, shown: &[u8]) -> Result<bool, AllocError>
+        ensures shown { IfOk result (λ done. IsTrue done ↔ MayShow self.old shown.now) }
+        ensures opened { IfOk result (λ done. IsTrue done
+            → self.new ≡ record self.old { bytes = shown.now; usable = true; stuck = false }) }
+        ensures kept { IfOk result (λ done. (done ≡ false) → self.new ≡ self.old) }
+        ensures err { OnErr result (self.new ≡ self.old) }
+    {
+        if !self.may_show(shown) {
+            return Ok(false);
+        }
+        self.bytes = copy_of(*self.bytes.allocator(), shown)?;
+        self.usable = true;
+        self.stuck = false;
         Ok(true)
     }
 }
@@ -151,20 +215,27 @@ fn clear(bytes: &mut Vec<u8>, at: usize, count: usize)
 }
 
 impl MemoryFile {
-    /// Writes these bytes from an offset on. Without memory for that nothing changes.
-    fn change(&mut self, at: u64, part: &[u8]) -> Result<(), AllocError>
-        requires { at + length part.now ≤ length self.old.bytes }
+    /// Writes these bytes from an offset on. `told`: they are a word, and a sync has failed. Without memory for that
+    /// nothing changes.
+    fn change(&mut self, at: u64, part: &[u8], told: bool) -> Result<(), AllocError>
+        requires within { at + length part.now ≤ length self.old.bytes }
+        requires told { self.old.usable ≡ true → told ≡ false }
         ensures written { OnOk result (Holds self.new.bytes at part.now) }
         ensures others { SameBeside at (length part.now) self.old.bytes self.new.bytes }
         ensures leaves { Follows (SameBeside at (length part.now)) (MayLeave self.old) (MayLeave self.new) }
         ensures allows { OnOk result ((before after : List ℕ) → MayLeave self.old before
             → SameBeside at (length part.now) before after → MayLeave self.new after) }
+        ensures shows { Follows (SameBeside at (length part.now)) (MayShow self.old) (MayShow self.new) }
+        ensures shown { OnOk result ((self.old.usable ≡ false → told ≡ true) → (c : List ℕ) → MayShow self.new c
+            → Holds c at part.now) }
         ensures usable { self.new.usable ≡ self.old.usable }
+        ensures stuck { self.new.stuck ≡ self.old.stuck }
         ensures err { OnErr result (self.new ≡ self.old) }
     {
         let range = Range {
             start: at,
             length: part.len() as u64,
+            told,
         };
         self.changed.push(range)?;
         overwrite(&mut self.bytes, at as usize, part);
@@ -177,9 +248,15 @@ impl FileBytes for MemoryFile {
 
     ghost may_leave = { λ f. MayLeave f };
 
+    ghost may_show = { λ f. MayShow f };
+
     ghost is_usable = { λ f. f.usable };
 
+    ghost is_stuck = { λ f. f.stuck };
+
     ghost seen_may_stay = { λ f. inl refl };
+
+    ghost seen_is_shown = { λ f usable shown may. may.seen usable };
 
     fn len(&self) -> u64 {
         self.bytes.len() as u64
@@ -204,9 +281,10 @@ impl FileBytes for MemoryFile {
         ensures allows { OnOk result ((before after : List ℕ) → MayLeave self.old before
             → SameBeside at (length bytes.now) before after → MayLeave self.new after) }
         ensures usable { self.new.usable ≡ self.old.usable }
+        ensures stuck { self.new.stuck ≡ self.old.stuck }
         ensures err { OnErr result (self.new ≡ self.old) }
     {
-        self.change(at, bytes).map_err(|_| no_memory())
+        self.change(at, bytes, false).map_err(|_| no_memory())
     }
 
     fn write_word(&mut self, at: u64, word: u64) -> io::Result<()>
@@ -218,10 +296,19 @@ impl FileBytes for MemoryFile {
         ensures leaves { Follows (SameBeside at 8) (MayLeave self.old) (MayLeave self.new) }
         ensures allows { OnOk result ((before after : List ℕ) → MayLeave self.old before
             → SameBeside at 8 before after → MayLeave self.new after) }
+        ensures shows { Follows (SameBeside at 8) (MayShow self.old) (MayShow self.new) }
+        ensures shown { OnOk result ((c : List ℕ) → MayShow self.new c → Holds c at (to_le_bytes w64 word)) }
         ensures usable { self.new.usable ≡ self.old.usable }
-        ensures err { OnErr result (self.new ≡ self.old) }
+        ensures stuck { OnOk result (self.new.stuck ≡ self.old.stuck) }
+        ensures sticks { OnErr result (IsTrue self.new.stuck) }
+        ensures err { OnErr result (self.new ≡ record self.old { stuck = true }) }
     {
-        self.write(at, &word.to_le_bytes())
+        let told = !self.usable;
+        if self.change(at, &word.to_le_bytes(), told).is_err() {
+            self.stuck = true;
+            return Err(no_memory());
+        }
+        Ok(())
     }
 
     fn sync(&mut self) -> io::Result<()>
@@ -230,9 +317,16 @@ impl FileBytes for MemoryFile {
         ensures seen { self.new.bytes ≡ self.old.bytes }
         ensures usable { self.new.usable ≡ is_ok result }
         ensures leaves { (c : List ℕ) → MayLeave self.new c → MayLeave self.old c }
+        ensures shows { OnErr result ((c : List ℕ) → MayShow self.new c → MayLeave self.old c) }
+        ensures stuck { self.new.stuck ≡ self.old.stuck }
         ensures err { OnErr result ((c : List ℕ) → MayLeave self.old c → MayLeave self.new c) }
     {
         self.usable = false;
+        if self.syncs == 0 {
+            self.syncs = u64::MAX;
+            return Err(io::Error::other("the sync fails"));
+        }
+        self.syncs -= 1;
         let alloc = *self.bytes.allocator();
         self.synced = copy_of(alloc, &self.bytes).map_err(|_| no_memory())?;
         self.changed.clear();
@@ -245,6 +339,7 @@ impl FileBytes for MemoryFile {
         let range = Range {
             start: at,
             length: count,
+            told: false,
         };
         let Ok(()) = self.changed.push(range) else {
             return;

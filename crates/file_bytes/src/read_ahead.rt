@@ -15,7 +15,9 @@ fn fill<F: FileBytes>(file: &mut F, kept: &mut Kept, at: u64, count: usize) -> b
     ensures kept { AreKept (F.FileBytes.seen file.new) kept.new }
     ensures seen { F.FileBytes.seen file.new ≡ F.FileBytes.seen file.old }
     ensures leaves { (c : List ℕ) → F.FileBytes.may_leave file.new c ↔ F.FileBytes.may_leave file.old c }
+    ensures shows { (c : List ℕ) → F.FileBytes.may_show file.new c ↔ F.FileBytes.may_show file.old c }
     ensures usable { F.FileBytes.is_usable file.new ≡ F.FileBytes.is_usable file.old }
+    ensures stuck { F.FileBytes.is_stuck file.new ≡ F.FileBytes.is_stuck file.old }
 {
     if kept.bytes.resize(count, 0).is_err() {
         kept.forget();
@@ -37,7 +39,9 @@ fn read_wide<F: FileBytes>(file: &mut F, kept: &mut Kept, at: u64, room: &mut [u
     ensures kept { AreKept (F.FileBytes.seen file.new) kept.new }
     ensures seen { F.FileBytes.seen file.new ≡ F.FileBytes.seen file.old }
     ensures leaves { (c : List ℕ) → F.FileBytes.may_leave file.new c ↔ F.FileBytes.may_leave file.old c }
+    ensures shows { (c : List ℕ) → F.FileBytes.may_show file.new c ↔ F.FileBytes.may_show file.old c }
     ensures usable { F.FileBytes.is_usable file.new ≡ F.FileBytes.is_usable file.old }
+    ensures stuck { F.FileBytes.is_stuck file.new ≡ F.FileBytes.is_stuck file.old }
 {
     let ahead = kept.ahead(at, room.len(), file.len());
     if ahead == 0 || !fill(file, kept, at, ahead) {
@@ -56,7 +60,9 @@ fn read<F: FileBytes>(file: &mut F, kept: &mut Kept, at: u64, room: &mut [u8]) -
     ensures kept { AreKept (F.FileBytes.seen file.new) kept.new }
     ensures seen { F.FileBytes.seen file.new ≡ F.FileBytes.seen file.old }
     ensures leaves { (c : List ℕ) → F.FileBytes.may_leave file.new c ↔ F.FileBytes.may_leave file.old c }
+    ensures shows { (c : List ℕ) → F.FileBytes.may_show file.new c ↔ F.FileBytes.may_show file.old c }
     ensures usable { F.FileBytes.is_usable file.new ≡ F.FileBytes.is_usable file.old }
+    ensures stuck { F.FileBytes.is_stuck file.new ≡ F.FileBytes.is_stuck file.old }
 {
     if kept.has(at, room.len()) {
         kept.copy(at, room);
@@ -116,9 +122,15 @@ impl<F: FileBytes + Drop> FileBytes for ReadAheadFile<F> {
 
     ghost may_leave = { λ f. F.FileBytes.may_leave f };
 
+    ghost may_show = { λ f. F.FileBytes.may_show f };
+
     ghost is_usable = { λ f. F.FileBytes.is_usable f };
 
+    ghost is_stuck = { λ f. F.FileBytes.is_stuck f };
+
     ghost seen_may_stay = { λ f. F.FileBytes.seen_may_stay f };
+
+    ghost seen_is_shown = { λ f usable. F.FileBytes.seen_is_shown f usable };
 
     fn len(&self) -> u64 {
         self.inner.len()

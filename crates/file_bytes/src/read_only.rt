@@ -192,9 +192,16 @@ impl<F: FileBytes + Drop> FileBytes for ReadOnlyFile<F> {
 
     ghost may_leave = { λ f left. left ≡ overlaid F.FileBytes.seen f };
 
+    ghost may_show = { λ f shown. shown ≡ overlaid F.FileBytes.seen f };
+
     ghost is_usable = { λ _. true };
 
+    // No sync fails, so it is of no use to anybody.
+    ghost is_stuck = { λ _. true };
+
     ghost seen_may_stay = { λ _. refl };
+
+    ghost seen_is_shown = { λ f usable shown is. is };
 
     fn len(&self) -> u64 {
         self.size

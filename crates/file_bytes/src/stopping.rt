@@ -1,9 +1,10 @@
-ghost use Rattle.std.specs.Prelude.{◌≡◌, ◌&&◌, ◌+◌, ◌-◌, ◌%◌, ◌≤◌, ◌↔◌, List, ℕ, false, is_ok, length, min};
-ghost use Rattle.std.specs.Prelude.{not, IsErr, IsTrue, OnErr, OnOk};
+ghost use Rattle.std.specs.Prelude.{◌≡◌, ◌&&◌, ◌||◌, ◌+◌, ◌-◌, ◌%◌, ◌≤◌, ◌↔◌, List, ℕ, false, is_ok, length, min};
+ghost use Rattle.std.specs.Prelude.{not, true, IsErr, IsTrue, OnErr, OnOk};
+ghost use Rattle.std.proofs.lemmas.Bool.{and_parts};
 ghost use Rattle.std.specs.Int.{to_le_bytes, w64};
 ghost use Rattle.sqlite_disk.specs.Disk.{Follows, Holds, Only};
 ghost use Rattle.file_bytes.specs.Changes.{SameBeside};
-ghost use Rattle.file_bytes.specs.Stopping.{StaysUsable};
+ghost use Rattle.file_bytes.specs.Stopping.{StaysStuck, StaysUsable};
 
 use crate::file::FileBytes;
 use std::io;
@@ -20,19 +21,22 @@ pub struct StoppingFile<F: FileBytes + Drop> {
     torn: usize,
     /// A sync was refused.
     refused: bool,
+    /// A word was refused.
+    stuck: bool,
 }
 
 impl<F: FileBytes + Drop> StoppingFile<F> {
     /// A file that does `changes` more changes of the one within. If a write of a range comes next, its first `torn`
     /// bytes are written. That change and each later one fail, as an error of the kind `Other`.
     pub fn new(inner: F, changes: u64, torn: usize) -> StoppingFile<F>
-        ensures { result ≡ record { inner = inner; changes = changes; torn = torn; refused = false } }
+        ensures { result ≡ record { inner = inner; changes = changes; torn = torn; refused = false; stuck = false } }
     {
         StoppingFile {
             inner,
             changes,
             torn,
             refused: false,
+            stuck: false,
         }
     }
 
@@ -66,9 +70,15 @@ impl<F: FileBytes + Drop> FileBytes for StoppingFile<F> {
 
     ghost may_leave = { λ f. F.FileBytes.may_leave f.inner };
 
+    ghost may_show = { λ f. F.FileBytes.may_show f.inner };
+
     ghost is_usable = { λ f. F.FileBytes.is_usable f.inner && not f.refused };
 
+    ghost is_stuck = { λ f. F.FileBytes.is_stuck f.inner || f.stuck };
+
     ghost seen_may_stay = { λ f. F.FileBytes.seen_may_stay f.inner };
+
+    ghost seen_is_shown = { λ f usable. F.FileBytes.seen_is_shown f.inner (and_parts _ _ usable).0 };
 
     fn len(&self) -> u64 {
         self.inner.len()
@@ -86,6 +96,7 @@ impl<F: FileBytes + Drop> FileBytes for StoppingFile<F> {
         ensures leaves { Follows (SameBeside at (length bytes.now)) (F.FileBytes.may_leave self.old.inner)
             (F.FileBytes.may_leave self.new.inner) }
         ensures usable { StaysUsable F.FileBytes.is_usable self.old self.new }
+        ensures stuck { StaysStuck F.FileBytes.is_stuck self.old self.new }
         ensures stops { self.old.changes ≡ 0 → IsErr result }
         ensures front { self.old.changes ≡ 0 → SameBeside at (min self.old.torn (length bytes.now))
             (F.FileBytes.seen self.old.inner) (F.FileBytes.seen self.new.inner) }
@@ -112,8 +123,15 @@ impl<F: FileBytes + Drop> FileBytes for StoppingFile<F> {
         ensures others { SameBeside at 8 (F.FileBytes.seen self.old.inner) (F.FileBytes.seen self.new.inner) }
         ensures leaves { Follows (SameBeside at 8) (F.FileBytes.may_leave self.old.inner)
             (F.FileBytes.may_leave self.new.inner) }
+        ensures shows { Follows (SameBeside at 8) (F.FileBytes.may_show self.old.inner)
+            (F.FileBytes.may_show self.new.inner) }
+        ensures shown { OnOk result ((c : List ℕ) → F.FileBytes.may_show self.new.inner c
+            → Holds c at (to_le_bytes w64 word)) }
         ensures usable { StaysUsable F.FileBytes.is_usable self.old self.new }
+        ensures stuck { OnOk result (StaysStuck F.FileBytes.is_stuck self.old self.new) }
+        ensures sticks { OnErr result (IsTrue (F.FileBytes.is_stuck self.new.inner || self.new.stuck)) }
         ensures stops { self.old.changes ≡ 0 → IsErr result }
+        ensures refuses { self.old.changes ≡ 0 → self.new.stuck ≡ true }
         ensures idle { self.old.changes ≡ 0 → self.new.inner ≡ self.old.inner }
         ensures torn { self.old.changes ≡ 0 → self.new.torn ≡ 0 }
         ensures not_torn { 1 ≤ self.old.changes → self.new.torn ≡ self.old.torn }
@@ -123,6 +141,7 @@ impl<F: FileBytes + Drop> FileBytes for StoppingFile<F> {
             return self.inner.write_word(at, word);
         }
         self.torn = 0;
+        self.stuck = true;
         Err(stopped())
     }
 
@@ -134,6 +153,9 @@ impl<F: FileBytes + Drop> FileBytes for StoppingFile<F> {
         ensures usable { (F.FileBytes.is_usable self.new.inner && not self.new.refused) ≡ is_ok result }
         ensures leaves { (c : List ℕ) → F.FileBytes.may_leave self.new.inner c
             → F.FileBytes.may_leave self.old.inner c }
+        ensures shows { OnErr result ((c : List ℕ) → F.FileBytes.may_show self.new.inner c
+            → F.FileBytes.may_leave self.old.inner c) }
+        ensures stuck { StaysStuck F.FileBytes.is_stuck self.old self.new }
         ensures stops { self.old.changes ≡ 0 → IsErr result }
         ensures idle { self.old.changes ≡ 0 → self.new.inner ≡ self.old.inner }
         ensures torn { self.old.changes ≡ 0 → self.new.torn ≡ 0 }
@@ -156,6 +178,7 @@ impl<F: FileBytes + Drop> FileBytes for StoppingFile<F> {
         ensures leaves { Follows (SameBeside at count) (F.FileBytes.may_leave self.old.inner)
             (F.FileBytes.may_leave self.new.inner) }
         ensures usable { StaysUsable F.FileBytes.is_usable self.old self.new }
+        ensures stuck { StaysStuck F.FileBytes.is_stuck self.old self.new }
         ensures idle { self.old.changes ≡ 0 → self.new.inner ≡ self.old.inner }
         ensures torn { self.new.torn ≡ self.old.torn }
         ensures left { self.new.changes ≡ self.old.changes }

@@ -1,8 +1,9 @@
 -- A file of a drive is opened.
 use Rattle.std.proofs.Common.{◌≡◌, ◌⊎◌, ℕ, zero, suc, ◌+◌, ◌/◌, ◌%◌, ◌<◌, ◌≤◌, ◌^◌, Bool, true, false, cond, eqb, List, [], ◌∷◌, length, map, get_or, slice_index, drop, None, refl, sym, ap, ◌∙◌, subst, inl, inr, arith}
+use Rattle.std.specs.Prelude.{not}
 use Rattle.std.specs.List.{AllByRecursion, count_by}
 use Rattle.std.proofs.Math.Nat.{mul-div_cancel}
-use Rattle.std.proofs.lemmas.Bool.{eq-eqb, le-ltb}
+use Rattle.std.proofs.lemmas.Bool.{and_left, and_right, cases_eq, eq-eqb, le-ltb, ne_eqb}
 use Rattle.std.proofs.lemmas.List.{length-map}
 use Rattle.nvme_wire.specs.declared.zone_state.ZoneState.{ZoneState}
 use Rattle.zone_states.specs.declared.geometry.Geometry.{Geometry}
@@ -19,7 +20,7 @@ use Rattle.drive_port.proofs.ClosingLaws.{active-restarted, may_hold-restarted, 
 use Rattle.zone_drive.proofs.ZonesLaws.{block-some, may_hold-is, may_hold-true}
 use Rattle.file_drive.specs.Faults.{IsApartFault, AreTableFaults, IsHeadFault, IsOpenFault, IsReadFault, IsTableFault, narrow, shape_in}
 use Rattle.file_drive.specs.Finds.{Finds}
-use Rattle.file_drive.specs.Head.{boot_in, is_known, is_of_boot, magic, shape_words}
+use Rattle.file_drive.specs.Head.{at_second, boot_in, is_known, is_of_boot, magic, shape_words}
 use Rattle.file_drive.specs.InFile.{AreApart, AreWithin, AreWords, CanOpen, IsServed, Words}
 use Rattle.file_drive.specs.Layout.{at_table, file_length, word_in}
 use Rattle.file_drive.specs.Opening.{AreFew, Holds, IsTable, IsWord, opened_table, opened_zones}
@@ -186,6 +187,10 @@ module _ (g : Geometry) (boot : Boot) (file : List ℕ) (in_range : IsInRange g)
     | inl short ↦ absurd (cc short.1)
     | inr rest ↦ elim rest [ inl none ↦ absurd none | inr rest ↦ elim rest [ inl past ↦ absurd past.2 | inr none ↦ none ] ]
   ]
+  no-head-fault (faults.Unsynced error) is = elim is [
+    | inl short ↦ absurd (cc short.1)
+    | inr rest ↦ elim rest [ inl none ↦ absurd none | inr rest ↦ elim rest [ inl past ↦ absurd past.2 | inr none ↦ none ] ]
+  ]
   no-head-fault (faults.Input error) is = tt
   no-head-fault faults.OutOfMemory is = tt
 
@@ -202,6 +207,7 @@ module _ (g : Geometry) (boot : Boot) (file : List ℕ) (in_range : IsInRange g)
     ]
     no-table words table faults.Limits past = absurd (past table.few)
     no-table words table (faults.Input error) none = tt
+    no-table words table (faults.Unsynced error) none = none
     no-table words table faults.OutOfMemory none = tt
 
     no-apart : (fault : OpenFault) → IsApartFault flushed (map entry_of opened) fault → IsReadFault fault
@@ -213,6 +219,7 @@ module _ (g : Geometry) (boot : Boot) (file : List ℕ) (in_range : IsInRange g)
     no-apart (faults.Table number) past = absurd (past.1 (apart number past.0))
     no-apart faults.Limits none = none
     no-apart (faults.Input error) none = tt
+    no-apart (faults.Unsynced error) none = none
     no-apart faults.OutOfMemory none = tt
 
     no-tables : (fault : OpenFault) → AreTableFaults boot file fault → IsReadFault fault
@@ -234,6 +241,7 @@ module _ (g : Geometry) (boot : Boot) (file : List ℕ) (in_range : IsInRange g)
     opens (faults.Table number) is = no-tables (faults.Table number) is
     opens faults.Limits is = no-tables faults.Limits is
     opens (faults.Input error) is = tt
+    opens (faults.Unsynced error) is = no-head-fault (faults.Unsynced error) is
     opens faults.OutOfMemory is = tt
 
     pub finds : Finds g boot file (opened_zones g boot file)
@@ -268,6 +276,15 @@ of-boot boot file is known =
     let first : eqb (boot_in file).first boot.first ≡ true = eq-eqb _ _ (ap (λ (b : Boot). b.first) is) in
     let second : eqb (boot_in file).second boot.second ≡ true = eq-eqb _ _ (ap (λ (b : Boot). b.second) is) in
     rw (known, first, second) refl
+
+-- no system is in the boot that a head names without its second word
+pub out-of-boot : (boot : Boot) (file : List ℕ) → word_in file at_second ≡ 0 → is_of_boot boot file ≡ false
+out-of-boot boot file out = elim (cases_eq boot.second 0) [
+  | inl zero-is ↦ and_left (is_known boot) _ (ap not (eq-eqb boot.second 0 zero-is))
+  | inr some ↦
+      let second : eqb (boot_in file).second boot.second ≡ false = ne_eqb (boot_in file).second boot.second (λ e. some (sym e ∙ out)) in
+      and_right (is_known boot) _ (and_right (eqb (boot_in file).first boot.first) _ second)
+]
 
 -- a file that is served, in the same boot
 pub kill-finds : (g : Geometry) (boot : Boot) (file : List ℕ) (entries : List Entry) (live flushed : ℕ) (words : Words) → IsServed g boot file entries live flushed words

@@ -1,8 +1,11 @@
 -- A file of zeros is made a drive.
 use Rattle.std.proofs.Common.{◌≡◌, ℕ, zero, suc, ◌+◌, ◌-◌, ◌*◌, ◌%◌, ◌<◌, ◌≤◌, Bool, true, false, cond, List, [], ◌∷◌, ◌++◌, length, map, replicate, take, slice_index, refl, sym, ap, ◌∙◌, subst, inl, inr, arith}
 use Rattle.std.specs.List.{AllByRecursion, count_by}
+use Rattle.std.proofs.lemmas.Bool.{cases_lt}
+use Rattle.std.proofs.lemmas.Grind.{same_number_lists}
+use Rattle.sqlite_disk.specs.Disk.{Holds as HasBytes}
 use Rattle.std.specs.Int.{w64, from_le_bytes}
-use Rattle.std.proofs.lemmas.List.{drop-replicate, length-replicate, take-replicate, take_more}
+use Rattle.std.proofs.lemmas.List.{drop-replicate, get_or-replicate, length-replicate, take-replicate, take_more}
 use Rattle.nvme_wire.specs.declared.zone_state.ZoneState.TheVariants.{Empty}
 use Rattle.zone_states.specs.declared.geometry.Geometry.{Geometry}
 use Rattle.zone_states.specs.Geometry.{IsInRange}
@@ -48,6 +51,25 @@ word-zero n at low = ap (from_le_bytes w64) (part-zeros n at low)
 pub words-zero : (n at count : ℕ) → at + 8 * count ≤ n → words_in (zeros n) at count ≡ zeros count
 words-zero n at zero low = refl
 words-zero n at (suc count) low = rw (word-zero n at (omega (arith, low)), words-zero n (at + 8) count (omega (arith, low))) refl
+
+-- zeros that are written to zeros
+pub zeros-again : (n at k : ℕ) (new : List ℕ) → at + k ≤ n → SameBeside at k (zeros n) new → HasBytes new at (zeros k) → new ≡ zeros n
+zeros-again n at k new fits beside put =
+    let long : length new ≡ length (zeros n) = beside.long in
+    same_number_lists new (zeros n) long (λ i low. elim (cases_lt i at) [
+      | inl before ↦ beside.below i before
+      | inr from ↦ elim (cases_lt i (at + k)) [
+        | inl inside ↦
+            let j : ℕ = i - at in
+            let is : at + j ≡ i = omega (arith, from) in
+            let small : j < k = omega (arith, from, inside) in
+            ap (slice_index new) (sym is)
+            ∙ put.each j (omega (arith, small, length-replicate {A = ℕ} k 0))
+            ∙ get_or-replicate k j 0 0 small
+            ∙ sym (get_or-replicate n i 0 0 (omega (arith, inside, fits)))
+        | inr after ↦ beside.above i after
+      ]
+    ])
 
 -- ---- a table of zeros
 

@@ -4,10 +4,11 @@ use Rattle.std.proofs.lemmas.Grind.{get_or_default_zero}
 use Rattle.std.proofs.lemmas.List.{get_or-map, length-map}
 use Rattle.sqlite_disk.specs.Disk.{Follows}
 use Rattle.nvme_wire.specs.declared.zone_state.ZoneState.TheVariants.{Empty}
+use Rattle.zone_states.specs.Stored.{StoredZone}
 use Rattle.zone_drive.specs.Table.{stored_at}
 use Rattle.file_bytes.specs.Changes.{SameBeside}
 use Rattle.file_bytes.specs.declared.file.FileBytes.{Ghosts as FileGhosts}
-use Rattle.file_drive.specs.InFile.{AllDurable, IsServed, KeepsOthers, KeepsPromise, Words, durable_zones, entry_at, flushed_at, is_apart, other_table, promised_zones, spare_table}
+use Rattle.file_drive.specs.InFile.{AllDurable, IsOwned, IsServed, KeepsOthers, KeepsPromise, Words, durable_zones, entry_at, flushed_at, is_apart, other_table, promised_zones, spare_table}
 use Rattle.file_drive.specs.Layout.{SamePlaces, at_live, at_place, at_table, file_length}
 use Rattle.file_drive.specs.Tables.{entry_of, place_of, words_in, zones_in}
 use Rattle.file_drive.specs.declared.boot.System.{Ghosts as SystemGhosts}
@@ -16,6 +17,7 @@ use Rattle.file_drive.specs.declared.zones.FileZones.TheInside.{Inside}
 use Rattle.file_drive.specs.declared.zones.FileZones.TheView.{invariant}
 use Rattle.file_drive.proofs.ApartLaws.{apart-clear, free-clear}
 use Rattle.file_drive.proofs.DataLaws.{IsClear, data-keeps, data-promise, data-promises, data-served, data-within, data-zones, within-at}
+use Rattle.file_drive.proofs.OutLaws.{same-owned, still-owned}
 use Rattle.file_drive.proofs.PlaceLaws.{place-low, zone-ends}
 use Rattle.file_drive.proofs.ServedLaws.{durable-same, durable-stays, length-safe, other-promise, other-promises, other-same, promised-durable, put-promise, put-promises, put-same, served-other, served-spare, spare-promise, spare-promises, spare-same, switch-promise, switch-promises}
 use Rattle.file_drive.proofs.StoreLaws.{entry-read, no_entry, stored-length}
@@ -45,8 +47,8 @@ module _ {F S : Type 0} (f : FileGhosts F) (s : SystemGhosts S) (z : Inside F S)
 
   -- all is as before in a file that shows the same, and of which a loss of power leaves no more
   pub shown-kept : (new : F) → f.seen new ≡ f.seen z.file → f.is_usable new ≡ f.is_usable z.file → ((bytes : List ℕ) → f.may_leave new bytes → f.may_leave z.file bytes)
-      → invariant F S f s (record z { file = new })
-  shown-kept new shown usable fewer = (
+      → f.is_stuck new ≡ f.is_stuck z.file → ((bytes : List ℕ) → f.may_show new bytes → f.may_show z.file bytes) → invariant F S f s (record z { file = new })
+  shown-kept new shown usable fewer stuck shows = (
     held.0,
     held.1,
     held.2,
@@ -57,7 +59,15 @@ module _ {F S : Type 0} (f : FileGhosts F) (s : SystemGhosts S) (z : Inside F S)
     durable-stays f.may_leave z.geometry z.file new _ _ (ap (λ (file : List ℕ). durable_zones z.geometry file z.safe.items z.other.items z.unsure) (sym shown)) fewer held.7,
     held.8,
     held.9,
+    rw shown (same-owned f.may_leave f.may_show f.is_usable f.is_stuck z.geometry s.boot z.named _ z.file new usable stuck shows held.10),
   )
+
+  -- the head names this boot as before where the file is as usable as before
+  pub usable-owned : (durable : List (List StoredZone)) → z.failed ≡ false → (new : F) → f.is_usable new ≡ f.is_usable z.file
+      → IsOwned f.may_show f.is_usable f.is_stuck z.geometry s.boot z.named durable new
+  usable-owned durable going new usable =
+      let was = (held.6 going).0 in
+      still-owned f.may_leave f.may_show f.is_usable f.is_stuck z.geometry s.boot z.named durable new (usable ∙ was) (held.10.owned was)
 
   module _ (index at written : ℕ) (read : Entry) (low : index < length z.entries.items) (is_read : read ≡ get_or z.entries.items index read)
       (is_at : at ≡ at_place z.geometry (place_of index read)) (all : written ≡ length (stored_at (zones_in z.geometry (f.seen z.file) 0 z.entries.items) index).bytes) where
@@ -92,7 +102,7 @@ module _ {F S : Type 0} (f : FileGhosts F) (s : SystemGhosts S) (z : Inside F S)
         (is : at ≡ at_place z.geometry place + first * z.geometry.block) (clear : IsClear z.geometry place first n below room (map entry_of z.safe.items))
         (beside : SameBeside at n (f.seen z.file) (f.seen new)) (follows : Follows (SameBeside at n) (f.may_leave z.file) (f.may_leave new)) where
       -- the tables say the same as before
-      pub place-served : IsServed z.geometry s.boot (f.seen new) z.entries.items z.live z.flushed words
+      pub place-served : IsServed z.geometry z.named (f.seen new) z.entries.items z.live z.flushed words
       place-served = data-served z.geometry place first n below room f.seen f.may_leave z.file new z.entries.items z.live z.flushed words held.4 held.5.within (held.6 going).1 clear (rw is at beside) (rw is at follows)
 
       -- and so does the last flush
@@ -139,7 +149,7 @@ module _ {F S : Type 0} (f : FileGhosts F) (s : SystemGhosts S) (z : Inside F S)
             (other-promises z.geometry f.seen f.may_leave z.file new z.entries.items z.live z.flushed words held.4 held.5.within (held.6 going).1 (rw (is, count) at beside) (rw (is, count) at follows))
 
         -- the other flushed table has the new words
-        pub other-served : (other : List ℕ) → words_in (f.seen new) table (length entries) ≡ other → IsServed z.geometry s.boot (f.seen new) z.entries.items z.live z.flushed (record words { other = other })
+        pub other-served : (other : List ℕ) → words_in (f.seen new) table (length entries) ≡ other → IsServed z.geometry z.named (f.seen new) z.entries.items z.live z.flushed (record words { other = other })
         other-served other known =
             served-other z.geometry f.seen f.may_leave z.file new z.entries.items z.live z.flushed words held.4 held.5.within (held.6 going).1 (rw (is, count) at beside) (rw (is, count) at follows) other (rw (is, count) at known)
 
@@ -156,7 +166,7 @@ module _ {F S : Type 0} (f : FileGhosts F) (s : SystemGhosts S) (z : Inside F S)
             (spare-promises z.geometry f.seen f.may_leave z.file new z.entries.items z.live z.flushed words held.4 held.5.within (held.6 going).1 (rw (is, count) at beside) (rw (is, count) at follows))
 
         -- the other live table has the new words
-        pub spare-served : (spare : List ℕ) → words_in (f.seen new) table (length entries) ≡ spare → IsServed z.geometry s.boot (f.seen new) z.entries.items z.live z.flushed (record words { spare = spare })
+        pub spare-served : (spare : List ℕ) → words_in (f.seen new) table (length entries) ≡ spare → IsServed z.geometry z.named (f.seen new) z.entries.items z.live z.flushed (record words { spare = spare })
         spare-served spare known =
             served-spare z.geometry f.seen f.may_leave z.file new z.entries.items z.live z.flushed words held.4 held.5.within (held.6 going).1 (rw (is, count) at beside) (rw (is, count) at follows) spare (rw (is, count) at known)
 
@@ -201,7 +211,7 @@ module _ {F S : Type 0} (f : FileGhosts F) (s : SystemGhosts S) (z : Inside F S)
 
       module _ (going : z.failed ≡ false) (follows : Follows (SameBeside at n) (f.may_leave z.file) (f.may_leave new)) where
         -- the tables say the same as before
-        pub behind-served : IsServed z.geometry s.boot (f.seen new) z.entries.items z.live z.flushed words
+        pub behind-served : IsServed z.geometry z.named (f.seen new) z.entries.items z.live z.flushed words
         behind-served = place-served going new place first n at below room behind (apart-clear z.safe.items z.entries.items index held.8 low) beside follows
 
         -- and so does the last flush
@@ -254,7 +264,7 @@ module _ {F S : Type 0} (f : FileGhosts F) (s : SystemGhosts S) (z : Inside F S)
             free-clear (map entry_of z.safe.items) index free (omega (arith, low_safe, length-map z.safe.items entry_of)) (rw said (subst (λ (e : Entry). is_apart e free ≡ true) is apart))
 
         -- the tables say the same as before
-        pub free-served : IsServed z.geometry s.boot (f.seen new) z.entries.items z.live z.flushed words
+        pub free-served : IsServed z.geometry z.named (f.seen new) z.entries.items z.live z.flushed words
         free-served = place-served going new (place_of index free) 0 n at below-free room-free begins clear-free beside follows
 
         -- and so does the last flush

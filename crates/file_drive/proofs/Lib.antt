@@ -6,6 +6,7 @@ pub mod StoreLaws
 pub mod ApartLaws
 pub mod KeptLaws
 pub mod PickLaws
+pub mod OutLaws
 pub mod ReadLaws
 pub mod FaultLaws
 mod OpenLaws

@@ -113,6 +113,7 @@ module _ (boot : Boot) (file : List ℕ) (head : Head) (tables : Tables) (is : I
   open-fault words are (faults.Table number) past = are (faults.Table number) past
   open-fault words are faults.Limits past = are faults.Limits past
   open-fault words are (faults.Input error) none = absurd none
+  open-fault words are (faults.Unsynced error) none = absurd none
   open-fault words are faults.OutOfMemory past = inr (inr (inr tt))
 
   pub flushed-fault : (words : List ℕ) → words ≡ words_in file (at_table g (flushed_table file)) g.zones → (fault : OpenFault) → IsTableFault g words fault → IsOpenFault boot file fault
@@ -132,4 +133,5 @@ module _ (boot : Boot) (file : List ℕ) (head : Head) (tables : Tables) (is : I
   apart-fault words entries last now (faults.Table number) past = (g, is.words, inr (inr (rw (← last, ← now) past)))
   apart-fault words entries last now faults.Limits none = absurd none
   apart-fault words entries last now (faults.Input error) none = absurd none
+  apart-fault words entries last now (faults.Unsynced error) none = absurd none
   apart-fault words entries last now faults.OutOfMemory none = absurd none

@@ -23,7 +23,7 @@ use Rattle.file_drive.proofs.ServedLaws.{zones-kept}
 -- ---- the boot
 
 -- a boot that passes the test is this one
-same-boot : (boot served : Boot) → (is_known boot && (eqb served.first boot.first && eqb served.second boot.second)) ≡ true → served ≡ boot
+pub same-boot : (boot served : Boot) → (is_known boot && (eqb served.first boot.first && eqb served.second boot.second)) ≡ true → served ≡ boot
 same-boot boot served e =
     let parts = and_parts _ _ (and_parts _ _ e).1 in
     let first : served.first ≡ boot.first = eqb-true _ _ parts.0 in

@@ -43,7 +43,7 @@ module _ {F S : Type 0} (f : FileGhosts F) (s : SystemGhosts S) (z : Inside F S)
 
   -- the tables say the same zones, and the two flushed ones have changed places
   pub picked : word_in (f.seen new) at_flushed ≡ other_table z.flushed - 2
-      → IsServed z.geometry s.boot (f.seen new) z.entries.items z.live (other_table z.flushed) (record { spare = z.spare.items; safe = z.other.items; other = z.safe.items })
+      → IsServed z.geometry z.named (f.seen new) z.entries.items z.live (other_table z.flushed) (record { spare = z.spare.items; safe = z.other.items; other = z.safe.items })
   picked = picked-served z.geometry f.seen f.may_leave z.file new z.entries.items z.live z.flushed words held.4 held.1 held.2 held.5.within small other-ready beside
 
   -- ---- the word could not be written

@@ -1,5 +1,5 @@
 -- A file that another boot of the system takes over.
-use Rattle.std.proofs.Common.{◌≡◌, ◌≢◌, ℕ, ◌+◌, ◌*◌, ◌%◌, ◌<◌, ◌≤◌, List, Vec, Global, refl, ap, ◌∙◌, inl, inr, arith}
+use Rattle.std.proofs.Common.{◌≡◌, ◌≢◌, ℕ, ◌+◌, ◌*◌, ◌%◌, ◌<◌, ◌≤◌, List, Vec, Global, ap, ◌∙◌, inl, inr, arith}
 use Rattle.sqlite_disk.specs.Disk.{Follows}
 use Rattle.zone_states.specs.declared.geometry.Geometry.{Geometry}
 use Rattle.file_bytes.specs.Changes.{SameBeside}

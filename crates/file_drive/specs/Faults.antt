@@ -19,6 +19,15 @@ IsReadFault (faults.Input error) = ⊤
 IsReadFault faults.OutOfMemory = ⊤
 IsReadFault fault = ⊥
 
+-- a sync failed
+abbrev pub IsUnsynced : OpenFault → Type 0
+IsUnsynced (faults.Unsynced error) = ⊤
+IsUnsynced fault = ⊥
+
+-- a read, a write or a sync may fail, or memory be missing
+abbrev pub IsCallFault : OpenFault → Type 0
+IsCallFault fault = IsUnsynced fault ⊎ IsReadFault fault
+
 -- a word as a number of 32 bits: the largest of them where it is larger
 abbrev pub narrow : ℕ → ℕ
 narrow word = min word (2 ^ 32 - 1)

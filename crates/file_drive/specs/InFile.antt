@@ -1,13 +1,13 @@
 -- What is true of a file while a drive is served from it.
-use Rattle.std.specs.Prelude.{◌≡◌, ◌≢◌, ◌⊎◌, ℕ, ◌-◌, ◌*◌, ◌<◌, ◌≤◌, nat_le, not, ◌||◌, Bool, true, false, if◌then◌else◌, Contains, List, [], ◌∷◌, length, map, Some, slice_index, slice_index_or}
+use Rattle.std.specs.Prelude.{◌≡◌, ◌≢◌, ◌⊎◌, ℕ, ◌-◌, ◌*◌, ◌<◌, ◌≤◌, nat_le, not, ◌||◌, Bool, true, false, if◌then◌else◌, Contains, IsTrue, List, [], ◌∷◌, length, map, Some, slice_index, slice_index_or}
 use Rattle.std.specs.List.{AllByRecursion}
 use Rattle.sqlite_disk.specs.Disk.{Only}
 use Rattle.nvme_wire.specs.declared.command.Action.{Action}
 use Rattle.nvme_wire.specs.declared.zone_state.ZoneState.TheVariants.{Offline}
 use Rattle.zone_states.specs.declared.geometry.Geometry.{Geometry}
 use Rattle.zone_states.specs.Stored.{StoredZone}
-use Rattle.file_drive.specs.Head.{boot_in, shape_words}
-use Rattle.file_drive.specs.Layout.{at_table, at_place, file_length, part}
+use Rattle.file_drive.specs.Head.{at_second, boot_in, shape_words}
+use Rattle.file_drive.specs.Layout.{at_table, at_place, file_length, part, word_in}
 use Rattle.file_drive.specs.Tables.{entry_of, flushed_table, flushed_zones, live_table, next_entries, word_of, words_in, zones_in}
 use Rattle.file_drive.specs.declared.boot.Boot.{Boot}
 use Rattle.file_drive.specs.declared.entry.Entry.{Entry}
@@ -76,6 +76,13 @@ pub record CanOpen (geometry : Geometry) (file : List ℕ) : Type 0 where
 -- whatever a loss of power leaves can be opened, and has zones that are durable
 abbrev pub AllDurable : {F : Type 0} → (F → List ℕ → Type 0) → Geometry → F → List (List StoredZone) → Type 0
 AllDurable may_leave geometry file durable = (bytes : List ℕ) → may_leave file bytes → CanOpen geometry bytes × Contains durable (flushed_zones geometry bytes)
+
+-- The head of a file that is served names this boot, until a sync fails. Then whoever opens the file later, in any boot,
+-- finds zones that are durable. Where a word could not be written, nothing is said of that.
+pub record IsOwned {F : Type 0} (may_show : F → List ℕ → Type 0) (is_usable is_stuck : F → Bool) (geometry : Geometry) (boot named : Boot) (durable : List (List StoredZone)) (file : F) : Type 0 where
+  pub owned : IsTrue (is_usable file) → named ≡ boot
+  pub durable_is : is_usable file ≡ false → is_stuck file ≡ false → AllDurable may_show geometry file durable
+  pub is_out : is_usable file ≡ false → is_stuck file ≡ false → (bytes : List ℕ) → may_show file bytes → word_in bytes at_second ≡ 0
 
 -- what the last flush promised, as a read shows it
 abbrev pub promised_zones : Geometry → List ℕ → List ℕ → List StoredZone

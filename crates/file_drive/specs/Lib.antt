@@ -8,3 +8,4 @@ pub mod Found
 pub mod Opened
 pub mod Finds
 pub mod Storing
+pub mod Freed

@@ -5,7 +5,9 @@ use Rattle.zone_states.specs.Stored.{StoredZone}
 use Rattle.std.specs.List.{AllByRecursion}
 use Rattle.zone_states.specs.Transition.{is_active, is_open}
 use Rattle.zone_drive.specs.Stored.{may_hold}
-use Rattle.file_drive.specs.Head.{is_of_boot}
+use Rattle.sqlite_disk.specs.Disk.{Follows}
+use Rattle.file_bytes.specs.Changes.{SameBeside}
+use Rattle.file_drive.specs.Head.{at_second, is_of_boot}
 use Rattle.file_drive.specs.InFile.{CanOpen}
 use Rattle.file_drive.specs.Layout.{SamePlaces, at_table}
 use Rattle.file_drive.specs.Tables.{entry_of, flushed_table, flushed_zones, live_table, word_of, words_in, zones_by}
@@ -59,3 +61,9 @@ pub record Unnoticed {F : Type 0} (seen : F → List ℕ) (may_leave : F → Lis
       ⊎ (opened_zones geometry other (seen new) ≡ flushed_zones geometry (seen old))
   pub power : (bytes : List ℕ) → may_leave new bytes
       → may_leave old bytes ⊎ (CanOpen geometry bytes × (flushed_zones geometry bytes ≡ flushed_zones geometry (seen old)))
+
+-- A sync of a drive's file failed at its open. Only the second word of the boot may have changed, and a loss of power leaves
+-- what it might have left before, but for that word.
+pub record GivesUp {F : Type 0} (seen : F → List ℕ) (may_leave : F → List ℕ → Type 0) (old new : F) : Type 0 where
+  pub beside : SameBeside at_second 8 (seen old) (seen new)
+  pub leaves : Follows (SameBeside at_second 8) (may_leave old) (may_leave new)

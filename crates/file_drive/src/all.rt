@@ -7,7 +7,6 @@ ghost use Rattle.file_drive.specs.Layout.{SamePlaces};
 use crate::boot::System;
 use crate::entry::send_to_each;
 use crate::layout::{AT_LIVE, at_table};
-use crate::releasing::note_all_freed;
 use crate::words::{note_words, write_words};
 use crate::zones::FileZones;
 use drive_port::Halt;
@@ -67,7 +66,7 @@ impl<F: FileBytes + Drop, S: System + Drop> FileZones<F, S> {
         send_to_each(&mut self.entries, &self.safe, action);
         self.live = 1 - self.live;
         self.resources = Resources::of(&self.entries);
-        note_all_freed(&mut self.freed, &self.spare, &self.entries);
+        self.freed.note_after(action);
         Ok(())
     }
 

@@ -27,9 +27,13 @@ pub enum OpenFault {
     /// More zones are active or open than may be.
     #[error("more zones are active than may be")]
     Limits,
-    /// A call on the file failed.
+    /// A read or a write of the file failed.
     #[error("{0}")]
     Input(io::Error),
+    /// The file could not be synced before it was used. So what an earlier program wrote since its last flush may be
+    /// lost. The next open takes the table of that flush.
+    #[error("the system could not write what an earlier program wrote: {0}")]
+    Unsynced(io::Error),
     /// An allocation failed.
     #[error("out of memory")]
     OutOfMemory,

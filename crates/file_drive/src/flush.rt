@@ -5,6 +5,7 @@ ghost use Rattle.file_drive.specs.Layout.{SamePlaces};
 
 use crate::boot::System;
 use crate::layout::{AT_FLUSHED, at_table};
+use crate::syncing::sync_file;
 use crate::words::write_words;
 use crate::zones::FileZones;
 use drive_port::Halt;
@@ -37,11 +38,13 @@ impl<F: FileBytes + Drop, S: System + Drop> FileZones<F, S> {
             self.failed = true;
             return Err(Halt::Stopped);
         }
-        if self.file.sync().is_err() {
-            self.failed = true;
-            return Err(Halt::Stopped);
+        match sync_file(&mut self.file, &mut self.named) {
+            Ok(()) => Ok(()),
+            Err(_) => {
+                self.failed = true;
+                Err(Halt::Stopped)
+            }
         }
-        Ok(())
     }
 
     /// Picks that table, and syncs the file. If that fails, a loss of power may leave either table picked.
@@ -65,12 +68,14 @@ impl<F: FileBytes + Drop, S: System + Drop> FileZones<F, S> {
         }
         swap(&mut self.safe, &mut self.other);
         self.flushed = other;
-        if self.file.sync().is_err() {
-            self.failed = true;
-            self.unsure = true;
-            return Err(Halt::Stopped);
+        match sync_file(&mut self.file, &mut self.named) {
+            Ok(()) => Ok(()),
+            Err(_) => {
+                self.failed = true;
+                self.unsure = true;
+                Err(Halt::Stopped)
+            }
         }
-        Ok(())
     }
 
     /// Makes sure that an open after a loss of power finds the zones as they are.

@@ -10,6 +10,7 @@ ghost use Rattle.file_drive.specs.Tables.{words_in};
 ghost use Rattle.file_drive.specs.declared.boot.Boot.{Boot};
 
 use crate::head::MAGIC;
+use crate::layout::at_table;
 use file_bytes::FileBytes;
 use std::io;
 use zone_states::Geometry;
@@ -47,6 +48,21 @@ fn put_words<F: FileBytes>(file: &mut F, at: u64, words: &[u64]) -> io::Result<(
     Ok(())
 }
 
+/// Writes zeros where a file of zeros has the tables, and the words that pick them. So the file system has room for them.
+pub fn put_zeros<F: FileBytes>(file: &mut F, geometry: &Geometry) -> io::Result<()>
+    requires in_range { IsInRange geometry.now }
+    requires zeros { F.FileBytes.seen file.old ≡ replicate (file_length geometry.now) 0 }
+    ensures zeros { OnOk result (F.FileBytes.seen file.new ≡ replicate (file_length geometry.now) 0) }
+    ensures unnamed { AreUnnamed (F.FileBytes.may_leave file.old) → AreUnnamed (F.FileBytes.may_leave file.new) }
+    ensures usable { F.FileBytes.is_usable file.new ≡ F.FileBytes.is_usable file.old }
+{
+    let end = at_table(geometry, 4) / 4096;
+    for number in 1..end {
+        file.write(4096 * number, &[0; 4096])?;
+    }
+    Ok(())
+}
+
 /// Writes the first word of the head, and syncs the file.
 fn put_magic<F: FileBytes>(file: &mut F) -> io::Result<()>
     requires within { 8 ≤ length (F.FileBytes.seen file.old) }
@@ -79,7 +95,8 @@ pub fn put_head<F: FileBytes>(file: &mut F, geometry: &Geometry) -> io::Result<(
     Ok(())
 }
 
-/// Makes a file of zeros, which is as long as a drive of this shape wants, a drive of empty zones. The file is synced.
+/// Makes a file of zeros, which is as long as a drive of this shape wants, a drive of empty zones. Its tables are written,
+/// and the file is synced.
 ///
 /// After an error it is no drive or this one, whatever a kill or a loss of power leaves, if it was none before.
 pub fn format<F: FileBytes>(file: &mut F, geometry: &Geometry) -> io::Result<()>
@@ -93,5 +110,6 @@ pub fn format<F: FileBytes>(file: &mut F, geometry: &Geometry) -> io::Result<()>
     ensures whole { AreUnnamed (F.FileBytes.may_leave file.old)
         → AreWhole geometry.now (empty_zones geometry.now) (F.FileBytes.may_leave file.new) }
 {
+    put_zeros(file, geometry)?;
     put_head(file, geometry)
 }

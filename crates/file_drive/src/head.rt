@@ -19,6 +19,11 @@ pub const MAGIC: u64 = 0x3130_5652_4453_4e5a;
 /// The words of the head that say the shape of the drive, and the first word of the boot.
 pub const HEAD_WORDS: usize = 10;
 
+/// Where the head has the two words of the boot.
+pub const AT_FIRST: u64 = 64;
+
+pub const AT_SECOND: u64 = 72;
+
 /// The head of a file that is a drive's.
 #[derive(Clone, Copy)]
 pub struct Head {

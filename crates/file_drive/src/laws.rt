@@ -2,7 +2,7 @@ ghost use Rattle.std.specs.Prelude.{◌≡◌, IfErr, IfOk, IsTrue, replicate};
 ghost use Rattle.drive_port.specs.Run.{restarted};
 ghost use Rattle.zone_drive.specs.Habits.{made};
 ghost use Rattle.zone_drive.specs.Stored.{unused};
-ghost use Rattle.file_drive.specs.Faults.{IsReadFault};
+ghost use Rattle.file_drive.specs.Faults.{IsCallFault, IsReadFault};
 ghost use Rattle.file_drive.specs.Layout.{file_length};
 
 use crate::boot::System;
@@ -38,7 +38,7 @@ pub fn store_and_load<F: FileBytes + Drop, S: System + Drop>(
     requires usable { IsTrue (F.FileBytes.is_usable file) }
     ensures ok { IfOk result (λ again.
         again ≡ made (unused drive.now.state.geometry (restarted drive.now.state).zones)) }
-    ensures err { IfErr result IsReadFault }
+    ensures err { IfErr result IsCallFault }
 {
     let mut file = file;
     store(&mut file, drive)?;

@@ -19,7 +19,11 @@
 //!   whatever the file holds there.
 //! * A kill between two calls of the file leaves a file that can be opened. A system that knows its boot, and is still
 //!   in it, finds the zones as the last answered command left them, or the one under way (`FileZones::into_file`,
-//!   `kill`). Only a read that fails or missing memory prevents it.
+//!   `kill`). So it does after a kill inside of a call that was not done (`cut`). Only a read or a sync that fails or
+//!   missing memory prevents it.
+//! * After a sync that failed, the system may show older bytes wherever it was not synced, in the same boot too. Then
+//!   the drive stops, and takes its boot out of the file's head. Each later open, in any boot, finds zones that are
+//!   durable (`lost`). If that word cannot be written either, nothing is promised in the same boot.
 //! * Only a Flush changes what an open may find after a loss of power (`durable` of `FileZones`). Whatever that leaves
 //!   can be opened in another boot, and has zones that are durable. After a Flush that was answered these are just the
 //!   zones of that flush. A flush that fails leaves the zones of the last one, or its own (`flush`, `power`).
@@ -30,7 +34,8 @@
 //!   what was promised before stays.
 //! * An open finds the zones of the table that counts, or tells by name why a file is no drive. Whatever it answers, a
 //!   system in this boot finds the same zones later. A system in another boot finds the same, or the zones of the last
-//!   flush (`open`, `unnoticed`).
+//!   flush (`open`, `unnoticed`). If its own sync fails, it says so (`Unsynced`), and takes the boot out of the head of a
+//!   drive (`out`). So each later open takes the table of the last flush.
 //! * `copy_zones` gives a drive in memory with just the zones that are held: their states, and the bytes of their
 //!   written blocks. A report does not tell how many blocks of a Full zone are written, so no Read could find that.
 //!   `load` does it with the zones of a file that was opened. What `store` made of zones, `load` gives back as a
@@ -42,8 +47,8 @@
 //!   `ports/linux` says what that rests on.
 //! * That a drive stops, and `format`, `store`, `open` and `load` fail, only where a call on the file failed: a body
 //!   that always stops meets any contract. Tests try it.
-//! * That the room of blocks that a Reset took comes back after a flush: a file may keep it by contract. A test counts
-//!   it.
+//! * That the room of blocks that a Reset took comes back after a flush: a file may keep it by contract. That a zone is
+//!   noted, and stays so, is proved of `Freed` alone. A test counts the room.
 //!
 //! # How
 //!
@@ -62,11 +67,16 @@
 //! which an open knows a drive.
 //!
 //! The room of blocks that a Reset took comes back at the next flush (`release` of `file_bytes`): then neither table
-//! counts a block there. Only zones that were reset since the last flush are looked at. A kill between the two, or
-//! missing memory, leaves that room to a later Reset of the zone.
+//! counts a block there. Only zones that were reset since the last flush are looked at, each once: all of them after a
+//! Reset of all, or where memory was missing (`Freed`). A kill between the two leaves that room to a later Reset of the
+//! zone.
 //!
 //! The head names the boot of the system that served the file last. An open in the same boot takes the live table. In
-//! another boot it takes the flushed one. Then it writes the live one anew before it names its own boot.
+//! another boot it takes the flushed one. Then it writes the live one anew before it names its own boot. If a sync
+//! fails, the second word of that boot becomes 0, so that each later open takes the flushed table (`sync_file`).
+//!
+//! All tables of a new file are written, also where they have zeros. So the file system has room for them, and a full
+//! one is in the way of no open and of no flush.
 //!
 //! Tests: in `call_tests`.
 #![tactic(auto)]
@@ -80,6 +90,7 @@ mod entry;
 mod fault;
 mod flush;
 mod found;
+mod freed;
 mod fresh;
 mod head;
 mod held;
@@ -92,6 +103,7 @@ mod reading;
 mod releasing;
 mod serving;
 mod storing;
+mod syncing;
 mod tables;
 mod words;
 mod zones;

@@ -1,10 +1,10 @@
-ghost use Rattle.std.specs.Prelude.{◌≡◌, ◌⊎◌, false, length, map, true, IfErr, IfOk, IsTrue, OnErr, OnOk};
+ghost use Rattle.std.specs.Prelude.{◌≡◌, ◌⊎◌, false, length, map, true, IfErr, IfOk, IsErrAnd, IsTrue, OnErr, OnOk};
 ghost use Rattle.sqlite_disk.specs.Disk.{Follows, Only};
 ghost use Rattle.file_drive.specs.Found.{IsFound, IsRead, with_boot};
-ghost use Rattle.file_drive.specs.Head.{is_of_boot, shape_words};
-ghost use Rattle.file_drive.specs.Faults.{IsOpenFault};
+ghost use Rattle.file_drive.specs.Head.{TakesOut, is_of_boot, shape_words};
+ghost use Rattle.file_drive.specs.Faults.{IsOpenFault, IsUnsynced};
 ghost use Rattle.file_drive.specs.Opened.{IsOpened};
-ghost use Rattle.file_drive.specs.Opening.{KeepsFlushed, Unnoticed, opened_zones};
+ghost use Rattle.file_drive.specs.Opening.{GivesUp, KeepsFlushed, Unnoticed, opened_zones};
 ghost use Rattle.file_drive.specs.Tables.{word_of, words_in, zones_in};
 ghost use Rattle.zone_states.specs.declared.geometry.Geometry.{Geometry};
 ghost use Rattle.file_drive.specs.declared.boot.Boot.{Boot as Boots};
@@ -12,16 +12,13 @@ ghost use Rattle.file_drive.specs.declared.boot.Boot.{Boot as Boots};
 use crate::boot::{Boot, System};
 use crate::fault::OpenFault;
 use crate::found::{Found, is_same_boot, read_all};
+use crate::head::{AT_FIRST, AT_SECOND, read_head};
 use crate::layout::at_table;
+use crate::syncing::sync_file;
 use crate::words::{put_word, write_words};
 use file_bytes::FileBytes;
 use std::alloc::Global;
 use std::io;
-
-/// The first and the second word of the boot in a file.
-const AT_FIRST: u64 = 64;
-
-const AT_SECOND: u64 = 72;
 
 /// Writes the first word of the boot.
 fn put_first<F: FileBytes>(file: &mut F, found: &mut Found, word: u64) -> io::Result<()>
@@ -123,6 +120,7 @@ fn make_ready<F: FileBytes>(file: &mut F, found: &mut Found, boot: Boot) -> io::
         ≡ opened_zones found.old.head.geometry boot (F.FileBytes.seen file.old) }
     ensures unnoticed { Unnoticed F.FileBytes.seen F.FileBytes.may_leave boot found.old.head.geometry file.old
         file.new }
+    ensures usable { F.FileBytes.is_usable file.new ≡ F.FileBytes.is_usable file.old }
 {
     if is_same_boot(found.head.boot, boot) {
         return Ok(());
@@ -131,7 +129,7 @@ fn make_ready<F: FileBytes>(file: &mut F, found: &mut Found, boot: Boot) -> io::
     Ok(())
 }
 
-/// Opens a file as a drive: reads it, syncs it, and makes it ready for this boot of the system.
+/// Opens a file as a drive: syncs it, reads it, and makes it ready for this boot of the system.
 ///
 /// If the same boot served the file last, the zones are those after the last command. The program
 /// may have been killed, but the system kept all that was written. In another boot the zones are
@@ -140,6 +138,9 @@ fn make_ready<F: FileBytes>(file: &mut F, found: &mut Found, boot: Boot) -> io::
 /// After an error the next open in this boot finds the same zones as before. An open in another
 /// boot finds the same, or those of the last flush. A loss of power leaves what it might have left
 /// before, or that flush.
+///
+/// If the sync fails, the error is `Unsynced`, and the file names no boot any more. So each later
+/// open takes the table of the last flush, in this boot too. A file that is no drive stays as it is.
 pub fn open<F: FileBytes, S: System>(
     alloc: Global,
     file: &mut F,
@@ -149,13 +150,21 @@ pub fn open<F: FileBytes, S: System>(
     ensures ok { IfOk result (IsOpened F.seen F.may_leave F.is_usable S.boot file.new) }
     ensures zones { IfOk result (λ found. zones_in found.head.geometry (F.seen file.new) 0 found.entries.items
         ≡ opened_zones found.head.geometry S.boot (F.seen file.old)) }
-    ensures err { IfErr result (IsOpenFault S.boot (F.seen file.old)) }
-    ensures unnoticed { (geometry : Geometry) → words_in (F.seen file.old) 0 8 ≡ shape_words geometry
+    ensures err { IsTrue (F.is_usable file.new) → IfErr result (IsOpenFault S.boot (F.seen file.old)) }
+    ensures unsynced { F.is_usable file.new ≡ false → IsErrAnd result IsUnsynced }
+    ensures unnoticed { IsTrue (F.is_usable file.new) → (geometry : Geometry)
+        → words_in (F.seen file.old) 0 8 ≡ shape_words geometry
         → Unnoticed F.seen F.may_leave S.boot geometry file.old file.new }
+    ensures gives_up { F.is_usable file.new ≡ false → GivesUp F.seen F.may_leave file.old file.new }
+    ensures out { F.is_usable file.new ≡ false → F.is_stuck file.new ≡ false
+        → TakesOut (F.may_leave file.old) (F.may_show file.new) }
 {
     let boot = system.boot();
+    let mut head = read_head(alloc, file)?;
+    if let Err(error) = sync_file(file, &mut head.boot) {
+        return Err(OpenFault::Unsynced(error));
+    }
     let mut found = read_all(alloc, file, boot)?;
-    file.sync()?;
     make_ready(file, &mut found, boot)?;
     Ok(found)
 }

@@ -27,7 +27,9 @@ fn read_with_zeros<F: FileBytes>(
     ensures memory { IsErrOf result Halt.Memory → file.new ≡ file.old }
     ensures seen { F.FileBytes.seen file.new ≡ F.FileBytes.seen file.old }
     ensures leaves { (c : List ℕ) → F.FileBytes.may_leave file.new c → F.FileBytes.may_leave file.old c }
+    ensures shows { (c : List ℕ) → F.FileBytes.may_show file.new c → F.FileBytes.may_show file.old c }
     ensures usable { F.FileBytes.is_usable file.new ≡ F.FileBytes.is_usable file.old }
+    ensures stuck { F.FileBytes.is_stuck file.new ≡ F.FileBytes.is_stuck file.old }
 {
     let held = into.len();
     let Some(total) = held.checked_add(len) else {

@@ -8,27 +8,13 @@ use crate::zones::FileZones;
 use file_bytes::FileBytes;
 use zone_states::ZoneState;
 
-/// Notes the zones that have fewer blocks now than these words say. If memory for that is missing,
-/// some are left out. At most as many are noted as there are zones.
-pub fn note_all_freed(freed: &mut Vec<usize>, before: &[u64], entries: &[Entry]) {
-    for index in 0..entries.len() {
-        if index >= before.len() || freed.len() >= entries.len() {
-            return;
-        }
-        if entries[index].written < Entry::of_word(before[index]).written {
-            let _ = freed.push(index);
-        }
-    }
-}
-
 impl<F: FileBytes + Drop, S: System + Drop> FileZones<F, S> {
-    /// Notes a zone from which a Reset took blocks. If memory for that is missing, it is left out.
-    /// At most as many are noted as there are zones.
+    /// Notes a zone from which a Reset took blocks.
     pub(crate) fn note_freed(&mut self, index: usize, is_freed: bool)
         ensures { self.new ≡ self.old }
     {
-        if is_freed && self.freed.len() < self.entries.len() {
-            let _ = self.freed.push(index);
+        if is_freed {
+            self.freed.note(index);
         }
     }
 
@@ -57,6 +43,27 @@ impl<F: FileBytes + Drop, S: System + Drop> FileZones<F, S> {
         self.file.release(at, room);
     }
 
+    /// The same of both places.
+    fn release_zone(&mut self, index: usize)
+        ensures shape { self.new.shape ≡ self.old.shape }
+        ensures zones { filed F.seen self.new ≡ filed F.seen self.old }
+        ensures durable { self.new.durable ≡ self.old.durable }
+    {
+        self.release_place(index, false);
+        self.release_place(index, true);
+    }
+
+    /// The same of all zones.
+    fn release_all(&mut self)
+        ensures shape { self.new.shape ≡ self.old.shape }
+        ensures zones { filed F.seen self.new ≡ filed F.seen self.old }
+        ensures durable { self.new.durable ≡ self.old.durable }
+    {
+        for index in 0..self.geometry.zones as usize {
+            self.release_zone(index);
+        }
+    }
+
     /// Gives the room of the noted zones back, wherever neither the zone nor the last flush has a
     /// block.
     pub(crate) fn release_freed(&mut self)
@@ -64,12 +71,15 @@ impl<F: FileBytes + Drop, S: System + Drop> FileZones<F, S> {
         ensures zones { filed F.seen self.new ≡ filed F.seen self.old }
         ensures durable { self.new.durable ≡ self.old.durable }
     {
+        if self.freed.take_all() {
+            self.release_all();
+            return;
+        }
         for _ in 0..self.freed.len() {
-            let Some(index) = self.freed.pop() else {
+            let Some(index) = self.freed.take() else {
                 return;
             };
-            self.release_place(index, false);
-            self.release_place(index, true);
+            self.release_zone(index);
         }
     }
 }

@@ -1,4 +1,4 @@
-ghost use Rattle.std.specs.Prelude.{◌≡◌, ◌∷◌, Contains, [], false, map, true, List, ℕ};
+ghost use Rattle.std.specs.Prelude.{◌≡◌, ◌∷◌, Contains, [], false, map, true, IsTrue, List, ℕ};
 ghost use Rattle.zone_states.specs.Stored.{StoredZone};
 ghost use Rattle.zone_drive.specs.Habits.{made};
 ghost use Rattle.zone_drive.specs.Held.{AreDurable, restarted_stored};
@@ -12,6 +12,7 @@ ghost use Rattle.file_drive.specs.declared.boot.Boot.{Boot};
 
 use crate::boot::System;
 use crate::found::Found;
+use crate::freed::Freed;
 use crate::zones::FileZones;
 use file_bytes::FileBytes;
 use std::alloc::Global;
@@ -45,8 +46,9 @@ impl<F: FileBytes + Drop, S: System + Drop> FileZones<F, S> {
         requires { IsOpened F.seen F.may_leave F.is_usable S.boot file found }
         ensures { result ≡ served_zones F.seen file found }
     {
+        let named = system.boot();
         let resources = Resources::of(&found.entries);
-        let freed = Vec::new(*found.entries.allocator());
+        let freed = Freed::new(*found.entries.allocator());
         let tables = found.tables;
         FileZones {
             file,
@@ -54,6 +56,7 @@ impl<F: FileBytes + Drop, S: System + Drop> FileZones<F, S> {
             geometry: found.head.geometry,
             entries: found.entries,
             resources,
+            named,
             live: tables.live,
             spare: tables.spare,
             flushed: tables.flushed,
@@ -65,13 +68,22 @@ impl<F: FileBytes + Drop, S: System + Drop> FileZones<F, S> {
         }
     }
 
-    /// The file. It is what a kill at this moment leaves. A system that is still in the same boot, and knows it, finds
-    /// the zones as they are. After a loss of power a system in another boot finds zones that are durable.
+    /// The file. It is what a kill at this moment leaves. If no sync has failed, a system that is still in the same
+    /// boot, and knows it, finds the zones as they are. So it does if the kill is inside of a call of the file, which
+    /// was not done (`cut`). If a sync has failed, and the head could be told, a system in any boot finds zones that are
+    /// durable (`lost`). After a loss of power a system in another boot finds such zones, too.
     pub fn into_file(self) -> F
         ensures file { result ≡ self.file }
-        ensures kill { is_known S.boot ≡ true → AreZones self.shape (filed F.seen self)
+        ensures kill { is_known S.boot ≡ true → IsTrue (F.is_usable self.file)
+            → AreZones self.shape (filed F.seen self) → AreDurable self.shape self.durable
+            → (bytes : List ℕ) → F.may_show self.file bytes
+            → Finds self.shape S.boot bytes (map restarted_stored (filed F.seen self)) }
+        ensures cut { is_of_boot S.boot (F.seen self.file) ≡ true → AreZones self.shape (filed F.seen self)
             → AreDurable self.shape self.durable
             → Finds self.shape S.boot (F.seen self.file) (map restarted_stored (filed F.seen self)) }
+        ensures lost { F.is_usable self.file ≡ false → F.is_stuck self.file ≡ false
+            → AreDurable self.shape self.durable → (bytes : List ℕ) (boot : Boot) → F.may_show self.file bytes
+            → (zones : List StoredZone) × Contains self.durable zones × Finds self.shape boot bytes zones }
         ensures power { AreDurable self.shape self.durable → (bytes : List ℕ) (boot : Boot)
             → F.may_leave self.file bytes → is_of_boot boot bytes ≡ false
             → (zones : List StoredZone) × Contains self.durable zones × Finds self.shape boot bytes zones }

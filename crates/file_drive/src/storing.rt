@@ -12,7 +12,7 @@ ghost use Rattle.file_drive.specs.Tables.{word_of, words_in, zones_in};
 ghost use Rattle.file_drive.specs.declared.boot.Boot.{Boot};
 
 use crate::entry::Entry;
-use crate::fresh::put_head;
+use crate::fresh::{put_head, put_zeros};
 use crate::layout::{at_place, at_table};
 use crate::words::put_word;
 use drive_port::Device;
@@ -83,8 +83,8 @@ fn put_table<F: FileBytes>(
 }
 
 /// Stores these zones in a file, as they are after a restart. The file has only zeros before, and
-/// the length that a drive of this shape needs. Each block is written once, straight from memory,
-/// and of the tables only what is not zero. Then the file is synced.
+/// the length that a drive of this shape needs. Its tables are written, so that there is room for
+/// them. Each block is written once, straight from memory. Then the file is synced.
 ///
 /// After an error, a kill or a loss of power the file is no drive, or holds this one. That holds
 /// if no loss of power could have left a drive there before.
@@ -104,6 +104,7 @@ pub fn store_zones<F: FileBytes>(
     ensures whole { AreUnnamed (F.FileBytes.may_leave file.old)
         → AreWhole geometry.now (map restarted_stored zones.now) (F.FileBytes.may_leave file.new) }
 {
+    put_zeros(file, geometry)?;
     put_blocks(file, geometry, zones)?;
     put_table(file, geometry, 0, zones)?;
     put_table(file, geometry, 2, zones)?;

@@ -2,8 +2,9 @@ ghost use Rattle.std.specs.Prelude.{◌≡◌, ◌<◌, ◌≤◌, IfErr, OnErr,
 ghost use Rattle.file_drive.specs.Layout.{SamePlaces};
 ghost use Rattle.file_drive.specs.InFile.{flushed_at, is_apart};
 
-use crate::boot::System;
+use crate::boot::{Boot, System};
 use crate::entry::Entry;
+use crate::freed::Freed;
 use crate::layout::at_table;
 use crate::words::put_word;
 use drive_port::Halt;
@@ -29,6 +30,8 @@ pub struct FileZones<F: FileBytes + Drop, S: System + Drop> {
     /// What is known of each zone.
     pub(crate) entries: Vec<Entry>,
     pub(crate) resources: Resources,
+    /// The boot that the head names: this one, until a sync fails.
+    pub(crate) named: Boot,
     /// The live table that is picked: 0 or 1.
     pub(crate) live: u64,
     /// The words of the other live table.
@@ -45,14 +48,15 @@ pub struct FileZones<F: FileBytes + Drop, S: System + Drop> {
     pub(crate) unsure: bool,
     /// Zones from which a Reset took blocks. The next flush gives their room back to the file
     /// system.
-    pub(crate) freed: Vec<usize>,
+    pub(crate) freed: Freed,
 }
 
 impl<F: FileBytes + Drop, S: System + Drop> Model for FileZones<F, S> {
     ghost use Rattle.std.specs.Prelude.{◌≡◌, ◌≤◌, false, length, IsTrue};
     ghost use Rattle.zone_states.specs.Geometry.{IsInRange};
     ghost use Rattle.zone_drive.specs.Groups.{IsCounted};
-    ghost use Rattle.file_drive.specs.InFile.{AllDurable, AreApart, AreWithin, AreWords, FiledZones, IsServed};
+    ghost use Rattle.file_drive.specs.InFile.{AllDurable, AreApart, AreWithin, AreWords, FiledZones, IsOwned};
+    ghost use Rattle.file_drive.specs.InFile.{IsServed};
     ghost use Rattle.file_drive.specs.InFile.{KeepsPromise, durable_zones};
 
     ghost Value = { FiledZones F };
@@ -68,7 +72,7 @@ impl<F: FileBytes + Drop, S: System + Drop> Model for FileZones<F, S> {
     ghost invariant = { λ z. IsInRange z.geometry × (length z.entries.items ≡ z.geometry.zones)
         × AreWithin z.geometry z.entries.items
         × IsCounted (λ entry. entry.state) z.entries.items z.resources
-        × IsServed z.geometry S.boot (F.seen z.file) z.entries.items z.live z.flushed
+        × IsServed z.geometry z.named (F.seen z.file) z.entries.items z.live z.flushed
         (record { spare = z.spare.items; safe = z.safe.items; other = z.other.items })
         × AreWords z.geometry z.safe.items
         × (z.failed ≡ false → IsTrue (F.is_usable z.file)
@@ -76,7 +80,9 @@ impl<F: FileBytes + Drop, S: System + Drop> Model for FileZones<F, S> {
         × AllDurable F.may_leave z.geometry z.file
         (durable_zones z.geometry (F.seen z.file) z.safe.items z.other.items z.unsure)
         × AreApart z.safe.items z.entries.items
-        × (z.failed ≡ false → z.unsure ≡ false) };
+        × (z.failed ≡ false → z.unsure ≡ false)
+        × IsOwned F.may_show F.is_usable F.is_stuck z.geometry S.boot z.named
+        (durable_zones z.geometry (F.seen z.file) z.safe.items z.other.items z.unsure) z.file };
 }
 
 impl<F: FileBytes + Drop, S: System + Drop> FileZones<F, S> {

@@ -3,6 +3,7 @@
 // usage: boot_checks FOLDER   with an empty folder
 #define _GNU_SOURCE
 #include "../../crates/linux_file/c/boot.h"
+#include "../../crates/linux_file/c/tell.h"
 #include "session.h"
 #include <inttypes.h>
 
@@ -132,6 +133,30 @@ static void try_later_looks(void) {
     expect(ends_well(see_other_later, 0), "an identifier that comes later");
 }
 
+// What is told on standard error goes to a file.
+static void tell(uint64_t session) {
+    (void)session;
+    if (freopen("told", "w", stderr) == NULL) _exit(1);
+    zonedisk_tell_unknown_boot();
+    zonedisk_tell_unknown_boot();
+    zonedisk_tell_unsynced();
+    fclose(stderr);
+    _exit(0);
+}
+
+static void try_telling(void) {
+    char line[200];
+    unsigned lines = 0;
+    expect(ends_well(tell, 0), "a process that tells");
+    FILE *file = fopen("told", "r");
+    while (file != NULL && fgets(line, sizeof line, file) != NULL) {
+        lines++;
+        expect(strncmp(line, "zonedisk: ", 10) == 0, "who tells");
+    }
+    if (file != NULL) fclose(file);
+    expect(lines == 2, "the boot is told once");
+}
+
 // What the system itself tells, where it tells any.
 static void try_real(void) {
     uint64_t parts[5];
@@ -157,6 +182,7 @@ int main(int count, char **words) {
     try_places();
     try_unknown();
     try_later_looks();
+    try_telling();
     try_real();
     return end_checks("boot checks");
 }

@@ -110,13 +110,33 @@ static void try_failing_old_files(void) {
     fails_old(&calls.lock_error, ENOLCK, "a file without locks");
     calls.look_error = EIO;
     fails_old(&calls.look_error, EIO, "a file that cannot be looked at");
-    calls = (struct calls){.data_error = EIO};
-    fails_old(&calls.data_error, EIO, "a file that an earlier program could not sync");
     calls = (struct calls){0};
     zonedisk_file_close(old_file(PATH, true, 4096));
     expect(calls.data_syncs == 1 && calls.advices == 1, "what is done before a file is changed");
     zonedisk_file_close(old_file(PATH, false, 4096));
     expect(calls.data_syncs == 1 && calls.advices == 1, "what is done before a file is read");
+}
+
+// Linux could not write what an earlier program wrote. It is told by the first sync, and nothing is let go of.
+static void try_late_sync(void) {
+    uint64_t moment = 0;
+    zonedisk_file_close(new_file(PATH, 4096));
+    calls = (struct calls){.data_error = EIO};
+    uint64_t session = old_file(PATH, true, 4096);
+    expect(calls.data_syncs == 1 && calls.advices == 0, "what is done where that fails");
+    calls = (struct calls){0};
+    expect(zonedisk_file_read(session, moment, 0, room, 80) == 0, "a read before the first sync");
+    expect(zonedisk_file_sync(session, &moment) == EIO && calls.data_syncs == 0, "the first sync tells it");
+    expect(zonedisk_file_read(session, moment, 0, room, 1) == EIO, "a read after it");
+    memset(bytes, 3, 8);
+    expect(zonedisk_file_write_word(session, &moment, 72, bytes) == 0 && calls.data_syncs == 1, "a word after it");
+    zonedisk_file_close(session);
+    calls = (struct calls){.data_error = EIO};
+    session = old_file(PATH, false, 4096);
+    expect(calls.data_syncs == 0 && zonedisk_file_read(session, 0, 72, room, 8) == 0 && memcmp(room, bytes, 8) == 0,
+           "a later program reads that word");
+    calls = (struct calls){0};
+    zonedisk_file_close(session);
 }
 
 static void try_short_counts(void) {
@@ -180,8 +200,20 @@ static void try_failed_sync(void) {
     expect(zonedisk_file_sync(session, &moment) == EIO && moment == 3, "a sync after a failed one");
     expect(zonedisk_file_read(session, moment, 0, room, 1) == EIO, "a read after a failed sync");
     expect(zonedisk_file_write(session, &moment, 0, bytes, 1) == EIO, "a write after a failed sync");
-    expect(zonedisk_file_write_word(session, &moment, 0, bytes) == EIO && moment == 5, "a word after a failed sync");
     expect(calls.reads + calls.writes + calls.data_syncs == 0, "the system is asked after a failed sync");
+    expect(zonedisk_file_write_word(session, &moment, 4, bytes) == EINVAL, "a word that is not aligned after it");
+    expect(zonedisk_file_write_word(session, &moment, 96, bytes) == EINVAL && calls.writes == 0, "a word past the end");
+    expect(zonedisk_file_write_word(session, &moment, 8, bytes) == 0 && moment == 7, "a word after a failed sync");
+    expect(calls.writes == 1 && calls.data_syncs == 1, "that word is brought to the disk");
+    calls = (struct calls){.data_error = EIO};
+    expect(zonedisk_file_write_word(session, &moment, 8, bytes) == 0, "a word that the disk does not take");
+    expect(calls.writes == 2 && calls.data_syncs == 1, "that word is written anew");
+    calls = (struct calls){.data_error = EIO, .write_error = ENOSPC, .writes_left = 1};
+    expect(zonedisk_file_write_word(session, &moment, 8, bytes) == ENOSPC, "a word that cannot be written anew");
+    calls = (struct calls){.write_error = EIO};
+    expect(zonedisk_file_write_word(session, &moment, 8, bytes) == EIO && calls.data_syncs == 0, "one not at all");
+    calls = (struct calls){0};
+    expect(zonedisk_file_sync(session, &moment) == EIO && calls.data_syncs == 0, "a sync after all that");
     zonedisk_file_close(session);
     zonedisk_file_close(old_file(PATH, true, 100));
 }
@@ -299,6 +331,7 @@ int main(int count, char **words) {
     try_new_file();
     try_failing_new_files();
     try_failing_old_files();
+    try_late_sync();
     try_short_counts();
     try_ranges();
     try_errors();

@@ -56,6 +56,14 @@ static void tear_by_limit(uint64_t session) {
     signal(SIGXFSZ, SIG_IGN);
     if (setrlimit(RLIMIT_FSIZE, &limit) == 0) zonedisk_file_write_word(session, &moment, 16, bytes);
 }
+// So it is after a failed sync.
+static void tear_after_sync(uint64_t session) {
+    uint64_t moment = 3;
+    calls = (struct calls){.data_error = EIO};
+    zonedisk_file_sync(session, &moment);
+    calls = (struct calls){.write_error = EIO, .writes_left = 1, .most_bytes = 3};
+    zonedisk_file_write_word(session, &moment, 0, bytes);
+}
 static void use_both(uint64_t session) {
     write_now(session);
     write_at(other, 0);
@@ -80,6 +88,7 @@ static void try_moments(void) {
     expect(aborts(read_reused, session), "a session whose place another one has");
     expect(aborts(close_twice, session), "a session that is closed twice");
     expect(aborts(tear_word, session) && aborts(tear_by_limit, session), "a word that is written in part");
+    expect(aborts(tear_after_sync, session), "a word that is written in part after a failed sync");
     expect(ends_well(write_now, session) && ends_well(use_both, session), "the present moments of two sessions");
     zonedisk_file_close(session);
     zonedisk_file_close(other);

@@ -19,7 +19,8 @@ struct session {
     uint64_t moment;
     uint64_t size; // of the file, in bytes
     int file;
-    bool is_lost; // a sync has failed
+    uint32_t late; // the error of the sync at the opening, which the first sync of the session gives, or 0
+    bool is_lost;  // a sync has failed
 };
 
 static struct session sessions[MOST_SESSIONS];
@@ -73,11 +74,11 @@ static uint32_t copy_path(char name[PATH_MAX], const uint8_t *path, size_t lengt
 }
 
 // Begins the session of a file that was opened, or closes it where it is refused.
-static uint32_t begin(uint32_t number, int file, uint64_t size, uint64_t *session) {
+static uint32_t begin(uint32_t number, int file, uint64_t size, uint32_t late, uint64_t *session) {
     *session = 0;
     if (number == 0) {
         *session = ++begun;
-        *find(0) = (struct session){.number = *session, .size = size, .file = file};
+        *find(0) = (struct session){.number = *session, .size = size, .file = file, .late = late};
     } else if (file >= 0) {
         close(file);
     }
@@ -90,24 +91,25 @@ static uint32_t lock(int file, int kind) {
     return number == EWOULDBLOCK ? LOCKED : number;
 }
 
-// Brings to the disk what earlier programs wrote, and lets go of it in memory. A sync of theirs may have failed. Then
-// Linux may still show what they wrote, and no later sync would write it.
+// Brings to the disk what earlier programs wrote, and then lets go of it in memory. A sync of theirs may have failed.
+// Then Linux may still show what they wrote, and no later sync would write it. Where this sync fails, all stays in
+// memory that is still there.
 static uint32_t go_by_disk(int file) {
     uint32_t number = number_of(fdatasync(file));
-    posix_fadvise(file, 0, 0, POSIX_FADV_DONTNEED);
+    if (number == 0) posix_fadvise(file, 0, 0, POSIX_FADV_DONTNEED);
     return number;
 }
 
 // A file is looked at before it is opened, since opening a device may do something, and a pipe waits for its other end.
-static uint32_t open_regular(const char *name, bool is_writable, int *file, uint64_t *size) {
+static uint32_t open_regular(const char *name, bool is_writable, int *file, uint64_t *size, uint32_t *late) {
     struct stat seen;
     if (stat(name, &seen) != 0) return number_of(-1);
     if (!S_ISREG(seen.st_mode)) return NOT_REGULAR;
     *file = open(name, (is_writable ? O_RDWR : O_RDONLY) | O_CLOEXEC);
     if (*file < 0) return number_of(-1);
     uint32_t number = lock(*file, is_writable ? LOCK_EX : LOCK_SH);
-    if (number == 0 && is_writable) number = go_by_disk(*file);
     if (number == 0) number = number_of(fstat(*file, &seen));
+    if (number == 0 && is_writable) *late = go_by_disk(*file);
     *size = (uint64_t)seen.st_size;
     return number;
 }
@@ -115,10 +117,11 @@ static uint32_t open_regular(const char *name, bool is_writable, int *file, uint
 uint32_t zonedisk_file_open(const uint8_t *path, size_t length, bool is_writable, uint64_t *size, uint64_t *session) {
     char name[PATH_MAX];
     int file = -1;
+    uint32_t late = 0;
     *size = 0;
     uint32_t number = copy_path(name, path, length);
-    if (number == 0) number = open_regular(name, is_writable, &file, size);
-    return begin(number, file, *size, session);
+    if (number == 0) number = open_regular(name, is_writable, &file, size, &late);
+    return begin(number, file, *size, late, session);
 }
 
 // Syncs the folder of a file, so that the file's name is durable. A file system that syncs no folders says EINVAL: then
@@ -150,13 +153,17 @@ uint32_t zonedisk_file_create(const uint8_t *path, size_t length, uint64_t size,
     int file = -1;
     uint32_t number = size > INT64_MAX ? EFBIG : copy_path(name, path, length);
     if (number == 0) number = make_new(name, size, &file);
-    return begin(number, file, size, session);
+    return begin(number, file, size, 0, session);
+}
+
+static bool is_within(const struct session *used, uint64_t at, size_t length) {
+    return at <= used->size && length <= used->size - at;
 }
 
 // Why the system is not asked for a range: 0 where it is asked.
 static uint32_t fault_of(const struct session *used, uint64_t at, size_t length) {
     if (used->is_lost) return EIO;
-    return at <= used->size && length <= used->size - at ? 0 : EINVAL;
+    return is_within(used, at, length) ? 0 : EINVAL;
 }
 
 uint32_t zonedisk_file_read(uint64_t session, uint64_t moment, uint64_t at, uint8_t *room, size_t length) {
@@ -174,7 +181,7 @@ uint32_t zonedisk_file_read(uint64_t session, uint64_t moment, uint64_t at, uint
 // Writes a range, and counts the bytes that are written.
 static uint32_t write_range(const struct session *used, uint64_t at, const uint8_t *bytes, size_t length,
                             size_t *done) {
-    uint32_t number = fault_of(used, at, length);
+    uint32_t number = 0;
     for (*done = 0; *done < length && number == 0;) {
         ssize_t count = pwrite(used->file, bytes + *done, length - *done, (off_t)(at + *done));
         if (count > 0) *done += (size_t)count;
@@ -185,23 +192,34 @@ static uint32_t write_range(const struct session *used, uint64_t at, const uint8
 }
 
 uint32_t zonedisk_file_write(uint64_t session, uint64_t *moment, uint64_t at, const uint8_t *bytes, size_t length) {
+    const struct session *used = change_at(session, moment);
     size_t done;
-    return write_range(change_at(session, moment), at, bytes, length, &done);
+    uint32_t number = fault_of(used, at, length);
+    return number != 0 ? number : write_range(used, at, bytes, length, &done);
+}
+
+// Writes all 8 bytes, or none of them.
+static uint32_t put_word(const struct session *used, uint64_t at, const uint8_t word[WORD]) {
+    size_t done;
+    uint32_t number = write_range(used, at, word, WORD, &done);
+    if (number != 0 && done != 0) end_process("a word of a file is written in part");
+    return number;
 }
 
 uint32_t zonedisk_file_write_word(uint64_t session, uint64_t *moment, uint64_t at, const uint8_t word[8]) {
     const struct session *used = change_at(session, moment);
-    size_t done;
-    if (at % WORD != 0) return EINVAL;
-    uint32_t number = write_range(used, at, word, WORD, &done);
-    if (number != 0 && done != 0) end_process("a word of a file is written in part");
+    if (at % WORD != 0 || !is_within(used, at, WORD)) return EINVAL;
+    uint32_t number = put_word(used, at, word);
+    // After a failed sync the word is brought to the disk at once. Where that fails, Linux has told it now, and tells it
+    // to nobody else. So the word is written anew: the sync of the next program has it to write, and fails if it cannot.
+    if (number == 0 && used->is_lost && fdatasync(used->file) != 0) number = put_word(used, at, word);
     return number;
 }
 
 uint32_t zonedisk_file_sync(uint64_t session, uint64_t *moment) {
     struct session *used = change_at(session, moment);
     if (used->is_lost) return EIO;
-    uint32_t number = number_of(fdatasync(used->file));
+    uint32_t number = used->late != 0 ? used->late : number_of(fdatasync(used->file));
     used->is_lost = number != 0;
     return number;
 }

@@ -6,8 +6,8 @@
 // that is not open, ends the process.
 //
 // A result is 0 where the call is done, or else the number of an error of the system. It is EINVAL for a range that is
-// not within the file. After a sync that failed it is EIO for each later call of the session. For Linux may have let go
-// of what was written, and a read could return older bytes.
+// not within the file. After a sync that failed it is EIO for each later call of the session, but for the write of a
+// word. For Linux may have let go of what was written, and a read could return older bytes.
 #pragma once
 #include <stdbool.h>
 #include <stddef.h>
@@ -21,7 +21,8 @@ enum refusal {
 };
 
 // Opens and locks a file that is there, and tells its length in bytes. A file that is only read is locked against
-// changes alone.
+// changes alone. One that may be changed is synced, so that what earlier programs wrote is on the disk. If that fails,
+// the first sync of the session says so.
 uint32_t zonedisk_file_open(const uint8_t *path, size_t length, bool is_writable, uint64_t *size, uint64_t *session);
 
 // Makes and locks a file of so many zeros, and syncs it and its folder. Where that fails, it is removed again.
@@ -34,10 +35,10 @@ uint32_t zonedisk_file_read(uint64_t session, uint64_t moment, uint64_t at, uint
 uint32_t zonedisk_file_write(uint64_t session, uint64_t *moment, uint64_t at, const uint8_t *bytes, size_t length);
 
 // Writes 8 bytes at a multiple of 8, or none of them. Linux writes them as one. If it ever writes some and then fails,
-// the process ends.
+// the process ends. After a sync that failed, programs that open the file later read these bytes.
 uint32_t zonedisk_file_write_word(uint64_t session, uint64_t *moment, uint64_t at, const uint8_t word[8]);
 
-// Brings all that was written to the disk.
+// Brings all that was written to the disk. Where that fails, Linux may show older bytes from now on, in this boot too.
 uint32_t zonedisk_file_sync(uint64_t session, uint64_t *moment);
 
 // Gives the room of a range back to the file system. Then the range has zeros, or it is as it was where the file system

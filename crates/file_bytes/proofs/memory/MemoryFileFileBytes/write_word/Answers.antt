@@ -1,5 +1,9 @@
-use Rattle.std.proofs.Common.{length, sym, ap}
+use Rattle.std.proofs.Common.{length, ap}
 use Rattle.file_bytes.proofs.memory.MemoryFileFileBytes.write_word.Goals as goal
 
-pub returns-clause-allows : goal.returns-clause-allows
-returns-clause-allows c = rw (sym (ap length c.to_le_bytes.ensures)) c.write.ensures.allows
+pub returns-then-is_err-clause-leaves : goal.returns-then-is_err-clause-leaves
+returns-then-is_err-clause-leaves c = rw (ap length c.to_le_bytes.ensures, ← c.self-2.view_is) at c.change.ensures.leaves
+
+pub returns-then-is_err-clause-shows : goal.returns-then-is_err-clause-shows
+returns-then-is_err-clause-shows c = λ bytes may.
+    (rw (ap length c.to_le_bytes.ensures, ← c.self-2.view_is) at c.change.ensures.shows) bytes (record { seen = may.seen; left = may.left; told = may.told })

@@ -72,6 +72,7 @@ invariant_of-self g c =
       rw closed (apart-set inside.safe.items inside.entries.items c.args.index (acted Close c.of_word.result (entry_at inside.entries.items c.args.index)) held.8
           (rw last (acted-apart Close (flushed_at inside.safe.items c.args.index) (entry_at inside.entries.items c.args.index) (held.8 c.args.index low)))),
       held.9,
+      held.10,
     )
 
 pub returns-clause-closed : goal.returns-clause-closed

@@ -4,7 +4,7 @@ use Rattle.sqlite_disk.specs.Disk.{Holds}
 use Rattle.file_drive.specs.Layout.{at_live}
 use Rattle.file_drive.specs.Tables.{next_entries, word_of}
 use Rattle.file_drive.proofs.ApartLaws.{apart-next, length-next, within-next}
-use Rattle.file_drive.proofs.KeptLaws.{pick-kept}
+use Rattle.file_drive.proofs.KeptLaws.{pick-kept, usable-owned}
 use Rattle.file_drive.proofs.PartLaws.{word-held}
 use Rattle.file_drive.proofs.ServedLaws.{length-safe, length-spare, served-switch, switch-same}
 use Rattle.file_drive.proofs.zones.FileZones.pick_spare.Goals as goal
@@ -17,7 +17,7 @@ invariant_of-self g c =
     let held = c.self.invariant in
     let same : g.F.FileBytes.seen c.write_word.new.self ≡ g.F.FileBytes.seen c.self.inside.file = search rules in
     let kept = pick-kept g.F.FileBytes g.S.System c.self.inside c.self.invariant c.if-self.false c.write_word.new.self c.write_word.ensures.others c.write_word.ensures.leaves in
-    (held.0, held.1, held.2, held.3, rw same held.4, held.5, λ e. absurd (cc e), kept.all, held.8, λ e. absurd (cc e))
+    (held.0, held.1, held.2, held.3, rw same held.4, held.5, λ e. absurd (cc e), kept.all, held.8, λ e. absurd (cc e), usable-owned g.F.FileBytes g.S.System c.self.inside c.self.invariant _ c.if-self.false c.write_word.new.self c.write_word.ensures.usable)
 
 pub invariant_of-self-2 : goal.invariant_of-self-2
 invariant_of-self-2 g c =
@@ -43,6 +43,7 @@ invariant_of-self-2 g c =
       kept.all,
       rw (c.send_to_each.ensures, c.deref-2.ensures.value) (apart-next (Some c.args.action) inside.safe.items inside.entries.items many held.8),
       held.9,
+      usable-owned g.F.FileBytes g.S.System c.self.inside c.self.invariant _ c.if-self.false c.write_word.new.self c.write_word.ensures.usable,
     )
 
 pub returns-clause-zones : goal.returns-clause-zones

@@ -5,7 +5,7 @@ use Rattle.file_drive.specs.Layout.{at_table, word_in}
 use Rattle.file_drive.specs.Tables.{word_of}
 use Rattle.file_drive.specs.declared.entry.Entry.{Entry}
 use Rattle.file_drive.proofs.ApartLaws.{apart-set}
-use Rattle.file_drive.proofs.KeptLaws.{word-kept, word-places}
+use Rattle.file_drive.proofs.KeptLaws.{usable-owned, word-kept, word-places}
 use Rattle.file_drive.proofs.ServedLaws.{live-word, served-put, within-set}
 use Rattle.file_drive.proofs.zones.FileZones.put.Goals as goal
 
@@ -23,7 +23,7 @@ invariant_of-self g c =
     let held = c.self.invariant in
     let same : g.F.FileBytes.seen c.put_word.new.file ≡ g.F.FileBytes.seen c.self.inside.file = search rules in
     let kept = word-kept g.F.FileBytes g.S.System c.self.inside c.self.invariant c.if-self.false c.put_word.new.file c.args.index c.at_table.result (rw (← c.self.view_is) at c.requires.in_range) c.at_table.ensures c.put_word.ensures.beside c.put_word.ensures.leaves in
-    (held.0, held.1, held.2, held.3, rw same held.4, held.5, λ going. (rw c.put_word.ensures.usable (held.6 c.if-self.false).0, kept.promise), kept.all, held.8, held.9)
+    (held.0, held.1, held.2, held.3, rw same held.4, held.5, λ going. (rw c.put_word.ensures.usable (held.6 c.if-self.false).0, kept.promise), kept.all, held.8, held.9, usable-owned g.F.FileBytes g.S.System c.self.inside c.self.invariant _ c.if-self.false c.put_word.new.file c.put_word.ensures.usable)
 
 pub returns-then-is_err-clause-durable : goal.returns-then-is_err-clause-durable
 returns-then-is_err-clause-durable g c = rw (c.fail.ensures.same, ← c.self.view_is) (word-kept g.F.FileBytes g.S.System c.self.inside c.self.invariant c.if-self.false c.put_word.new.file c.args.index c.at_table.result (rw (← c.self.view_is) at c.requires.in_range) c.at_table.ensures c.put_word.ensures.beside c.put_word.ensures.leaves).same
@@ -55,6 +55,7 @@ invariant_of-self-2 g c =
       kept.all,
       apart-set inside.safe.items inside.entries.items c.args.index c.args.entry held.8 (rw (← c.self.view_is) at c.requires.apart),
       held.9,
+      usable-owned g.F.FileBytes g.S.System c.self.inside c.self.invariant _ c.if-self.false c.put_word.new.file c.put_word.ensures.usable,
     )
 
 pub returns-clause-zones : goal.returns-clause-zones

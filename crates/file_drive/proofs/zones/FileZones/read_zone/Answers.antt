@@ -56,7 +56,7 @@ returns-clause-ok g c =
     (put ∙ ap (λ (bytes : List ℕ). c.args.into.now.items ++ bytes) (rw (begins, from, count) read))
 
 pub invariant_of-self : goal.invariant_of-self
-invariant_of-self g c = shown-kept g.F.FileBytes g.S.System c.self.inside c.self.invariant c.read_with_zeros.new.file c.read_with_zeros.ensures.seen c.read_with_zeros.ensures.usable c.read_with_zeros.ensures.leaves
+invariant_of-self g c = shown-kept g.F.FileBytes g.S.System c.self.inside c.self.invariant c.read_with_zeros.new.file c.read_with_zeros.ensures.seen c.read_with_zeros.ensures.usable c.read_with_zeros.ensures.leaves c.read_with_zeros.ensures.stuck c.read_with_zeros.ensures.shows
 
 pub invariant_of-self-2 : goal.invariant_of-self-2
-invariant_of-self-2 g c = shown-kept g.F.FileBytes g.S.System c.self.inside c.self.invariant c.read_with_zeros.new.file c.read_with_zeros.ensures.seen c.read_with_zeros.ensures.usable c.read_with_zeros.ensures.leaves
+invariant_of-self-2 g c = shown-kept g.F.FileBytes g.S.System c.self.inside c.self.invariant c.read_with_zeros.new.file c.read_with_zeros.ensures.seen c.read_with_zeros.ensures.usable c.read_with_zeros.ensures.leaves c.read_with_zeros.ensures.stuck c.read_with_zeros.ensures.shows

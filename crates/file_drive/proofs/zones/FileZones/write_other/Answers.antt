@@ -1,9 +1,8 @@
-use Rattle.std.proofs.Common.{rules, ◌≡◌, ◌∙◌, None, length, map, sym, ap}
-use Rattle.sqlite_disk.specs.Disk.{Only}
+use Rattle.std.proofs.Common.{rules, ◌≡◌, ◌∙◌, None, IsTrue, false, length, map, sym, ap}
 use Rattle.file_drive.specs.Tables.{next_entries, word_of}
 use Rattle.file_drive.proofs.ApartLaws.{next-none}
-use Rattle.file_drive.proofs.FaultLaws.{no-error}
-use Rattle.file_drive.proofs.KeptLaws.{kept-later, other-kept, other-places, other-served}
+use Rattle.file_drive.proofs.KeptLaws.{kept-later, other-kept, other-places, other-served, usable-owned}
+use Rattle.file_drive.proofs.OutLaws.{given-up, out-durable, out-places, out-served, out-sure, still-owned}
 use Rattle.file_drive.proofs.ServedLaws.{length-other, length-safe}
 use Rattle.file_drive.proofs.zones.FileZones.write_other.Goals as goal
 
@@ -24,7 +23,7 @@ invariant_of-self g c =
     let held = c.self.invariant in
     let kept = other-kept g.F.FileBytes g.S.System c.self.inside c.self.invariant c.if-self.false c.write_words-written.new.file c.at_table-at.result c.deref.result.now c.deref.ensures.value c.write_words-written.ensures.beside c.write_words-written.ensures.leaves c.at_table-at.ensures c.write_words-written.new.words.items in
     let served = other-served g.F.FileBytes g.S.System c.self.inside c.self.invariant c.if-self.false c.write_words-written.new.file c.at_table-at.result c.deref.result.now c.deref.ensures.value c.write_words-written.ensures.beside c.write_words-written.ensures.leaves c.at_table-at.ensures c.write_words-written.new.words.items c.write_words-written.ensures.known in
-    (held.0, held.1, held.2, held.3, served, held.5, λ e. absurd (cc e), kept.all, held.8, λ e. absurd (cc e))
+    (held.0, held.1, held.2, held.3, served, held.5, λ e. absurd (cc e), kept.all, held.8, λ e. absurd (cc e), usable-owned g.F.FileBytes g.S.System c.self.inside c.self.invariant _ c.if-self.false c.write_words-written.new.file c.write_words-written.ensures.usable)
 
 pub returns-then-is_err-clause-zones : goal.returns-then-is_err-clause-zones
 returns-then-is_err-clause-zones g c = rw (← c.self.view_is) (other-places g.F.FileBytes g.S.System c.self.inside c.self.invariant c.if-self.false c.write_words-written.new.file c.at_table-at.result c.deref.result.now c.deref.ensures.value c.write_words-written.ensures.beside c.write_words-written.ensures.leaves c.at_table-at.ensures)
@@ -32,41 +31,59 @@ returns-then-is_err-clause-zones g c = rw (← c.self.view_is) (other-places g.F
 pub returns-then-is_err-clause-durable : goal.returns-then-is_err-clause-durable
 returns-then-is_err-clause-durable g c = rw (← c.self.view_is) (other-kept g.F.FileBytes g.S.System c.self.inside c.self.invariant c.if-self.false c.write_words-written.new.file c.at_table-at.result c.deref.result.now c.deref.ensures.value c.write_words-written.ensures.beside c.write_words-written.ensures.leaves c.at_table-at.ensures c.write_words-written.new.words.items).same
 
-pub invariant_of-self-then-is_err-2 : goal.invariant_of-self-then-is_err-2
-invariant_of-self-then-is_err-2 g c =
+pub sync_file-requires-clause-named : goal.sync_file-requires-clause-named
+sync_file-requires-clause-named g c =
+    let served = other-served g.F.FileBytes g.S.System c.self.inside c.self.invariant c.if-self.false c.write_words-written.new.file c.at_table-at.result c.deref.result.now c.deref.ensures.value c.write_words-written.ensures.beside c.write_words-written.ensures.leaves c.at_table-at.ensures c.write_words-written.new.words.items c.write_words-written.ensures.known in
+    served.boot_is
+
+pub invariant_of-self-in-Ok : goal.invariant_of-self-in-Ok
+invariant_of-self-in-Ok g c =
     let held = c.self.invariant in
     let kept = other-kept g.F.FileBytes g.S.System c.self.inside c.self.invariant c.if-self.false c.write_words-written.new.file c.at_table-at.result c.deref.result.now c.deref.ensures.value c.write_words-written.ensures.beside c.write_words-written.ensures.leaves c.at_table-at.ensures c.write_words-written.new.words.items in
     let served = other-served g.F.FileBytes g.S.System c.self.inside c.self.invariant c.if-self.false c.write_words-written.new.file c.at_table-at.result c.deref.result.now c.deref.ensures.value c.write_words-written.ensures.beside c.write_words-written.ensures.leaves c.at_table-at.ensures c.write_words-written.new.words.items c.write_words-written.ensures.known in
-    let later = kept-later g.F.FileBytes c.self.inside c.write_words-written.new.file c.sync.new.self c.write_words-written.new.words.items c.sync.ensures.seen c.sync.ensures.leaves kept in
-    (held.0, held.1, held.2, held.3, rw c.sync.ensures.seen served, held.5, λ e. absurd (cc e), later.all, held.8, λ e. absurd (cc e))
+    let later = kept-later g.F.FileBytes c.self.inside c.write_words-written.new.file c.sync_file.new.file c.write_words-written.new.words.items c.in-Ok.ensures.seen c.in-Ok.ensures.left kept in
+    let usable : IsTrue (g.F.FileBytes.is_usable c.sync_file.new.file) = search rules in
+    let owned = still-owned g.F.FileBytes.may_leave g.F.FileBytes.may_show g.F.FileBytes.is_usable g.F.FileBytes.is_stuck c.self.inside.geometry g.S.System.boot c.sync_file.new.named _ c.sync_file.new.file usable
+    (c.in-Ok.ensures.same ∙ held.10.owned (held.6 c.if-self.false).0) in
+    (held.0, held.1, held.2, held.3, rw (c.in-Ok.ensures.seen, c.in-Ok.ensures.same) served, held.5, λ e. (usable, later.promise), later.all, held.8, held.9, owned)
 
-pub returns-then-is_err-2-clause-zones : goal.returns-then-is_err-2-clause-zones
-returns-then-is_err-2-clause-zones g c = rw (← c.self.view_is, c.sync.ensures.seen) (other-places g.F.FileBytes g.S.System c.self.inside c.self.invariant c.if-self.false c.write_words-written.new.file c.at_table-at.result c.deref.result.now c.deref.ensures.value c.write_words-written.ensures.beside c.write_words-written.ensures.leaves c.at_table-at.ensures)
-
-pub returns-then-is_err-2-clause-durable : goal.returns-then-is_err-2-clause-durable
-returns-then-is_err-2-clause-durable g c = rw (← c.self.view_is, c.sync.ensures.seen) (other-kept g.F.FileBytes g.S.System c.self.inside c.self.invariant c.if-self.false c.write_words-written.new.file c.at_table-at.result c.deref.result.now c.deref.ensures.value c.write_words-written.ensures.beside c.write_words-written.ensures.leaves c.at_table-at.ensures c.write_words-written.new.words.items).same
-
-pub invariant_of-self-else-is_err-2 : goal.invariant_of-self-else-is_err-2
-invariant_of-self-else-is_err-2 g c =
+pub invariant_of-self-in-Err : goal.invariant_of-self-in-Err
+invariant_of-self-in-Err g c =
     let held = c.self.invariant in
     let kept = other-kept g.F.FileBytes g.S.System c.self.inside c.self.invariant c.if-self.false c.write_words-written.new.file c.at_table-at.result c.deref.result.now c.deref.ensures.value c.write_words-written.ensures.beside c.write_words-written.ensures.leaves c.at_table-at.ensures c.write_words-written.new.words.items in
     let served = other-served g.F.FileBytes g.S.System c.self.inside c.self.invariant c.if-self.false c.write_words-written.new.file c.at_table-at.result c.deref.result.now c.deref.ensures.value c.write_words-written.ensures.beside c.write_words-written.ensures.leaves c.at_table-at.ensures c.write_words-written.new.words.items c.write_words-written.ensures.known in
-    let later = kept-later g.F.FileBytes c.self.inside c.write_words-written.new.file c.sync.new.self c.write_words-written.new.words.items c.sync.ensures.seen c.sync.ensures.leaves kept in
-    (held.0, held.1, held.2, held.3, rw c.sync.ensures.seen served, held.5, λ e. (search rules, later.promise), later.all, held.8, held.9)
+    let same = out-sure c.self.inside.geometry (g.F.FileBytes.seen c.write_words-written.new.file) (g.F.FileBytes.seen c.sync_file.new.file) c.sync_file.ensures.beside c.self.inside.safe.items c.write_words-written.new.words.items c.self.inside.unsure (held.9 c.if-self.false)
+    (length-safe c.self.inside.geometry (g.F.FileBytes.seen c.self.inside.file) c.self.inside.entries.items c.self.inside.live c.self.inside.flushed _ held.4) held.5.within in
+    let lost : g.F.FileBytes.is_usable c.sync_file.new.file ≡ false = c.in-Err.ensures.usable in
+    let served' = out-served c.self.inside.geometry (g.F.FileBytes.seen c.write_words-written.new.file) (g.F.FileBytes.seen c.sync_file.new.file) c.sync_file.ensures.beside c.sync_file.new.named c.self.inside.entries.items c.self.inside.live c.self.inside.flushed _ c.sync_file.ensures.named served in
+    let all = out-durable c.self.inside.geometry g.F.FileBytes.may_leave g.F.FileBytes.may_leave c.write_words-written.new.file c.sync_file.new.file _ _ same c.sync_file.ensures.leaves kept.all in
+    let owned = given-up g.F.FileBytes.may_leave g.F.FileBytes.may_show g.F.FileBytes.is_usable g.F.FileBytes.is_stuck c.self.inside.geometry g.S.System.boot c.sync_file.new.named _ c.write_words-written.new.file c.sync_file.new.file _ same lost c.in-Err.ensures.out kept.all in
+    (held.0, held.1, held.2, held.3, served', held.5, λ e. absurd (cc e), all, held.8, λ e. absurd (cc e), owned)
 
-pub returns-clause-zones : goal.returns-clause-zones
-returns-clause-zones g c = rw (← c.self.view_is, c.sync.ensures.seen) (other-places g.F.FileBytes g.S.System c.self.inside c.self.invariant c.if-self.false c.write_words-written.new.file c.at_table-at.result c.deref.result.now c.deref.ensures.value c.write_words-written.ensures.beside c.write_words-written.ensures.leaves c.at_table-at.ensures)
+pub returns-in-Ok-clause-zones : goal.returns-in-Ok-clause-zones
+returns-in-Ok-clause-zones g c = rw (← c.self.view_is, c.in-Ok.ensures.seen) (other-places g.F.FileBytes g.S.System c.self.inside c.self.invariant c.if-self.false c.write_words-written.new.file c.at_table-at.result c.deref.result.now c.deref.ensures.value c.write_words-written.ensures.beside c.write_words-written.ensures.leaves c.at_table-at.ensures)
 
-pub returns-clause-ready : goal.returns-clause-ready
-returns-clause-ready g c =
+pub returns-in-Ok-clause-ready : goal.returns-in-Ok-clause-ready
+returns-in-Ok-clause-ready g c =
     let served = other-served g.F.FileBytes g.S.System c.self.inside c.self.invariant c.if-self.false c.write_words-written.new.file c.at_table-at.result c.deref.result.now c.deref.ensures.value c.write_words-written.ensures.beside c.write_words-written.ensures.leaves c.at_table-at.ensures c.write_words-written.new.words.items c.write_words-written.ensures.known in
-    let durable : Only (g.F.FileBytes.seen c.write_words-written.new.file) (g.F.FileBytes.may_leave c.sync.new.self) =
-    no-error c.sync.result _ (sym c.is_err-2.ensures.value ∙ c.if-is_err-2.false) c.sync.ensures.durable in
     let put : c.write_words-written.new.words.items ≡ map word_of (next_entries None c.deref-2.result.now c.deref.result.now) = search rules in
     record {
-      synced = rw c.sync.ensures.seen durable;
-      words = rw (c.sync.ensures.seen, served.flushed_is) (served.other_words ∙ put ∙ ap (map word_of) (next-none c.deref-2.result.now c.deref.result.now ∙ c.deref.ensures.value));
+      synced = rw c.in-Ok.ensures.seen c.in-Ok.ensures.durable;
+      words = rw (c.in-Ok.ensures.seen, served.flushed_is) (served.other_words ∙ put ∙ ap (map word_of) (next-none c.deref-2.result.now c.deref.result.now ∙ c.deref.ensures.value));
     }
 
-pub returns-clause-durable : goal.returns-clause-durable
-returns-clause-durable g c = rw (← c.self.view_is, c.sync.ensures.seen) (other-kept g.F.FileBytes g.S.System c.self.inside c.self.invariant c.if-self.false c.write_words-written.new.file c.at_table-at.result c.deref.result.now c.deref.ensures.value c.write_words-written.ensures.beside c.write_words-written.ensures.leaves c.at_table-at.ensures c.write_words-written.new.words.items).same
+pub returns-in-Ok-clause-durable : goal.returns-in-Ok-clause-durable
+returns-in-Ok-clause-durable g c = rw (← c.self.view_is, c.in-Ok.ensures.seen) (other-kept g.F.FileBytes g.S.System c.self.inside c.self.invariant c.if-self.false c.write_words-written.new.file c.at_table-at.result c.deref.result.now c.deref.ensures.value c.write_words-written.ensures.beside c.write_words-written.ensures.leaves c.at_table-at.ensures c.write_words-written.new.words.items).same
+
+pub returns-in-Err-clause-zones : goal.returns-in-Err-clause-zones
+returns-in-Err-clause-zones g c = rw (← c.self.view_is) (λ place written low few.
+    out-places c.self.inside.geometry (g.F.FileBytes.seen c.write_words-written.new.file) (g.F.FileBytes.seen c.sync_file.new.file) c.sync_file.ensures.beside place written low few
+    ∙ other-places g.F.FileBytes g.S.System c.self.inside c.self.invariant c.if-self.false c.write_words-written.new.file c.at_table-at.result c.deref.result.now c.deref.ensures.value c.write_words-written.ensures.beside c.write_words-written.ensures.leaves c.at_table-at.ensures place written low few)
+
+pub returns-in-Err-clause-durable : goal.returns-in-Err-clause-durable
+returns-in-Err-clause-durable g c =
+    let held = c.self.invariant in
+    let kept = other-kept g.F.FileBytes g.S.System c.self.inside c.self.invariant c.if-self.false c.write_words-written.new.file c.at_table-at.result c.deref.result.now c.deref.ensures.value c.write_words-written.ensures.beside c.write_words-written.ensures.leaves c.at_table-at.ensures c.write_words-written.new.words.items in
+    let same = out-sure c.self.inside.geometry (g.F.FileBytes.seen c.write_words-written.new.file) (g.F.FileBytes.seen c.sync_file.new.file) c.sync_file.ensures.beside c.self.inside.safe.items c.write_words-written.new.words.items c.self.inside.unsure (held.9 c.if-self.false)
+    (length-safe c.self.inside.geometry (g.F.FileBytes.seen c.self.inside.file) c.self.inside.entries.items c.self.inside.live c.self.inside.flushed _ held.4) held.5.within in
+    rw (← c.self.view_is) (same ∙ kept.same)

@@ -1,0 +1,15 @@
+// Tells people what no reply can.
+#include "tell.h"
+#include <stdbool.h>
+#include <stdio.h>
+
+void zonedisk_tell_unsynced(void) {
+    fputs("zonedisk: the system could not write what an earlier program wrote: what was not flushed may be lost\n", stderr);
+}
+
+void zonedisk_tell_unknown_boot(void) {
+    static bool is_told;
+    if (is_told) return;
+    is_told = true;
+    fputs("zonedisk: the boot of the system is not known: if the program is killed, what was not flushed is lost\n", stderr);
+}

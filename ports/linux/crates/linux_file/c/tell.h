@@ -1,0 +1,8 @@
+// What the crate's kernel.rt declares: lines on standard error.
+#pragma once
+
+// Tells that the sync of a file at its opening has failed.
+void zonedisk_tell_unsynced(void);
+
+// Tells, once in a process, that the boot of the system is not known.
+void zonedisk_tell_unknown_boot(void);
