@@ -1,8 +1,8 @@
 -- What a device tells of its zones, and what a Read of one block gives.
-use Rattle.std.proofs.Common.{◌≡◌, ◌⊎◌, inl, inr, ℕ, zero, suc, ◌+◌, ◌-◌, ◌*◌, ◌/◌, ◌%◌, ◌<◌, ◌≤◌, Bool, true, false, List, [], ◌∷◌, ◌++◌, map, length, get_or, replicate, Option, Some, Ok, Err, Result, refl, sym, ap, ◌∙◌, arith, append-nil}
+use Rattle.std.proofs.Common.{◌≡◌, ◌⊎◌, inl, inr, ℕ, zero, suc, ◌+◌, ◌-◌, ◌*◌, ◌/◌, ◌%◌, ◌<◌, ◌≤◌, Bool, true, false, List, [], ◌∷◌, ◌++◌, map, length, get_or, replicate, Some, Ok, Err, refl, sym, ap, ◌∙◌, arith, append-nil}
 use Rattle.std.specs.Prelude.{slice_get}
 use Rattle.std.specs.List.{AllByRecursion}
-use Rattle.std.proofs.lemmas.List.{get_or_append_left, get_or-append_right, get_or_default, get_or_past, get_or-replicate, length-append, length-map, length-replicate}
+use Rattle.std.proofs.lemmas.List.{get_or_append_left, get_or-append_right, get_or_default, get_or_past, get_or-replicate, length-append, length-replicate}
 use Rattle.std.proofs.lemmas.Nat.{div-mul-add, mod-mul-add, mul-le}
 use Rattle.std.proofs.Math.Nat.{add-mul}
 use Rattle.nvme_wire.specs.declared.zone_state.ZoneState.{ZoneState}
@@ -11,21 +11,21 @@ use Rattle.zone_states.specs.declared.geometry.Geometry.{Geometry}
 use Rattle.zone_states.specs.Geometry.{IsInRange}
 use Rattle.zone_states.specs.Zone.{IsLawfulZone, MayHold, Zone}
 use Rattle.drive_port.specs.Calls.{CanRead, IsNotRefused, Obeys, ReadGives, ReadShows}
-use Rattle.drive_port.specs.Contents.{Content, block_at, bytes_at, content_at, content_of, contents, is_usable, usage_of}
+use Rattle.drive_port.specs.Contents.{Content, block_at, bytes_at, contents}
 use Rattle.drive_port.specs.Drive.{DriveState, IsClosing, IsLawful}
 use Rattle.drive_port.specs.Step.{end_of, is_state, zone_at}
 use Rattle.drive_port.specs.declared.calls.PortFault.{PortFault}
 use Rattle.drive_port.specs.declared.calls.PortFault.TheVariants as port
-use Rattle.drive_port.proofs.ClosingLaws.{content_at-contents, length-closing}
+use Rattle.drive_port.proofs.ClosingLaws.{content_at-contents}
 use Rattle.batch_log.specs.Log.{zero_block}
-use Rattle.drive_array.specs.ZoneLogs.{padding, readable}
+use Rattle.drive_array.specs.ZoneLogs.{padding}
 use Rattle.drive_array.proofs.AllLaws.{all-at}
 use Rattle.zone_choice.specs.Changes.{IsHalt}
 use Rattle.drive_survey.specs.declared.reported.ReportedZone.{ReportedZone}
 use Rattle.drive_survey.specs.Reported.{AreReported, IsReported, KeepsZones, ReportsZones}
 use Rattle.drive_survey.proofs.ReadLaws.{keeps-none}
 use Rattle.drive_survey.proofs.ReportLaws.{lawful-closing}
-use Rattle.drive_rescue.specs.Zones.{ReadZone, TellsAll, TellsZone, block_with, blocks_told, is_offline, is_padded, no_zone, read_blocks, read_zone, read_zones, zone_with}
+use Rattle.drive_rescue.specs.Zones.{ReadZone, TellsAll, TellsZone, block_with, blocks_told, is_offline, is_padded, read_blocks, read_zone, read_zones, zone_with}
 use Rattle.drive_rescue.proofs.KeepLaws.{closing-read}
 
 -- ---- a report

@@ -1,6 +1,6 @@
 -- The data of each batch that is found can be asked for.
-use Rattle.std.proofs.Common.{◌≡◌, ℕ, zero, suc, ◌+◌, ◌<◌, ◌≤◌, ◌^◌, nat_lt, Bool, true, false, cond, leb, ◌&&◌, List, [], ◌∷◌, ◌++◌, length, take, drop, get_or, Option, Some, None, refl, sym, ap, ◌∙◌, arith}
-use Rattle.std.specs.List.{AllByRecursion, flat_map}
+use Rattle.std.proofs.Common.{◌≡◌, ℕ, ◌+◌, ◌<◌, ◌≤◌, ◌^◌, nat_lt, Bool, true, false, cond, leb, ◌&&◌, List, [], ◌∷◌, ◌++◌, length, take, drop, get_or, Option, Some, None, refl, sym, ◌∙◌, arith}
+use Rattle.std.specs.List.{AllByRecursion}
 use Rattle.std.proofs.lemmas.Bool.Decides.{nat_tests}
 use Rattle.std.proofs.lemmas.List.{flat_map_more, get_or-drop, get_or-take, length-drop, length-take-le}
 use Rattle.batch_log.specs.Causes.{header_fault, is_zero}
@@ -11,7 +11,7 @@ use Rattle.batch_log.specs.declared.fault.LogFault.{LogFault}
 use Rattle.batch_log.specs.declared.header.Entry.{Entry}
 use Rattle.drive_array.specs.Records.{Record, batch_records, entry_content, entry_offset, entry_records}
 use Rattle.drive_array.proofs.AllLaws.{all-append}
-use Rattle.drive_rescue.specs.Searching.{Finding, Found, Place, Reaches, begins, looks, Searched, at_first, one_more, after_block, after_header, after_reading, batch_at, after_batch, ended, fits, follows, found_records, short_of, with_batch, with_gap, with_tail, with_zeros}
+use Rattle.drive_rescue.specs.Searching.{Finding, Found, Place, Reaches, begins, looks, Searched, at_first, one_more, after_block, after_header, after_reading, batch_at, fits, follows, found_records, with_batch, with_gap, with_tail, with_zeros}
 use Rattle.drive_rescue.specs.Zones.{Damage, ReadZone, block_with, zone_with}
 
 -- the data of a record is at its place

@@ -1,11 +1,11 @@
 -- The blocks of the disk are given one after the other.
-use Rattle.std.proofs.Common.{◌≡◌, ℕ, zero, suc, ◌+◌, ◌<◌, ◌≤◌, ◌^◌, nat_lt, Bool, true, false, is_none, List, [], ◌∷◌, ◌++◌, length, replicate, Option, Some, None, Result, Ok, Err, refl, sym, ap, subst, ◌∙◌, inl, inr, arith, append_assoc, append-nil}
-use Rattle.std.specs.Prelude.{filter, IfErr, IsSome, IfSome}
+use Rattle.std.proofs.Common.{◌≡◌, ℕ, suc, ◌+◌, ◌<◌, ◌^◌, nat_lt, Bool, true, false, is_none, List, [], ◌∷◌, ◌++◌, length, Option, Some, None, Result, Ok, Err, refl, sym, ap, ◌∙◌, inr, arith, append-nil}
+use Rattle.std.specs.Prelude.{filter, IfErr}
 use Rattle.std.specs.Result.{IsErrAnd}
 use Rattle.std.specs.Io.KnownBytes.{Appends, Keeps}
 use Rattle.std.specs.List.{AllByRecursion, range_with_len}
 use Rattle.std.specs.Option.{option_map}
-use Rattle.std.proofs.KnownBytes.{Appends-nil, Appends-trans, Keeps-refl}
+use Rattle.std.proofs.KnownBytes.{Appends-nil, Appends-trans}
 use Rattle.std.proofs.lemmas.List.Elements.{filter-append}
 use Rattle.disk_files.specs.Output.{AppendsFront}
 use Rattle.disk_files.proofs.OutputLaws.{front_second}
@@ -16,13 +16,13 @@ use Rattle.drive_rescue.specs.declared.fault.RescueFault.TheVariants as faults
 use Rattle.drive_rescue.specs.declared.giving.Rescued.{Rescued}
 use Rattle.drive_rescue.specs.declared.search.Search.{Search}
 use Rattle.drive_rescue.specs.declared.table.Slot.{Slot}
-use Rattle.drive_rescue.specs.Giving.{AllFit, FindsHeld, FitsSlot, Gave, GiveFails, GivesAll, GivesBlock, GivesData, GivesMore, GivesPart, IsKept, StepFails, only_if, slot_newness, zeros_of}
+use Rattle.drive_rescue.specs.Giving.{AllFit, FindsHeld, FitsSlot, Gave, GiveFails, GivesAll, GivesBlock, GivesData, GivesMore, GivesPart, IsKept, StepFails, only_if, slot_newness}
 use Rattle.drive_rescue.specs.Notes.{slot_at, slot_of}
 use Rattle.drive_rescue.specs.Ranges.{blocks_in}
-use Rattle.drive_rescue.specs.Rescue.{Finds, Gives, no_block, shows, loses, GivesBlocks, GivesFront, IsLost, KeepsSource, SourceView, WritesFront, may_be_older, newness, older_blocks}
+use Rattle.drive_rescue.specs.Rescue.{Gives, no_block, shows, loses, IsLost, KeepsSource, SourceView, may_be_older, newness, older_blocks}
 use Rattle.drive_rescue.specs.Searching.{Finding, found_records}
-use Rattle.drive_rescue.specs.Zones.{Damage, ReadZone, block_with, read_zones, zone_with}
-use Rattle.drive_rescue.proofs.FoundLaws.{AllStand, Stands, searched-stand}
+use Rattle.drive_rescue.specs.Zones.{read_zones, zone_with}
+use Rattle.drive_rescue.proofs.FoundLaws.{Stands, searched-stand}
 use Rattle.drive_rescue.proofs.KeepLaws.{count-kept, zones-kept}
 use Rattle.drive_rescue.proofs.RangeLaws.{range-more}
 

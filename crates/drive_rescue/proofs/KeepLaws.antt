@@ -1,14 +1,13 @@
 -- What stays as a source is read.
-use Rattle.std.proofs.Common.{◌≡◌, ◌⊎◌, inl, inr, ℕ, ◌<◌, ◌≤◌, Bool, true, List, [], ◌∷◌, map, length, Option, Some, None, Result, Ok, Err, refl, sym, ap, ◌∙◌, arith}
+use Rattle.std.proofs.Common.{◌≡◌, ◌⊎◌, inl, inr, ℕ, ◌<◌, List, [], ◌∷◌, map, length, Result, Ok, Err, refl, sym, ap, ◌∙◌}
 use Rattle.nvme_wire.specs.declared.zone_state.ZoneState.{ZoneState}
 use Rattle.nvme_wire.specs.declared.zone_state.ZoneState.TheVariants as states
 use Rattle.zone_states.specs.declared.geometry.Geometry.{Geometry}
 use Rattle.zone_states.specs.Geometry.{IsInRange}
 use Rattle.zone_states.specs.Zone.{Zone}
-use Rattle.drive_port.specs.Drive.{ClosesOne, DriveState, IsClosing, IsLawful}
+use Rattle.drive_port.specs.Drive.{ClosesOne, IsClosing, IsLawful}
 use Rattle.drive_port.specs.declared.device.Halt.{Halt}
 use Rattle.drive_port.proofs.ClosingLaws.{length-closing}
-use Rattle.drive_survey.specs.Reported.{KeepsZones}
 use Rattle.drive_survey.proofs.ReadLaws.{keeps-both, keeps-none}
 use Rattle.drive_rescue.specs.declared.source.Reading.{Reading}
 use Rattle.drive_rescue.specs.declared.source.Reading.TheVariants.{Held, Unreadable}

@@ -1,16 +1,15 @@
 -- What a rescue gives of a drive that can be mounted.
-use Rattle.std.proofs.Common.{◌≡◌, ◌⊎◌, inl, inr, ℕ, zero, suc, ◌+◌, ◌-◌, ◌*◌, ◌<◌, ◌≤◌, ◌^◌, nat_lt, nat_le, ltb, leb, ◌&&◌, ◌||◌, Bool, true, false, cond, List, [], ◌∷◌, ◌++◌, map, length, take, drop, get_or, replicate, Option, Some, None, refl, sym, ap, subst, ◌∙◌, arith, append_assoc, append-nil}
+use Rattle.std.proofs.Common.{◌≡◌, ◌⊎◌, inl, inr, ℕ, zero, suc, ◌+◌, ◌-◌, ◌<◌, ◌≤◌, ◌^◌, nat_lt, nat_le, Bool, true, false, List, [], ◌∷◌, ◌++◌, map, length, take, drop, get_or, replicate, Some, None, refl, sym, ap, subst, ◌∙◌, arith, append_assoc, append-nil}
 use Rattle.std.specs.Prelude.{filter}
 use Rattle.std.specs.List.{AllByRecursion, concat, flat_map, range_with_len}
 use Rattle.std.proofs.lemmas.Bool.{lt-ltb, le-leb}
 use Rattle.std.proofs.lemmas.Bool.Decides.{nat_tests}
-use Rattle.std.proofs.lemmas.List.{drop_at, flat_map_more, get_or_at, get_or-append_right, get_or-replicate, length-append, length-map, length-take-le, map-append, take_all, take_at, take_more}
+use Rattle.std.proofs.lemmas.List.{drop_at, get_or_at, get_or-append_right, get_or-replicate, length-append, length-map, length-take-le, map-append, take_all, take_at, take_more}
 use Rattle.std.proofs.lemmas.List.Concat.{flat_map-append}
 use Rattle.std.proofs.lemmas.List.Folds.{concat-append}
-use Rattle.batch_log.specs.declared.fault.LogFault.{LogFault}
 use Rattle.batch_log.specs.declared.fault.LogFault.TheVariants.{Magic}
 use Rattle.batch_log.specs.Causes.{header_fault, is_zero}
-use Rattle.batch_log.specs.Header.{Heading, IsHeading, IsHeaderBlock, head_size, header_block}
+use Rattle.batch_log.specs.Header.{Heading, IsHeading, head_size, header_block}
 use Rattle.batch_log.specs.Log.{Batch, IsBatch, IsLog, IsTail, IsTorn, batch_blocks, batch_size, data_count, log_size, zero_block}
 use Rattle.batch_log.specs.Reading.{heading_in}
 use Rattle.batch_log.proofs.CauseLaws.{no_fault, zeros_zero}
@@ -33,9 +32,8 @@ use Rattle.zone_states.specs.declared.geometry.Geometry.{Geometry}
 use Rattle.zone_states.specs.Geometry.{IsInRange}
 use Rattle.zone_states.specs.Zone.{Zone}
 use Rattle.drive_array.proofs.SizeLaws.{larger-assoc}
-use Rattle.drive_rescue.specs.declared.search.Trail.{Trail}
-use Rattle.drive_rescue.specs.declared.search.Trail.TheVariants.{Whole, Zeros, Lost}
-use Rattle.drive_rescue.specs.Searching.{Finding, Found, Place, Reaches, begins, looks, Reads, after_block, after_header, after_other, after_reading, batch_at, begun, doubt_before, found_records, found_size, is_lost, Searched, at_first, one_more, ended, with_batch, with_tail, with_zeros}
+use Rattle.drive_rescue.specs.declared.search.Trail.TheVariants.{Whole}
+use Rattle.drive_rescue.specs.Searching.{Finding, Found, Place, Reaches, begins, looks, after_header, after_reading, batch_at, begun, found_records, found_size, is_lost, Searched, at_first, one_more, ended, with_batch, with_tail, with_zeros}
 use Rattle.drive_rescue.specs.Laws.{MountableIsGiven}
 use Rattle.drive_rescue.specs.Rescue.{Gives, no_block, shows, loses, may_be_older, newness, older_blocks}
 use Rattle.drive_rescue.specs.Zones.{Damage, IsUndamaged, ReadZone, read_zone, read_zones, zone_with}

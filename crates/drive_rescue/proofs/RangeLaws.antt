@@ -1,6 +1,6 @@
 -- Ranges grow by a block.
 use Rattle.std.proofs.Common.{◌≡◌, ℕ, zero, suc, ◌+◌, ◌-◌, ◌<◌, List, [], ◌∷◌, ◌++◌, refl, sym, ap, ◌∙◌, arith, append_assoc, append-nil}
-use Rattle.std.specs.List.{flat_map, range_with_len}
+use Rattle.std.specs.List.{range_with_len}
 use Rattle.drive_rescue.specs.declared.ranges.BlockRange.{BlockRange}
 use Rattle.drive_rescue.specs.Ranges.{blocks_in}
 

@@ -1,10 +1,8 @@
 -- A rescue, of what is searched and what is given.
-use Rattle.std.proofs.Common.{◌≡◌, ◌⊎◌, inl, inr, ℕ, ◌+◌, ◌<◌, ◌≤◌, ◌^◌, List, [], ◌++◌, length, map, Option, Some, None, Result, Ok, Err, refl, sym, ap, ◌∙◌, arith}
+use Rattle.std.proofs.Common.{◌≡◌, inl, inr, ℕ, List, length, Option, Result, Ok, Err, ap, ◌∙◌}
 use Rattle.std.specs.Prelude.{IfErr, IfOk}
-use Rattle.std.specs.Io.KnownBytes.{Appends, Keeps}
 use Rattle.std.proofs.lemmas.List.{length-map}
 use Rattle.zone_states.specs.Geometry.{IsInRange}
-use Rattle.disk_files.specs.Output.{AppendsFront}
 use Rattle.drive_array.specs.Sizes.{size_or}
 use Rattle.drive_survey.specs.declared.reported.ReportedZone.{ReportedZone}
 use Rattle.drive_rescue.specs.declared.fault.RescueFault.{RescueFault}
@@ -13,8 +11,8 @@ use Rattle.drive_rescue.specs.declared.giving.Rescued.{Rescued}
 use Rattle.drive_rescue.specs.declared.search.Search.{Search}
 use Rattle.drive_rescue.specs.Giving.{FindsHeld, GiveFails, GivesAll, IsKept}
 use Rattle.drive_rescue.specs.Holding.{HoldsFinding}
-use Rattle.drive_rescue.specs.Rescue.{Finds, GivesFront, KeepsSource, RescueFails, Rescues, SourceView, WritesFront}
-use Rattle.drive_rescue.specs.Searching.{Finding, Searched, found_records}
+use Rattle.drive_rescue.specs.Rescue.{Finds, GivesFront, KeepsSource, RescueFails, Rescues, SourceView}
+use Rattle.drive_rescue.specs.Searching.{Finding, Searched}
 use Rattle.drive_rescue.specs.Zones.{TellsAll, read_zone, read_zones}
 use Rattle.drive_rescue.proofs.GiveLaws.{gave-back, kept-kept}
 use Rattle.drive_rescue.proofs.KeepLaws.{count-kept, zones-kept}

@@ -1,6 +1,6 @@
 -- The search of a zone, block by block.
-use Rattle.std.proofs.Common.{◌≡◌, ◌⊎◌, inl, inr, ℕ, zero, suc, ◌+◌, ◌<◌, ◌≤◌, ◌^◌, max, true, List, [], ◌∷◌, ◌++◌, length, Option, Some, None, Ok, refl, sym, ap, ◌∙◌, arith}
-use Rattle.std.specs.Prelude.{IfSome, slice_get}
+use Rattle.std.proofs.Common.{◌≡◌, ◌⊎◌, inl, inr, ℕ, suc, ◌+◌, ◌<◌, ◌≤◌, ◌^◌, max, true, List, [], ◌∷◌, ◌++◌, length, Option, Some, None, Ok, refl, sym, ap, ◌∙◌, arith}
+use Rattle.std.specs.Prelude.{slice_get}
 use Rattle.zone_states.specs.Geometry.{IsInRange}
 use Rattle.batch_log.specs.Header.{Heading}
 use Rattle.batch_log.specs.Log.{data_count}
@@ -15,7 +15,7 @@ use Rattle.drive_rescue.specs.declared.source.Reading.TheVariants.{Held, Unreada
 use Rattle.drive_rescue.specs.Holding.{Gets, Holds, HoldsFinding, IsSmall, IsSought}
 use Rattle.drive_rescue.specs.Rescue.{KeepsSource, ReadSays, SourceView}
 use Rattle.drive_rescue.specs.Searching.{Finding, Found, Place, Reaches, begins, looks, Searched, at_first, one_more, after_reading, begun, batch_at, doubt_before, ended, found_records, found_size, nothing_found, with_batch, with_gap}
-use Rattle.drive_rescue.specs.Zones.{Damage, ReadZone, TellsAll, TellsZone, block_with, read_zones, zone_with}
+use Rattle.drive_rescue.specs.Zones.{ReadZone, TellsAll, TellsZone, block_with, read_zones, zone_with}
 use Rattle.drive_rescue.specs.Notes.{Notes}
 use Rattle.drive_rescue.proofs.FoundLaws.{records-more}
 use Rattle.drive_rescue.proofs.KeepLaws.{zones-kept}

@@ -1,10 +1,9 @@
 -- What a rescue gives of a drive, of which some blocks cannot be read.
-use Rattle.std.specs.Prelude.{◌≡◌, ◌⊎◌, ℕ, zero, suc, ◌<◌, ◌≤◌, ◌^◌, nat_lt, Bool, true, false, List, [], ◌∷◌, ◌++◌, length, replicate, filter, Option, Some, None, IsSome, Result, Ok, Err}
+use Rattle.std.specs.Prelude.{◌≡◌, ◌⊎◌, ℕ, suc, ◌≤◌, ◌^◌, nat_lt, Bool, true, List, [], ◌∷◌, ◌++◌, length, replicate, filter, Option, Some, None, IsSome, Result, Ok, Err}
 use Rattle.std.specs.Io.KnownBytes.{Appends, Keeps}
-use Rattle.std.specs.List.{AllByRecursion, range_with_len}
-use Rattle.drive_port.specs.Drive.{DriveState, IsLawful}
+use Rattle.std.specs.List.{range_with_len}
+use Rattle.drive_port.specs.Drive.{DriveState}
 use Rattle.drive_port.specs.declared.device.Halt.{Halt}
-use Rattle.drive_port.specs.declared.device.Halt.TheVariants as halts
 use Rattle.disk_files.specs.Output.{AppendsFront}
 use Rattle.zone_states.specs.Geometry.{IsInRange}
 use Rattle.drive_array.specs.Records.{Record, newest, shown}
@@ -17,7 +16,7 @@ use Rattle.drive_rescue.specs.declared.source.Reading.{Reading}
 use Rattle.drive_rescue.specs.declared.source.Reading.TheVariants.{Held, Unreadable}
 use Rattle.drive_rescue.specs.Ranges.{blocks_in}
 use Rattle.drive_rescue.specs.Searching.{Finding, Searched, found_records, found_size}
-use Rattle.drive_rescue.specs.Zones.{Damage, ReadZone, block_with, read_zones, zone_with}
+use Rattle.drive_rescue.specs.Zones.{Damage, block_with, read_zones}
 
 -- ---- what is read
 

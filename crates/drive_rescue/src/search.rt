@@ -275,7 +275,11 @@ impl Search {
     }
 
     /// Looks at a header block.
-    fn look_at_header(&mut self, zone: SoughtZone, header: &HeaderView<'_>) -> Result<(), AllocError>
+    fn look_at_header(
+        &mut self,
+        zone: SoughtZone,
+        header: &HeaderView<'_>,
+    ) -> Result<(), AllocError>
         requires in_range { self.old.offset < zone.blocks }
         requires small { zone.blocks < 2 ^ 32 }
         requires size { IsSmall header.now.size }

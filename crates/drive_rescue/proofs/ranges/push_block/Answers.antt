@@ -1,4 +1,4 @@
-use Rattle.std.proofs.Common.{◌≡◌, ◌-◌, ◌+◌, arith, refl, sym, ap, ◌∙◌}
+use Rattle.std.proofs.Common.{◌+◌, refl, ap, ◌∙◌}
 use Rattle.drive_rescue.specs.declared.ranges.BlockRange.{BlockRange}
 use Rattle.drive_rescue.specs.Ranges.{blocks_in}
 use Rattle.drive_rescue.proofs.RangeLaws.{longer-range}

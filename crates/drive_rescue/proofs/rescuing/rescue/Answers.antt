@@ -28,7 +28,7 @@ returns-clause-ok g c =
     let kept = keeps-source_both first (g.S.Source.view c.report.new.self) last c.report.ensures.kept c.search_zones.ensures.kept in
     let range : IsInRange first.drive.geometry = subst IsInRange c.geometry-geometry.ensures.value c.in-Ok.ensures.ok in
     let held = finds-held (g.S.Source.view c.report.new.self) last c.in_ok-search.search c.deref.result.now c.search_zones.ensures.kept
-        (told-all first (g.S.Source.view c.report.new.self) c.in_ok-zones.zones.items c.deref.result.now c.report.ensures.kept c.deref.ensures.value c.in_ok-zones.ensures.ok) c.in_ok-search.ensures.ok in
+    (told-all first (g.S.Source.view c.report.new.self) c.in_ok-zones.zones.items c.deref.result.now c.report.ensures.kept c.deref.ensures.value c.in_ok-zones.ensures.ok) c.in_ok-search.ensures.ok in
     rescue-ok first last c.in_ok-search.search c.args.given c.size_or-size.result _ _ _ kept range held c.size_or-size.ensures.is c.give_blocks.ensures.size c.give_blocks.ensures.ok
 
 pub returns-clause-err : goal.returns-clause-err

@@ -5,7 +5,7 @@ use Rattle.drive_rescue.proofs.search.look.Goals as goal
 pub returns-in_ok-look_at-in-Held-clause-ok : goal.returns-in_ok-look_at-in-Held-clause-ok
 returns-in_ok-look_at-in-Held-clause-ok g c =
     λ finding gets. gets-block (g.S.Source.view c.args.source.now) c.args.zone finding c.args.search.now.offset c.args.search.now c.look_at.new.self c.read_again.new.into.items c.deref.result.now refl c.requires.zone c.requires.in_range c.deref.ensures.value
-        (rw c.in-Held.is at c.in_ok-read_again.ensures.says) c.in_ok-look_at-in-Held.ensures.holds gets
+    (rw c.in-Held.is at c.in_ok-read_again.ensures.says) c.in_ok-look_at-in-Held.ensures.holds gets
 
 pub returns-in-Unreadable-clause-ok : goal.returns-in-Unreadable-clause-ok
 returns-in-Unreadable-clause-ok g c =

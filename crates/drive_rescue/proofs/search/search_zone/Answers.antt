@@ -1,5 +1,5 @@
-use Rattle.drive_rescue.proofs.KeepLaws.{keeps-source_both, keeps-source_none, range-kept}
-use Rattle.drive_rescue.proofs.SearchLaws.{gets-all, gets-back, gets-first, gets-kept, sought-kept}
+use Rattle.drive_rescue.proofs.KeepLaws.{keeps-source_both, keeps-source_none}
+use Rattle.drive_rescue.proofs.SearchLaws.{gets-back, gets-first, gets-kept, sought-kept}
 use Rattle.drive_rescue.proofs.search.search_zone.Goals as goal
 
 pub loop-search-init : goal.loop-search-init

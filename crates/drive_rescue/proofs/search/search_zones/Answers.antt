@@ -1,4 +1,4 @@
-use Rattle.std.proofs.Common.{◌+◌, arith, refl, ap, ◌∙◌, ℕ}
+use Rattle.std.proofs.Common.{◌+◌, arith, ap}
 use Rattle.zone_states.specs.declared.geometry.Geometry.{Geometry}
 use Rattle.drive_survey.proofs.AllScanLaws.{there-is}
 use Rattle.drive_rescue.proofs.KeepLaws.{keeps-source_both, keeps-source_none}

@@ -1,4 +1,4 @@
-use Rattle.std.proofs.Common.{◌≡◌, ◌+◌, ◌∙◌, sym, ap, arith, true, false, List, Option}
+use Rattle.std.proofs.Common.{◌≡◌, ◌∙◌, sym, ap, arith, true, false, List, Option}
 use Rattle.drive_rescue.specs.declared.table.Slot.{Slot}
 use Rattle.drive_rescue.specs.Notes.{is_as_new, slot_at}
 use Rattle.drive_rescue.proofs.NoteLaws.{noted-new, noted-none, noted-old}

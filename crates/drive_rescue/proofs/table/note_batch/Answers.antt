@@ -1,6 +1,6 @@
-use Rattle.std.proofs.Common.{ℕ, ◌+◌, arith, refl, sym, ap, ◌∙◌, ◌++◌}
+use Rattle.std.proofs.Common.{ℕ, ◌+◌, arith, ap, ◌++◌}
 use Rattle.drive_array.specs.Records.{entry_records}
-use Rattle.drive_rescue.proofs.NoteLaws.{count-more, left_records, no-records, noting-all, noting-more, noting-none, slot-made}
+use Rattle.drive_rescue.proofs.NoteLaws.{count-more, no-records, noting-all, noting-more, noting-none, slot-made}
 use Rattle.drive_rescue.proofs.table.note_batch.Goals as goal
 
 pub loop-i-init : goal.loop-i-init

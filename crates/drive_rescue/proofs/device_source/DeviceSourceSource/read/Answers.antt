@@ -1,4 +1,4 @@
-use Rattle.std.proofs.Common.{◌≡◌, ◌+◌, ◌*◌, ℕ, ap, refl, ◌∙◌}
+use Rattle.std.proofs.Common.{◌+◌, ◌*◌, ℕ, ap, refl, ◌∙◌}
 use Rattle.zone_states.specs.declared.geometry.Geometry.{Geometry}
 use Rattle.drive_rescue.proofs.DeviceLaws.{read-gives, read-halts, reads-block}
 use Rattle.drive_rescue.proofs.device_source.DeviceSourceSource.read.Goals as goal

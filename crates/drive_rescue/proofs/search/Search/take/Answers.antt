@@ -1,4 +1,4 @@
-use Rattle.std.proofs.Common.{◌≡◌, ◌+◌, ◌^◌, ℕ, max, Option, refl, sym, ap, ◌∙◌, arith}
+use Rattle.std.proofs.Common.{◌+◌, ℕ, max, Option, refl, ap, ◌∙◌}
 use Rattle.drive_array.specs.Sizes.{larger}
 use Rattle.drive_rescue.specs.Searching.{doubt_before}
 use Rattle.drive_rescue.proofs.SearchLaws.{takes-batch}
