@@ -25,7 +25,7 @@ use Rattle.drive_survey.specs.declared.reported.ReportedZone.{ReportedZone}
 use Rattle.drive_survey.specs.Reported.{AreReported, IsReported, KeepsZones, ReportsZones}
 use Rattle.drive_survey.proofs.ReadLaws.{keeps-none}
 use Rattle.drive_survey.proofs.ReportLaws.{lawful-closing}
-use Rattle.drive_rescue.specs.Zones.{ReadZone, TellsAll, TellsZone, block_with, blocks_told, is_offline, is_padded, read_blocks, read_zone, read_zones, zone_with}
+use Rattle.drive_rescue.specs.Zones.{ReadZone, TellsAll, TellsZone, block_with, blocks_told, is_offline, is_open_ended, is_padded, read_blocks, read_zone, read_zones, zone_with}
 use Rattle.drive_rescue.proofs.KeepLaws.{closing-read}
 
 -- ---- a report
@@ -37,6 +37,7 @@ tells-one : (g : Geometry) (zone : Zone) (r : ReportedZone) (state : ZoneState) 
 tells-one g zone r state is held told = record {
   offline = ap is_offline (sym told.state);
   padded = ap is_padded (sym told.state);
+  open_ended = ap is_open_ended (sym told.state);
   blocks = at state is held;
 }
   where

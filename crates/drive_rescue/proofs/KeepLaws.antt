@@ -12,12 +12,12 @@ use Rattle.drive_survey.proofs.ReadLaws.{keeps-both, keeps-none}
 use Rattle.drive_rescue.specs.declared.source.Reading.{Reading}
 use Rattle.drive_rescue.specs.declared.source.Reading.TheVariants.{Held, Unreadable}
 use Rattle.drive_rescue.specs.Rescue.{KeepsSource, ReadSays, SourceView}
-use Rattle.drive_rescue.specs.Zones.{ReadZone, block_with, is_offline, is_padded, read_blocks, read_zone, read_zones, zone_with}
+use Rattle.drive_rescue.specs.Zones.{ReadZone, block_with, is_offline, is_open_ended, is_padded, read_blocks, read_zone, read_zones, zone_with}
 
 -- ---- zones
 
 made : Geometry → ZoneState → List (List ℕ) → ReadZone
-made g state blocks = record { offline = is_offline state; padded = is_padded state; blocks = read_blocks g state blocks }
+made g state blocks = record { offline = is_offline state; padded = is_padded state; open_ended = is_open_ended state; blocks = read_blocks g state blocks }
 
 -- a zone that the controller closed is read as before
 closes-read : (g : Geometry) (z y : Zone) → ClosesOne z y → read_zone g y ≡ read_zone g z

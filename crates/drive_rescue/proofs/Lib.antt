@@ -1,5 +1,6 @@
 pub mod KeepLaws
 pub mod NoteLaws
+pub mod CutLaws
 pub mod FoundLaws
 pub mod SearchLaws
 pub mod RangeLaws

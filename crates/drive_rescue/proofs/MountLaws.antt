@@ -37,6 +37,7 @@ use Rattle.drive_rescue.specs.Searching.{Finding, Found, Place, Reaches, begins,
 use Rattle.drive_rescue.specs.Laws.{MountableIsGiven}
 use Rattle.drive_rescue.specs.Rescue.{Gives, no_block, shows, loses, may_be_older, newness, older_blocks}
 use Rattle.drive_rescue.specs.Zones.{Damage, IsUndamaged, ReadZone, read_zone, read_zones, zone_with}
+use Rattle.drive_rescue.proofs.CutLaws.{cut-same}
 use Rattle.drive_rescue.proofs.RangeLaws.{range-more}
 
 -- ---- the batches of a log, as they are found
@@ -135,6 +136,7 @@ pub record IsSound (b : ℕ) (zone : ReadZone) (log : List Batch) : Type 0 where
   pub room : head_size ≤ b
   pub small : b < 2 ^ 32
   pub online : zone.offline ≡ false
+  pub closed : zone.open_ended ≡ false
   pub is : IsLog b zone.padded zone.blocks log
   pub numbers : AllByRecursion (λ sequence. sequence < 2 ^ 63) (log_sequences log)
 
@@ -228,7 +230,7 @@ zeros-passed b zone number place block padded is =
 
 -- a torn tail in one that is not
 header-short : (zone : ReadZone) (number : ℕ) (place : Place) (heading : Heading) → place.trail ≡ Whole → zone.padded ≡ false → length zone.blocks < place.offset + 1 + data_count heading.entries
-    → after_header zone number place heading ≡ with_tail zone place
+    → after_header zone number place heading ≡ with_tail zone place heading
 header-short zone number place heading whole open_zone short =
     let no_fit : nat_le (place.offset + 1 + data_count heading.entries) (length zone.blocks) ≡ false = at (place.offset + 1 + data_count heading.entries) (length zone.blocks) short in
     rw (whole, no_fit, open_zone) refl
@@ -257,8 +259,8 @@ from-after b zone log number finding place block sound after lt is = at zone.pad
         let read : block ≡ head = is ∙ ap (λ (xs : List (List ℕ)). get_or xs place.offset []) whole ∙ get_or_at (flat_map (batch_blocks b) log) head t.body [] place.offset (omega (arith, long, here.0)) in
         let m = meets b block t.heading sound.room sound.small t.says read in
         let short : length zone.blocks < place.offset + 1 + data_count t.heading.entries = omega (arith, count, ap length t.encoded, t.few, here.0) in
-        let next : after_reading zone number place (Some block) ≡ with_tail zone place = block-taken zone number place block t.heading m ∙ header-short zone number place t.heading here.1 open_zone short in
-        rw next (record { far = omega (arith, count); whole = rw here.1 refl; there = λ p past. absurd (omega (arith, past)); found = after.found })
+        let next : after_reading zone number place (Some block) ≡ with_tail zone place t.heading = block-taken zone number place block t.heading m ∙ header-short zone number place t.heading here.1 open_zone short in
+        rw next (record { far = omega (arith, count); whole = rw here.1 refl; there = λ p past. absurd (omega (arith, past)); found = rw sound.closed after.found })
 
     at : (p : Bool) → zone.padded ≡ p → IsTail b p sound.is.tail → After zone log number finding (after_reading zone number place (Some block))
     at true padded zeros =
@@ -299,12 +301,12 @@ zone-found b damaged zone log number finding place none sound reaches far = at (
 -- ---- all zones
 
 usable-read : (g : Geometry) (zone : Zone) (state : ZoneState) → zone.state ≡ state → is_usable (usage_of state) ≡ true
-    → ((read_zone g zone).offline ≡ false) × ((read_zone g zone).padded ≡ is_full (usage_of zone.state)) × ((read_zone g zone).blocks ≡ readable g (content_of zone))
-usable-read g zone states.Empty is usable = rw is (refl, refl, refl)
-usable-read g zone states.ImplicitlyOpened is usable = rw is (refl, refl, refl)
-usable-read g zone states.ExplicitlyOpened is usable = rw is (refl, refl, refl)
-usable-read g zone states.Closed is usable = rw is (refl, refl, refl)
-usable-read g zone states.Full is usable = rw is (refl, refl, refl)
+    → ((read_zone g zone).offline ≡ false) × ((read_zone g zone).padded ≡ is_full (usage_of zone.state)) × ((read_zone g zone).blocks ≡ readable g (content_of zone)) × ((read_zone g zone).open_ended ≡ false)
+usable-read g zone states.Empty is usable = rw is (refl, refl, refl, refl)
+usable-read g zone states.ImplicitlyOpened is usable = rw is (refl, refl, refl, refl)
+usable-read g zone states.ExplicitlyOpened is usable = rw is (refl, refl, refl, refl)
+usable-read g zone states.Closed is usable = rw is (refl, refl, refl, refl)
+usable-read g zone states.Full is usable = rw is (refl, refl, refl, refl)
 usable-read g zone states.ReadOnly is usable = absurd (cc)
 usable-read g zone states.Offline is usable = absurd (cc)
 
@@ -333,6 +335,7 @@ zone-sound drive n number range mountable lt =
       room = room range.block;
       small = mountable.lawful.geometry.block;
       online = read.0;
+      closed = read.3;
       is = rw log is;
       numbers = numbers;
     })
@@ -345,12 +348,17 @@ zone-sound drive n number range mountable lt =
 searched-found : (drive : DriveState) (damaged : Damage) (n m : ℕ) (finding : Finding) → IsInRange drive.geometry → IsMountable drive n → IsUndamaged damaged → m ≤ length drive.zones → Searched damaged (read_zones drive) m finding
     → finding ≡ record { found = found_all 0 (take m (drive_logs drive)); doubt = 0 }
 searched-found drive damaged n _ _ range mountable none le at_first = refl
-searched-found drive damaged n _ _ range mountable none le (one_more {n = m} {finding} {place} before reaches far) =
+searched-found drive damaged n _ _ range mountable none le (one_more {n = m} {finding} {after} before searches) =
     let logs = drive_logs drive in
     let count : length logs ≡ length drive.zones = omega (arith, length-map (contents drive.zones) (zone_log drive.geometry), length-map drive.zones content_of) in
     let lt : m < length drive.zones = omega (arith, le) in
     let so_far = searched-found drive damaged n m finding range mountable none (omega (arith, le)) before in
-    let here = zone-found drive.geometry.block damaged (zone_with (read_zones drive) m) (log_at logs m) m finding place none (zone-sound drive n m range mountable lt) reaches far in
+    let zone = zone_with (read_zones drive) m in
+    let sound = zone-sound drive n m range mountable lt in
+    let whole = cut-same zone searches.end sound.closed in
+    let reaches : Reaches damaged zone m finding searches.place = rw whole at searches.reaches in
+    let far : length zone.blocks ≤ searches.place.offset = rw whole at searches.far in
+    let here = searches.after_is ∙ zone-found drive.geometry.block damaged zone (log_at logs m) m finding searches.place none sound reaches far in
     let one : suc m ≡ m + 1 = omega arith in
     let next : take (suc m) logs ≡ take m logs ++ log_at logs m ∷ [] = ap (λ (k : ℕ). take k logs) one ∙ take_more logs m [] (omega (arith, count, lt)) in
     let long : length (take m logs) ≡ m = length-take-le m logs (omega (arith, count, lt)) in

@@ -1,7 +1,8 @@
 -- The search of a zone, block by block.
-use Rattle.std.proofs.Common.{◌≡◌, ◌⊎◌, inl, inr, ℕ, suc, ◌+◌, ◌<◌, ◌≤◌, ◌^◌, max, true, List, [], ◌∷◌, ◌++◌, length, Option, Some, None, Ok, refl, sym, ap, ◌∙◌, arith}
+use Rattle.std.proofs.Common.{◌≡◌, ◌⊎◌, inl, inr, ℕ, zero, suc, ◌+◌, ◌<◌, ◌≤◌, ◌^◌, max, Bool, true, false, List, [], ◌∷◌, ◌++◌, length, Option, Some, None, Ok, refl, sym, ap, ◌∙◌, arith}
 use Rattle.std.specs.Prelude.{slice_get}
 use Rattle.zone_states.specs.Geometry.{IsInRange}
+use Rattle.batch_log.specs.Causes.{is_zero}
 use Rattle.batch_log.specs.Header.{Heading}
 use Rattle.batch_log.specs.Log.{data_count}
 use Rattle.drive_array.specs.Records.{Record, entry_records}
@@ -12,11 +13,12 @@ use Rattle.drive_rescue.specs.declared.search.Search.{Search}
 use Rattle.drive_rescue.specs.declared.search.SoughtZone.{SoughtZone}
 use Rattle.drive_rescue.specs.declared.search.Trail.TheVariants.{Whole}
 use Rattle.drive_rescue.specs.declared.source.Reading.TheVariants.{Held, Unreadable}
-use Rattle.drive_rescue.specs.Holding.{Gets, Holds, HoldsFinding, IsSmall, IsSought}
+use Rattle.drive_rescue.specs.Holding.{GetsIn, Holds, HoldsFinding, HoldsZone, IsSmall, IsSought, IsSoughtIn, SaysZero}
 use Rattle.drive_rescue.specs.Rescue.{KeepsSource, ReadSays, SourceView}
-use Rattle.drive_rescue.specs.Searching.{Finding, Found, Place, Reaches, begins, looks, Searched, at_first, one_more, after_reading, begun, batch_at, doubt_before, ended, found_records, found_size, nothing_found, with_batch, with_gap}
-use Rattle.drive_rescue.specs.Zones.{ReadZone, TellsAll, TellsZone, block_with, read_zones, zone_with}
+use Rattle.drive_rescue.specs.Searching.{EndsAt, Finding, Found, Place, begins, looks, Searched, SearchesZone, at_first, one_more, after_reading, begun, batch_at, doubt_before, ended, found_records, found_size, nothing_found, with_batch, with_gap}
+use Rattle.drive_rescue.specs.Zones.{ReadZone, TellsAll, TellsZone, block_with, cut, read_zones, zone_with}
 use Rattle.drive_rescue.specs.Notes.{Notes}
+use Rattle.drive_rescue.proofs.CutLaws.{cut-within}
 use Rattle.drive_rescue.proofs.FoundLaws.{records-more}
 use Rattle.drive_rescue.proofs.KeepLaws.{zones-kept}
 
@@ -28,26 +30,23 @@ block-room source number offset n bytes range says is = at range.block
     at (inl e) = (omega (arith, e, says.1, is), omega (arith, e, says.1, is))
     at (inr e) = (omega (arith, e, says.1, is), omega (arith, e, says.1, is))
 
--- the zone as it was looked at
-abbrev pub GetsIn : SourceView → ℕ → Finding → Search → Type 0
-GetsIn source number finding search = Gets source.damaged (zone_with (read_zones source.drive) number) number finding search
-
 -- the next block of a zone was read
-pub gets-block : (source : SourceView) (sought : SoughtZone) (finding : Finding) (offset : ℕ) (old new : Search) (bytes block : List ℕ) → offset ≡ old.offset → IsSought sought (zone_with (read_zones source.drive) sought.number) → offset < sought.blocks
+pub gets-block : (source : SourceView) (sought : SoughtZone) (finding : Finding) (end offset : ℕ) (old new : Search) (bytes block : List ℕ) → offset ≡ old.offset → IsSought sought (cut (zone_with (read_zones source.drive) sought.number) end) → offset < sought.blocks
     → block ≡ bytes → ReadSays source sought.number offset (Ok Held) bytes
-    → ((read : ReadZone) (place : Place) → IsSought sought read → Holds old place → Holds new (after_reading read sought.number place (Some block))) → GetsIn source sought.number finding old → GetsIn source sought.number finding new
-gets-block source sought finding offset old new bytes block at is lt same says step gets =
-    let zone = zone_with (read_zones source.drive) sought.number in
+    → ((read : ReadZone) (place : Place) → IsSought sought read → Holds old place → Holds new (after_reading read sought.number place (Some block))) → GetsIn source sought.number end finding old → GetsIn source sought.number end finding new
+gets-block source sought finding end offset old new bytes block at is lt same says step gets =
+    let zone = cut (zone_with (read_zones source.drive) sought.number) end in
     let there : offset ≡ gets.place.offset = at ∙ gets.holds.offset in
     let lt' : gets.place.offset < length zone.blocks = omega (arith, there, lt, is.blocks) in
+    let full = ((cut-within (zone_with (read_zones source.drive) sought.number) end).each gets.place.offset lt').1 in
     let read : block ≡ block_with (read_zones source.drive) sought.number gets.place.offset = rw (← there) (same ∙ says.0) in
-    record { place = after_reading zone sought.number gets.place (Some block); reaches = looks (Some block) gets.reaches lt' read; holds = step zone gets.place is gets.holds }
+    record { place = after_reading zone sought.number gets.place (Some block); reaches = looks (Some block) gets.reaches lt' (read ∙ sym full); holds = step zone gets.place is gets.holds }
 
 -- the next block of a zone could not be read
-pub gets-gap : (source : SourceView) (sought : SoughtZone) (finding : Finding) (offset : ℕ) (old new : Search) (bytes : List ℕ) → offset ≡ old.offset → IsSought sought (zone_with (read_zones source.drive) sought.number) → offset < sought.blocks
-    → ReadSays source sought.number offset (Ok Unreadable) bytes → ((place : Place) → Holds old place → Holds new (with_gap place)) → GetsIn source sought.number finding old → GetsIn source sought.number finding new
-gets-gap source sought finding offset old new bytes at is lt says step gets =
-    let zone = zone_with (read_zones source.drive) sought.number in
+pub gets-gap : (source : SourceView) (sought : SoughtZone) (finding : Finding) (end offset : ℕ) (old new : Search) (bytes : List ℕ) → offset ≡ old.offset → IsSought sought (cut (zone_with (read_zones source.drive) sought.number) end) → offset < sought.blocks
+    → ReadSays source sought.number offset (Ok Unreadable) bytes → ((place : Place) → Holds old place → Holds new (with_gap place)) → GetsIn source sought.number end finding old → GetsIn source sought.number end finding new
+gets-gap source sought finding end offset old new bytes at is lt says step gets =
+    let zone = cut (zone_with (read_zones source.drive) sought.number) end in
     let there : offset ≡ gets.place.offset = at ∙ gets.holds.offset in
     let lt' : gets.place.offset < length zone.blocks = omega (arith, there, lt, is.blocks) in
     let damaged : source.damaged sought.number gets.place.offset ≡ true = rw (← there) says in
@@ -55,11 +54,14 @@ gets-gap source sought finding offset old new bytes at is lt says step gets =
 
 -- ---- one zone
 
-pub gets-kept : (a b : SourceView) (number : ℕ) (finding : Finding) (search : Search) → KeepsSource a b → GetsIn a number finding search → GetsIn b number finding search
-gets-kept a b number finding search k gets = rw (k.damaged, zones-kept a b k) gets
+gets-kept : (a b : SourceView) (number end : ℕ) (finding : Finding) (search : Search) → KeepsSource a b → GetsIn a number end finding search → GetsIn b number end finding search
+gets-kept a b number end finding search k gets = rw (k.damaged, zones-kept a b k) gets
 
-pub gets-back : (a b : SourceView) (number : ℕ) (finding : Finding) (search : Search) → KeepsSource a b → GetsIn b number finding search → GetsIn a number finding search
-gets-back a b number finding search k gets = rw (← k.damaged, ← zones-kept a b k) gets
+gets-back : (a b : SourceView) (number end : ℕ) (finding : Finding) (search : Search) → KeepsSource a b → GetsIn b number end finding search → GetsIn a number end finding search
+gets-back a b number end finding search k gets = rw (← k.damaged, ← zones-kept a b k) gets
+
+cut-kept : (a b : SourceView) (sought : SoughtZone) (end : ℕ) → KeepsSource a b → IsSought sought (cut (zone_with (read_zones a.drive) sought.number) end) → IsSought sought (cut (zone_with (read_zones b.drive) sought.number) end)
+cut-kept a b sought end k is = rw (zones-kept a b k) is
 
 pub sought-kept : (a b : SourceView) (sought : SoughtZone) → KeepsSource a b → IsSought sought (zone_with (read_zones a.drive) sought.number) → IsSought sought (zone_with (read_zones b.drive) sought.number)
 sought-kept a b sought k is = rw (zones-kept a b k) is
@@ -68,14 +70,23 @@ pub sought-at : (zones : List ReadZone) (sought : SoughtZone) (n m : ℕ) → m 
 sought-at zones sought n m same is = rw same is
 
 -- a zone begins to be searched
-pub gets-first : (source : SourceView) (number : ℕ) (finding : Finding) (search : Search) → Holds search (begun (zone_with (read_zones source.drive) number) finding) → GetsIn source number finding search
-gets-first source number finding search holds = record { place = begun (zone_with (read_zones source.drive) number) finding; reaches = begins; holds = holds }
+pub gets-first : (source : SourceView) (number end : ℕ) (finding : Finding) (search : Search) → Holds search (begun (cut (zone_with (read_zones source.drive) number) end) finding) → GetsIn source number end finding search
+gets-first source number end finding search holds = record { place = begun (cut (zone_with (read_zones source.drive) number) end) finding; reaches = begins; holds = holds }
+
+-- the search of a zone goes on
+pub gets-next : (a b : SourceView) (sought : SoughtZone) (end : ℕ) (finding : Finding) (old new : Search) → KeepsSource a b → IsSought sought (cut (zone_with (read_zones a.drive) sought.number) end)
+    → ((finding : Finding) (end : ℕ) → IsSought sought (cut (zone_with (read_zones b.drive) sought.number) end) → GetsIn b sought.number end finding old → GetsIn b sought.number end finding new)
+    → GetsIn a sought.number end finding old → GetsIn a sought.number end finding new
+gets-next a b sought end finding old new k is step gets = gets-back a b sought.number end finding new k (step finding end (cut-kept a b sought end k is) (gets-kept a b sought.number end finding old k gets))
 
 -- a zone is searched
-pub gets-all : (source : SourceView) (sought : SoughtZone) (finding : Finding) (old new : Search) → IsSought sought (zone_with (read_zones source.drive) sought.number) → sought.blocks ≤ old.offset
-    → ((place : Place) → Holds old place → HoldsFinding new (ended place)) → GetsIn source sought.number finding old
-    → (place : Place) × Reaches source.damaged (zone_with (read_zones source.drive) sought.number) sought.number finding place × (length (zone_with (read_zones source.drive) sought.number).blocks ≤ place.offset) × HoldsFinding new (ended place)
-gets-all source sought finding old new is far step gets = (gets.place, gets.reaches, omega (arith, far, is.blocks, gets.holds.offset), step gets.place gets.holds)
+pub gets-all : (source : SourceView) (sought : SoughtZone) (finding : Finding) (old new : Search) → (is : IsSoughtIn source sought) → sought.blocks ≤ old.offset
+    → ((place : Place) → Holds old place → HoldsFinding new (ended place)) → GetsIn source sought.number is.end finding old → HoldsZone source sought.number finding new
+gets-all source sought finding old new is far step gets = record {
+  after = ended gets.place;
+  searches = record { end = is.end; ends = is.ends; place = gets.place; reaches = gets.reaches; far = omega (arith, far, is.is.blocks, gets.holds.offset); after_is = refl };
+  holds = step gets.place gets.holds;
+}
 
 -- ---- all zones
 
@@ -88,15 +99,13 @@ pub record SearchedTo (source : SourceView) (n : ℕ) (search : Search) : Type 0
 pub searched-none : (source : SourceView) (search : Search) → HoldsFinding search nothing_found → SearchedTo source 0 search
 searched-none source search holds = record { finding = nothing_found; searched = at_first; holds = holds }
 
-pub searched-more : (a b : SourceView) (n n' number : ℕ) (old new : Search) → KeepsSource a b → n' ≡ suc n → number ≡ n
-    → ((finding : Finding) → HoldsFinding old finding → (place : Place) × Reaches b.damaged (zone_with (read_zones b.drive) number) number finding place
-    × (length (zone_with (read_zones b.drive) number).blocks ≤ place.offset) × HoldsFinding new (ended place))
-    → SearchedTo a n old → SearchedTo a n' new
+searches-back : (a b : SourceView) (n number : ℕ) (before after : Finding) → KeepsSource a b → number ≡ n → SearchesZone b.damaged (zone_with (read_zones b.drive) number) number before after → SearchesZone a.damaged (zone_with (read_zones a.drive) n) n before after
+searches-back a b n number before after k is searches = rw (← k.damaged, ← zones-kept a b k, ← is) searches
+
+pub searched-more : (a b : SourceView) (n n' number : ℕ) (old new : Search) → KeepsSource a b → n' ≡ suc n → number ≡ n → ((finding : Finding) → HoldsFinding old finding → HoldsZone b number finding new) → SearchedTo a n old → SearchedTo a n' new
 searched-more a b n n' number old new k next is step done =
     let more = step done.finding done.holds in
-    let reaches : Reaches a.damaged (zone_with (read_zones a.drive) n) n done.finding more.0 = rw (← k.damaged, ← zones-kept a b k, ← is) more.1 in
-    let far : length (zone_with (read_zones a.drive) n).blocks ≤ more.0.offset = rw (← zones-kept a b k, ← is) more.2 in
-    rw next (record { finding = ended more.0; searched = one_more done.searched reaches far; holds = more.3 })
+    rw next (record { finding = more.after; searched = one_more done.searched (searches-back a b n number done.finding more.after k is more.searches); holds = more.holds })
 
 pub told-kept : (a b : SourceView) (reported : List ReportedZone) (number : ℕ) (r : ReportedZone) → KeepsSource a b → TellsAll a.drive.geometry.capacity (read_zones a.drive) reported → slice_get reported number ≡ Some r
     → (n : ℕ) → n ≡ a.drive.geometry.capacity → TellsZone n (zone_with (read_zones b.drive) number) r
@@ -134,3 +143,43 @@ takes-batch old new zone number place heading offset trail floor doubt size smal
         notes = rw (records-more found f) noted;
       };
     }
+
+-- ---- where a zone ends
+
+-- from this block on there are only zeros
+abbrev pub ZerosFrom : SourceView → ℕ → ℕ → Type 0
+ZerosFrom source number end = (offset : ℕ) → end ≤ offset → offset < length (zone_with (read_zones source.drive) number).blocks → is_zero (block_with (read_zones source.drive) number offset) ≡ true
+
+says-back : (a b : SourceView) (number offset : ℕ) (told : Bool) → KeepsSource a b → SaysZero b number offset told → SaysZero a number offset told
+says-back a b number offset true k says = rw (← zones-kept a b k) says
+says-back a b number offset false k (inl damaged) = inl (rw (← k.damaged) damaged)
+says-back a b number offset false k (inr other) = inr (rw (← zones-kept a b k) other)
+
+-- one zero block more
+pub zeros-more : (a b : SourceView) (number before end : ℕ) (told : Bool) → KeepsSource a b → end ≡ suc before → told ≡ true → SaysZero b number before told → ZerosFrom a number end → ZerosFrom a number before
+zeros-more a b number before end told k next is says zeros offset le lt = at (same-or-above before offset le)
+  where
+    here : is_zero (block_with (read_zones a.drive) number before) ≡ true
+    here = says-back a b number before true k (rw is at says)
+
+    same-or-above : (x y : ℕ) → x ≤ y → (y ≡ x) ⊎ (suc x ≤ y)
+    same-or-above zero zero le' = inl refl
+    same-or-above zero (suc y) le' = inr (omega arith)
+    same-or-above (suc x) zero le' = absurd (omega (arith, le'))
+    same-or-above (suc x) (suc y) le' = elim (same-or-above x y (omega (arith, le'))) [ inl e ↦ inl (omega (arith, e)) | inr above ↦ inr (omega (arith, above)) ]
+
+    at : (offset ≡ before) ⊎ (suc before ≤ offset) → is_zero (block_with (read_zones a.drive) number offset) ≡ true
+    at (inl same) = rw same here
+    at (inr above) = zeros offset (omega (arith, above, next)) lt
+
+-- the zone ends here
+pub ends-here : (a b : SourceView) (number before end : ℕ) (told : Bool) → KeepsSource a b → end ≡ suc before → told ≡ false → SaysZero b number before told → end ≤ length (zone_with (read_zones a.drive) number).blocks
+    → ZerosFrom a number end → EndsAt a.damaged (zone_with (read_zones a.drive) number) number end
+ends-here a b number before end told k next is says within zeros = record { within = within; zeros = zeros; last = last }
+  where
+    last : (offset : ℕ) → end ≡ suc offset → (a.damaged number offset ≡ true) ⊎ (is_zero (block_with (read_zones a.drive) number offset) ≡ false)
+    last offset e = let same : offset ≡ before = omega (arith, e, next) in rw same (says-back a b number before false k (rw is at says))
+
+-- or it has only zeros
+pub ends-at_first : (a : SourceView) (number : ℕ) → ZerosFrom a number 0 → EndsAt a.damaged (zone_with (read_zones a.drive) number) number 0
+ends-at_first a number zeros = record { within = omega arith; zeros = zeros; last = λ offset e. absurd (omega (arith, e)) }

@@ -1,5 +1,5 @@
 -- Which batches a rescue finds on a drive, of which some blocks cannot be read.
-use Rattle.std.specs.Prelude.{◌≡◌, ℕ, suc, ◌+◌, ◌<◌, ◌≤◌, ◌^◌, nat_lt, nat_le, ◌&&◌, ◌||◌, slice_index_or, if◌then◌else◌, max, Bool, true, false, List, [], ◌∷◌, ◌++◌, length, take, drop, Option, Some, None}
+use Rattle.std.specs.Prelude.{◌≡◌, ◌⊎◌, ℕ, suc, ◌+◌, ◌<◌, ◌≤◌, ◌^◌, nat_lt, nat_le, ◌&&◌, ◌||◌, slice_index_or, if◌then◌else◌, max, Bool, true, false, List, [], ◌∷◌, ◌++◌, length, take, drop, Option, Some, None}
 use Rattle.std.specs.List.{flat_map}
 use Rattle.batch_log.specs.Causes.{header_fault, is_zero}
 use Rattle.batch_log.specs.Header.{Heading}
@@ -10,7 +10,7 @@ use Rattle.drive_array.specs.Records.{Record, batch_records}
 use Rattle.drive_array.specs.Sizes.{larger}
 use Rattle.drive_rescue.specs.declared.search.Trail.{Trail}
 use Rattle.drive_rescue.specs.declared.search.Trail.TheVariants.{Whole, Zeros, Lost}
-use Rattle.drive_rescue.specs.Zones.{Damage, ReadZone, zone_with}
+use Rattle.drive_rescue.specs.Zones.{Damage, ReadZone, cut, zone_with}
 
 -- A batch that was found: its zone, and the block of it where its header is.
 pub record Found : Type 0 where
@@ -78,14 +78,22 @@ abbrev pub with_zeros : Place → Place
 with_zeros place =
     record { offset = place.offset + 1; trail = if is_lost place.trail then Lost else Zeros; floor = place.floor; finding = place.finding }
 
+-- In an open-ended zone it may be a whole batch whose last data are zeros, so something newer may be missing.
+abbrev pub tail_doubt : ReadZone → ℕ → Heading → ℕ
+tail_doubt zone doubt heading = if zone.open_ended then max doubt heading.sequence else doubt
+
 -- A torn tail ends the zone. It is never searched.
-abbrev pub with_tail : ReadZone → Place → Place
-with_tail zone place =
-    record { offset = length zone.blocks; trail = if is_whole place.trail then Whole else Lost; floor = place.floor; finding = place.finding }
+abbrev pub with_tail : ReadZone → Place → Heading → Place
+with_tail zone place heading = record {
+  offset = length zone.blocks;
+  trail = if is_whole place.trail then Whole else Lost;
+  floor = place.floor;
+  finding = record { found = place.finding.found; doubt = tail_doubt zone place.finding.doubt heading };
+}
 
 -- a header that counts, if its data do not fit
-abbrev pub short_of : ReadZone → Place → Place
-short_of zone place = if zone.padded then with_gap place else with_tail zone place
+abbrev pub short_of : ReadZone → Place → Heading → Place
+short_of zone place heading = if zone.padded then with_gap place else with_tail zone place heading
 
 -- and if they fit: no batch of a disk has a sequence of 2 ^ 63 or more
 abbrev pub after_batch : ReadZone → ℕ → Place → Heading → Place
@@ -95,7 +103,7 @@ after_batch zone number place heading =
 abbrev pub after_header : ReadZone → ℕ → Place → Heading → Place
 after_header zone number place heading =
     if follows place heading
-    then (if fits zone place.offset heading then after_batch zone number place heading else short_of zone place)
+    then (if fits zone place.offset heading then after_batch zone number place heading else short_of zone place heading)
     else with_gap place
 
 abbrev pub after_other : ReadZone → Place → Bool → Place
@@ -136,14 +144,32 @@ ended place = record { found = place.finding.found; doubt = if is_lost place.tra
 
 -- ---- all zones
 
+-- An open-ended zone ends after its last block that is not zeros, or that cannot be read.
+pub record EndsAt (damaged : Damage) (zone : ReadZone) (number end : ℕ) : Type 0 where
+  pub within : end ≤ length zone.blocks
+  pub zeros : (offset : ℕ) → end ≤ offset → offset < length zone.blocks → is_zero (slice_index_or zone.blocks offset []) ≡ true
+  pub last : (offset : ℕ) → end ≡ suc offset → (damaged number offset ≡ true) ⊎ (is_zero (slice_index_or zone.blocks offset []) ≡ false)
+
+abbrev pub Ends : Damage → ReadZone → ℕ → ℕ → Type 0
+Ends damaged zone number end = zone.open_ended ≡ true → EndsAt damaged zone number end
+
+-- A zone is searched, up to where it ends.
+pub record SearchesZone (damaged : Damage) (zone : ReadZone) (number : ℕ) (before after : Finding) : Type 0 where
+  pub end : ℕ
+  pub ends : Ends damaged zone number end
+  pub place : Place
+  pub reaches : Reaches damaged (cut zone end) number before place
+  pub far : length (cut zone end).blocks ≤ place.offset
+  pub after_is : after ≡ ended place
+
 abbrev pub nothing_found : Finding
 nothing_found = record { found = []; doubt = 0 }
 
 -- The first zones are searched, as many as n, and this is found.
 pub data Searched (damaged : Damage) (zones : List ReadZone) : ℕ → Finding → Type 0 where
   at_first : Searched damaged zones 0 nothing_found
-  one_more : {n : ℕ} {finding : Finding} {place : Place} → Searched damaged zones n finding → Reaches damaged (zone_with zones n) n finding place
-      → length (zone_with zones n).blocks ≤ place.offset → Searched damaged zones (suc n) (ended place)
+  one_more : {n : ℕ} {finding after : Finding} → Searched damaged zones n finding → SearchesZone damaged (zone_with zones n) n finding after
+      → Searched damaged zones (suc n) after
 
 -- ---- what is found
 

@@ -1,5 +1,5 @@
 -- What a host can read of a drive, zone by zone.
-use Rattle.std.specs.Prelude.{◌≡◌, ℕ, if◌then◌else◌, Bool, true, false, List, [], ◌++◌, map, length, Some, slice_get, slice_index_or}
+use Rattle.std.specs.Prelude.{◌≡◌, ℕ, if◌then◌else◌, Bool, true, false, List, [], ◌++◌, map, length, take, Some, slice_get, slice_index_or}
 use Rattle.nvme_wire.specs.declared.zone_state.ZoneState.{ZoneState}
 use Rattle.nvme_wire.specs.declared.zone_state.ZoneState.TheVariants as states
 use Rattle.zone_states.specs.declared.geometry.Geometry.{Geometry}
@@ -18,10 +18,16 @@ abbrev pub is_offline : ZoneState → Bool
 is_offline states.Offline = true
 is_offline state = false
 
+-- Nothing tells where its written blocks end: not a report, and no zeros that a Finish left.
+abbrev pub is_open_ended : ZoneState → Bool
+is_open_ended states.ReadOnly = true
+is_open_ended state = false
+
 -- A zone as a host can read it: not at all if it is Offline; else its written blocks and, if it is padded, zeros.
 pub record ReadZone : Type 0 where
   pub offline : Bool
   pub padded : Bool
+  pub open_ended : Bool
   pub blocks : List (List ℕ)
 
 abbrev pub read_blocks : Geometry → ZoneState → List (List ℕ) → List (List ℕ)
@@ -32,6 +38,7 @@ abbrev pub read_zone : Geometry → Zone → ReadZone
 read_zone geometry zone = record {
   offline = is_offline zone.state;
   padded = is_padded zone.state;
+  open_ended = is_open_ended zone.state;
   blocks = read_blocks geometry zone.state zone.blocks;
 }
 
@@ -40,13 +47,19 @@ read_zones drive = map (read_zone drive.geometry) drive.zones
 
 -- the zone with a number; past the last one a zone with no block
 abbrev pub no_zone : ReadZone
-no_zone = record { offline = true; padded = false; blocks = [] }
+no_zone = record { offline = true; padded = false; open_ended = false; blocks = [] }
 
 abbrev pub zone_with : List ReadZone → ℕ → ReadZone
 zone_with zones number = slice_index_or zones number no_zone
 
 abbrev pub block_with : List ReadZone → ℕ → ℕ → List ℕ
 block_with zones number offset = slice_index_or (zone_with zones number).blocks offset []
+
+-- an open-ended zone up to a block
+abbrev pub cut : ReadZone → ℕ → ReadZone
+cut zone end =
+    if zone.open_ended then record { offline = zone.offline; padded = false; open_ended = true; blocks = take end zone.blocks }
+    else zone
 
 -- ---- as a report tells it
 
@@ -59,6 +72,7 @@ blocks_told capacity reported =
 pub record TellsZone (capacity : ℕ) (zone : ReadZone) (reported : ReportedZone) : Type 0 where
   pub offline : zone.offline ≡ is_offline reported.state
   pub padded : zone.padded ≡ is_padded reported.state
+  pub open_ended : zone.open_ended ≡ is_open_ended reported.state
   pub blocks : length zone.blocks ≡ blocks_told capacity reported
 
 -- All zones are reported so.

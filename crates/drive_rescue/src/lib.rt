@@ -16,8 +16,12 @@
 //! From its first block on (`specs/Searching`). A whole header whose data blocks fit in the zone is a batch, and the
 //! search goes on after it. A block that cannot be read, or is no header, is lost, and the search goes on at the next.
 //! After a lost block a header counts only if its sequence is above those that were met in the zone. A header whose
-//! data do not fit ends a zone that is neither Full nor Read Only: a torn tail is never searched, since its data could
-//! look like headers. Zero blocks up to the end of a Full or Read Only zone are padding. A sequence is below 2^63.
+//! data do not fit ends a zone that is not Full: a torn tail is never searched, since its data could look like
+//! headers. Zero blocks up to the end of a Full zone are padding. A sequence is below 2^63.
+//!
+//! A report does not tell how far a Read Only zone was written. So it ends after its last block that is not zeros, or
+//! that cannot be read (`EndsAt`). A batch whose last data are zeros is there taken for a torn tail: what its blocks
+//! held before is given, and listed as what may be older.
 //!
 //! A batch that is lost in a gap is older than the next batch of its zone. So each block whose newest record has a
 //! lesser sequence than that batch may be older than it should be. After a gap that no batch follows, and with an
@@ -40,8 +44,6 @@
 //!
 //! * Headers have no checksum. A block of data that looks like a header, behind a lost header and with a fitting
 //!   sequence, is taken for one. So are old copies of headers that a guest stored as data.
-//! * A drive does not tell how far a Read Only zone was written. An Append that was torn in its last batch is given
-//!   with zeros for the blocks that were not written.
 //! * What may be older is not told block by block: a lost header does not say which blocks it named.
 //!
 //! # What is not proved
@@ -49,7 +51,8 @@
 //! * That an unreadable block is tried once more: the contract of a source lets it answer so at once. The rows of
 //!   `rescue_rows` show it.
 //! * How much memory is taken: a slot of 24 bytes for each block up to the highest that a batch names.
-//! * The order and number of Reads: a header is read once, and so is the data of each block.
+//! * The number of Reads: one for each header and each lost block, one for each block of the disk that has data, and
+//!   one for each zero block at the end of a Read Only zone. An unreadable block takes one more each time.
 //!
 //! A device is a source by [`DeviceSource`]; its Reads do not fail alone. [`WithDamage`] makes chosen blocks of a
 //! source unreadable, for tests.

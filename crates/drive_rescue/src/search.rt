@@ -3,12 +3,12 @@ ghost use Rattle.batch_log.specs.Causes.{is_zero};
 ghost use Rattle.batch_log.specs.Header.{head_size};
 ghost use Rattle.batch_log.specs.Log.{data_count};
 ghost use Rattle.drive_port.specs.Drive.{IsLawful};
-ghost use Rattle.drive_rescue.specs.Holding.{Gets, Holds, HoldsFinding, IsSmall, IsSought};
+ghost use Rattle.drive_rescue.specs.Holding.{GetsIn, Holds, HoldsFinding, HoldsZone, IsSmall, IsSought, IsSoughtIn, SaysZero};
 ghost use Rattle.drive_rescue.specs.Rescue.{KeepsSource};
-ghost use Rattle.drive_rescue.specs.Searching.{Finding, Place, Searched, Reaches, after_header, after_other};
+ghost use Rattle.drive_rescue.specs.Searching.{Finding, Place, EndsAt, Searched, after_header, after_other};
 ghost use Rattle.drive_rescue.specs.Searching.{after_reading, begun, doubt_before, ended, is_lost, is_whole, nothing_found, short_of};
-ghost use Rattle.drive_rescue.specs.Searching.{with_batch, with_gap, with_tail, with_zeros};
-ghost use Rattle.drive_rescue.specs.Zones.{ReadZone, TellsAll, TellsZone, blocks_told, is_offline, is_padded};
+ghost use Rattle.drive_rescue.specs.Searching.{tail_doubt, with_batch, with_gap, with_tail, with_zeros};
+ghost use Rattle.drive_rescue.specs.Zones.{ReadZone, TellsAll, TellsZone, blocks_told, cut, is_offline, is_open_ended, is_padded};
 ghost use Rattle.drive_rescue.specs.Zones.{read_zones, zone_with};
 ghost use Rattle.zone_states.specs.Geometry.{IsInRange};
 
@@ -38,6 +38,8 @@ pub(crate) struct SoughtZone {
     pub(crate) offline: bool,
     /// Whether it ends in zeros.
     pub(crate) padded: bool,
+    /// Whether nothing tells where its written blocks end.
+    pub(crate) open_ended: bool,
     /// How many blocks of it can be read.
     pub(crate) blocks: u32,
 }
@@ -76,6 +78,15 @@ fn is_padded(state: ZoneState) -> bool
     }
 }
 
+fn is_open_ended(state: ZoneState) -> bool
+    ensures { result ≡ is_open_ended state }
+{
+    match state {
+        ZoneState::ReadOnly => true,
+        _ => false,
+    }
+}
+
 fn is_offline(state: ZoneState) -> bool
     ensures { result ≡ is_offline state }
 {
@@ -106,6 +117,7 @@ fn sought(number: u32, reported: ReportedZone, capacity: u32) -> SoughtZone
         number,
         offline: is_offline(reported.state),
         padded: is_padded(reported.state),
+        open_ended: is_open_ended(reported.state),
         blocks: blocks_told(reported, capacity),
     }
 }
@@ -197,13 +209,24 @@ impl Search {
         }
     }
 
+    /// What can be missing after a torn tail.
+    fn tail_doubt(&self, zone: SoughtZone, header: &HeaderView<'_>) -> u64
+        ensures { (read : ReadZone) → IsSought zone read → result ≡ tail_doubt read self.now.doubt header.now }
+    {
+        if zone.open_ended {
+            return self.doubt.max(header.sequence());
+        }
+        self.doubt
+    }
+
     /// Passes what is left of a zone: a torn tail.
-    fn pass_tail(&mut self, zone: SoughtZone)
+    fn pass_tail(&mut self, zone: SoughtZone, header: &HeaderView<'_>)
         requires { self.old.offset < zone.blocks }
         ensures holds { (read : ReadZone) (place : Place) → IsSought zone read → Holds self.old place
-            → Holds self.new (with_tail read place) }
+            → Holds self.new (with_tail read place header.now) }
         ensures onward { self.old.offset < self.new.offset }
     {
+        self.doubt = self.tail_doubt(zone, header);
         self.offset = zone.blocks;
         if !self.trail.is_whole() {
             self.trail = Trail::Lost;
@@ -211,18 +234,18 @@ impl Search {
     }
 
     /// Passes a header that counts, whose data do not fit.
-    fn pass_short(&mut self, zone: SoughtZone)
+    fn pass_short(&mut self, zone: SoughtZone, header: &HeaderView<'_>)
         requires in_range { self.old.offset < zone.blocks }
         requires small { zone.blocks < 2 ^ 32 }
         ensures holds { (read : ReadZone) (place : Place) → IsSought zone read → Holds self.old place
-            → Holds self.new (short_of read place) }
+            → Holds self.new (short_of read place header.now) }
         ensures onward { self.old.offset < self.new.offset }
     {
         if zone.padded {
             self.pass();
             return;
         }
-        self.pass_tail(zone);
+        self.pass_tail(zone, header);
     }
 
     /// Passes a block that is no header.
@@ -292,7 +315,7 @@ impl Search {
             return Ok(());
         }
         if header.data_blocks() >= (zone.blocks - self.offset) as usize {
-            self.pass_short(zone);
+            self.pass_short(zone, header);
             return Ok(());
         }
         if header.sequence() >= UNBOUNDED {
@@ -330,12 +353,12 @@ fn look<S: Source>(
     block: &mut Vec<u8>,
 ) -> Result<(), Halt>
     requires range { IsInRange (S.view source.old).drive.geometry }
-    requires zone { IsSought zone (zone_with (read_zones (S.view source.old).drive) zone.number) }
+    requires zone { IsSoughtIn (S.view source.old) zone }
     requires in_range { search.old.offset < zone.blocks }
-    ensures ok { OnOk result ((finding : Finding) → Gets (S.view source.old).damaged
-        (zone_with (read_zones (S.view source.old).drive) zone.number) zone.number finding search.old
-        → Gets (S.view source.old).damaged
-        (zone_with (read_zones (S.view source.old).drive) zone.number) zone.number finding search.new) }
+    ensures ok { OnOk result ((finding : Finding) (end : ℕ)
+        → IsSought zone (cut (zone_with (read_zones (S.view source.old).drive) zone.number) end)
+        → GetsIn (S.view source.old) zone.number end finding search.old
+        → GetsIn (S.view source.old) zone.number end finding search.new) }
     ensures onward { OnOk result (search.old.offset < search.new.offset) }
     ensures kept { KeepsSource (S.view source.old) (S.view source.new) }
 {
@@ -346,7 +369,70 @@ fn look<S: Source>(
     Ok(())
 }
 
-/// Searches a zone for batches, from its first block to its last.
+/// Whether a block of a zone can be read, and is zeros.
+fn reads_zeros<S: Source>(
+    source: &mut S,
+    number: u32,
+    offset: u32,
+    block: &mut Vec<u8>,
+) -> Result<bool, Halt>
+    requires range { IsInRange (S.view source.old).drive.geometry }
+    requires there { offset < length (zone_with (read_zones (S.view source.old).drive) number).blocks }
+    ensures ok { IfOk result (SaysZero (S.view source.old) number offset) }
+    ensures kept { KeepsSource (S.view source.old) (S.view source.new) }
+{
+    match read_again(source, number, offset, block)? {
+        Reading::Held => Ok(is_zero(block)),
+        Reading::Unreadable => Ok(false),
+    }
+}
+
+/// Where an open-ended zone ends: after its last block that is not zeros, or that cannot be read.
+fn written_end<S: Source>(
+    source: &mut S,
+    zone: SoughtZone,
+    block: &mut Vec<u8>,
+) -> Result<u32, Halt>
+    requires range { IsInRange (S.view source.old).drive.geometry }
+    requires lawful { IsLawful (S.view source.old).drive }
+    requires zone { IsSought zone (zone_with (read_zones (S.view source.old).drive) zone.number) }
+    ensures ok { IfOk result (EndsAt (S.view source.old).damaged
+        (zone_with (read_zones (S.view source.old).drive) zone.number) zone.number) }
+    ensures kept { KeepsSource (S.view source.old) (S.view source.new) }
+{
+    let mut end = zone.blocks;
+    while end > 0 {
+        if !reads_zeros(source, zone.number, end - 1, block)? {
+            return Ok(end);
+        }
+        end -= 1;
+    }
+    Ok(0)
+}
+
+/// A zone up to where it ends.
+fn cut<S: Source>(source: &mut S, zone: SoughtZone, block: &mut Vec<u8>) -> Result<SoughtZone, Halt>
+    requires range { IsInRange (S.view source.old).drive.geometry }
+    requires lawful { IsLawful (S.view source.old).drive }
+    requires zone { IsSought zone (zone_with (read_zones (S.view source.old).drive) zone.number) }
+    ensures ok { IfOk result (IsSoughtIn (S.view source.old)) }
+    ensures number { IfOk result (λ sought. sought.number ≡ zone.number) }
+    ensures kept { KeepsSource (S.view source.old) (S.view source.new) }
+{
+    if !zone.open_ended {
+        return Ok(zone);
+    }
+    let end = written_end(source, zone, block)?;
+    Ok(SoughtZone {
+        number: zone.number,
+        offline: zone.offline,
+        padded: false,
+        open_ended: true,
+        blocks: end,
+    })
+}
+
+/// Searches a zone for batches, from its first block to its end.
 fn search_zone<S: Source>(
     source: &mut S,
     zone: SoughtZone,
@@ -355,12 +441,9 @@ fn search_zone<S: Source>(
 ) -> Result<(), Halt>
     requires range { IsInRange (S.view source.old).drive.geometry }
     requires lawful { IsLawful (S.view source.old).drive }
-    requires zone { IsSought zone (zone_with (read_zones (S.view source.old).drive) zone.number) }
-    ensures ok { OnOk result ((finding : Finding) → HoldsFinding search.old finding → (place : Place)
-        × Reaches (S.view source.old).damaged (zone_with (read_zones (S.view source.old).drive) zone.number)
-        zone.number finding place
-        × (length (zone_with (read_zones (S.view source.old).drive) zone.number).blocks ≤ place.offset)
-        × HoldsFinding search.new (ended place)) }
+    requires zone { IsSoughtIn (S.view source.old) zone }
+    ensures ok { OnOk result ((finding : Finding) → HoldsFinding search.old finding
+        → HoldsZone (S.view source.old) zone.number finding search.new) }
     ensures kept { KeepsSource (S.view source.old) (S.view source.new) }
 {
     search.begin(zone);
@@ -388,7 +471,11 @@ pub(crate) fn search_zones<S: Source>(
     let mut block = Vec::new(alloc);
     let mut search = Search::new(alloc);
     for (number, reported) in zones.iter().enumerate() {
-        let zone = sought(number as u32, *reported, capacity);
+        let zone = cut(
+            source,
+            sought(number as u32, *reported, capacity),
+            &mut block,
+        )?;
         search_zone(source, zone, &mut search, &mut block)?;
     }
     Ok(search)
