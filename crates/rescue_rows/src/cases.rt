@@ -77,7 +77,10 @@ pub const CASES: &[Case] = &[
                     Data(0xa1),
                 ],
             ),
-            (Closed, &[Writes(2, &[2]), Data(0xb2), Writes(4, &[3]), Data(0xb3)]),
+            (
+                Closed,
+                &[Writes(2, &[2]), Data(0xb2), Writes(4, &[3]), Data(0xb3)],
+            ),
             (Empty, &[]),
         ],
         damaged: &[],
@@ -146,7 +149,10 @@ pub const CASES: &[Case] = &[
                     Data(0xa1),
                 ],
             ),
-            (Closed, &[Writes(2, &[2]), Data(0xb2), Writes(4, &[3]), Data(0xb3)]),
+            (
+                Closed,
+                &[Writes(2, &[2]), Data(0xb2), Writes(4, &[3]), Data(0xb3)],
+            ),
             (Empty, &[]),
         ],
         damaged: &[],
@@ -160,6 +166,29 @@ pub const CASES: &[Case] = &[
             (Empty, &[]),
         ],
         damaged: &[],
+        given: 9,
+    },
+    Case {
+        name: "a Read Only zone with a torn tail",
+        zones: &[
+            (
+                Closed,
+                &[Writes(1, &[0]), Data(0xa0), Writes(2, &[1]), Data(0xa1)],
+            ),
+            (ReadOnly, &[Writes(3, &[0, 1]), Data(0xb0)]),
+            (Empty, &[]),
+        ],
+        damaged: &[],
+        given: 9,
+    },
+    Case {
+        name: "a Read Only zone with an unreadable block at its end",
+        zones: &[
+            (Closed, &[Writes(1, &[0]), Data(0xa0)]),
+            (ReadOnly, &[Writes(2, &[1, 2]), Data(0xb1), Data(0)]),
+            (Empty, &[]),
+        ],
+        damaged: &[DamagedBlock { zone: 1, offset: 2 }],
         given: 9,
     },
     Case {

@@ -31,7 +31,7 @@ fn head(alloc: Global, sequence: u64, count: u32) -> Result<Vec<u8>, AllocError>
 }
 
 fn header(alloc: Global, sequence: u64, blocks: &[u64], bit: u64) -> Result<Vec<u8>, AllocError> {
-    let mut block = head(alloc, sequence, blocks.len() as u32)?;
+    let mut block = head(alloc, sequence, blocks.len().min(60) as u32)?;
     for entry in blocks {
         block.extend_from_slice(&(*entry | bit).to_le_bytes())?;
     }

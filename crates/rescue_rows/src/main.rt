@@ -10,11 +10,14 @@
 
 mod cases;
 mod cells;
+mod flaky;
 
 use cases::{CASES, Case};
 use cells::zone_of;
-use drive_port::Geometry;
-use drive_rescue::{BlockRange, DeviceSource, RescueFault, WithDamage, rescue};
+use disk_files::FailAfter;
+use drive_port::{Geometry, StopAfter};
+use drive_rescue::{BlockRange, DeviceSource, RescueFault, Rescued, Source, WithDamage, rescue};
+use flaky::Flaky;
 use std::alloc::{AllocError, Global};
 use std::io;
 use zone_drive::{Drive, DriveFault};
@@ -44,11 +47,7 @@ fn drive_of(alloc: Global, case: &Case) -> Result<Drive, DriveFault> {
 }
 
 /// A row of ranges, as `lost 1+2 5+1`.
-fn ranges_row(
-    alloc: Global,
-    name: &str,
-    ranges: &[BlockRange],
-) -> Result<String, AllocError> {
+fn ranges_row(alloc: Global, name: &str, ranges: &[BlockRange]) -> Result<String, AllocError> {
     let mut row = String::from_str(alloc, name)?;
     for range in ranges {
         let part = format!(in alloc; " {}+{}", range.first, range.count)?;
@@ -61,14 +60,13 @@ fn fault_row(alloc: Global, fault: RescueFault) -> Result<String, AllocError> {
     format!(in alloc; "{fault}")
 }
 
-fn show(rt: &HostRuntime, case: &Case) -> io::Result<()> {
-    println!(rt; "{}", case.name)?;
-    let Ok(drive) = drive_of(rt.alloc(), case) else {
-        return println!(rt; "no drive");
-    };
-    let mut source = WithDamage::new(DeviceSource::new(drive), case.damaged);
-    let mut bytes = Vec::new(rt.alloc());
-    let rescued = match rescue(rt.alloc(), &mut source, case.given, &mut bytes) {
+/// The rows of a rescue: its blocks by their first bytes, and its ranges.
+fn write_rescued(
+    rt: &HostRuntime,
+    rescued: Result<Rescued, RescueFault>,
+    bytes: &[u8],
+) -> io::Result<()> {
+    let rescued = match rescued {
         Ok(rescued) => rescued,
         Err(fault) => return println!(rt; "{}", fault_row(rt.alloc(), fault)?),
     };
@@ -82,9 +80,59 @@ fn show(rt: &HostRuntime, case: &Case) -> io::Result<()> {
     println!(rt; "{}", ranges_row(rt.alloc(), "older", &rescued.older)?)
 }
 
+fn rescue_shown<S: Source>(rt: &HostRuntime, source: &mut S, given: u32) -> io::Result<()> {
+    let mut bytes = Vec::new(rt.alloc());
+    let rescued = rescue(rt.alloc(), source, given, &mut bytes);
+    write_rescued(rt, rescued, &bytes)
+}
+
+fn show(rt: &HostRuntime, case: &Case) -> io::Result<()> {
+    println!(rt; "{}", case.name)?;
+    let Ok(drive) = drive_of(rt.alloc(), case) else {
+        return println!(rt; "no drive");
+    };
+    let mut source = WithDamage::new(DeviceSource::new(drive), case.damaged);
+    rescue_shown(rt, &mut source, case.given)
+}
+
+/// Each block is read when it is asked for again.
+fn show_flaky(rt: &HostRuntime, case: &Case) -> io::Result<()> {
+    println!(rt; "each Read fails once")?;
+    let Ok(drive) = drive_of(rt.alloc(), case) else {
+        return println!(rt; "no drive");
+    };
+    rescue_shown(rt, &mut Flaky::new(DeviceSource::new(drive)), case.given)
+}
+
+/// The drive stops after so many commands.
+fn show_stopped(rt: &HostRuntime, case: &Case, commands: u64) -> io::Result<()> {
+    println!(rt; "a drive that stops after {} commands", commands)?;
+    let Ok(drive) = drive_of(rt.alloc(), case) else {
+        return println!(rt; "no drive");
+    };
+    let mut source = DeviceSource::new(StopAfter::new(drive, commands));
+    rescue_shown(rt, &mut source, case.given)
+}
+
+/// The writer takes so many bytes.
+fn show_full(rt: &HostRuntime, case: &Case, room: usize) -> io::Result<()> {
+    println!(rt; "a writer that takes {} bytes", room)?;
+    let Ok(drive) = drive_of(rt.alloc(), case) else {
+        return println!(rt; "no drive");
+    };
+    let mut source = DeviceSource::new(drive);
+    let mut writer = FailAfter::new(Vec::new(rt.alloc()), room);
+    let rescued = rescue(rt.alloc(), &mut source, case.given, &mut writer);
+    println!(rt; "{} bytes", writer.inner.len())?;
+    write_rescued(rt, rescued, &[])
+}
+
 fn main(rt: HostRuntime) -> io::Result<()> {
     for case in CASES {
         show(&rt, case)?;
     }
-    Ok(())
+    show_flaky(&rt, &CASES[0])?;
+    show_stopped(&rt, &CASES[0], 0)?;
+    show_stopped(&rt, &CASES[0], 9)?;
+    show_full(&rt, &CASES[0], 1_100)
 }
