@@ -1,0 +1,10 @@
+pub mod KeepLaws
+pub mod NoteLaws
+pub mod CutLaws
+pub mod FoundLaws
+pub mod SearchLaws
+pub mod RangeLaws
+pub mod GiveLaws
+pub mod RescueLaws
+pub mod DeviceLaws
+pub mod MountLaws

@@ -1,0 +1,9 @@
+pub mod Zones
+pub mod Searching
+pub mod Notes
+pub mod Holding
+pub mod Ranges
+pub mod Rescue
+pub mod Giving
+pub mod Sources
+pub mod Laws
