@@ -128,7 +128,7 @@ fn check(rt: &impl Abort, alloc: Global, number: u32, before: u32, fault: Fault,
 #[test]
 fn no_answer_stops_the_device(rt: HostRuntime) {
     for number in 0..COMMANDS {
-        for before in 0..2 {
+        for before in 0..3 {
             check(&rt, rt.alloc(), number, before, Fault::Undone, 0xffff);
             check(&rt, rt.alloc(), number, before, Fault::Done, 0xffff);
         }

@@ -16,6 +16,8 @@ pub struct Watch {
     sent: u32,
     /// How many of them ask for a report.
     reports: u32,
+    /// How many of them are Flushes.
+    flushes: u32,
     /// How many Reads could go on past what is written.
     past: u32,
 }
@@ -28,6 +30,7 @@ impl Watch {
             way,
             sent: 0,
             reports: 0,
+            flushes: 0,
             past: 0,
         }
     }
@@ -40,6 +43,11 @@ impl Watch {
     /// How many of them ask for a report.
     pub fn reports(&self) -> u32 {
         self.reports
+    }
+
+    /// How many of them are Flushes.
+    pub fn flushes(&self) -> u32 {
+        self.flushes
     }
 
     /// How many Reads could go on past what is written.
@@ -73,6 +81,9 @@ impl Watch {
         self.sent = self.sent.saturating_add(1);
         if let Command::Receive { .. } = *command {
             self.reports = self.reports.saturating_add(1);
+        }
+        if let Command::Flush = *command {
+            self.flushes = self.flushes.saturating_add(1);
         }
         if let Command::Read { slba, blocks } = *command {
             let written = self.written_to(slba);

@@ -7,6 +7,7 @@ ghost use Rattle.passthrough.specs.Asking.{Asks, IsReady, Leads};
 ghost use Rattle.passthrough.specs.Premise.{IsSentAction};
 ghost use Rattle.passthrough.specs.Seen.{AreSeen};
 
+use crate::flushing::flush_before;
 use crate::looking::look;
 use crate::passthrough::Passthrough;
 use crate::seen_zone::SeenZone;
@@ -27,11 +28,12 @@ fn may_act(geometry: Geometry, seen: &[SeenZone], slba: u64, action: Action) -> 
     geometry.start_of(number) == slba && zone_at(seen, u64::from(number)).admits(action)
 }
 
-/// Closes, finishes or resets the zone that starts at an address.
+/// Closes, finishes or resets the zone that starts at an address. A Flush is sent before a Reset where it is needed.
 pub(crate) fn act<P: Passthrough>(
     way: &mut P,
     geometry: Geometry,
     seen: &mut [SeenZone],
+    unflushed: &mut bool,
     slba: u64,
     action: Action,
 ) -> Result<u64, Halt>
@@ -42,6 +44,9 @@ pub(crate) fn act<P: Passthrough>(
     ensures err { IfErr result (λ halt. halt ≡ Halt.Stopped) }
 {
     if !may_act(geometry, seen, slba, action) {
+        return Err(Halt::Stopped);
+    }
+    if !flush_before(way, geometry, action, unflushed) {
         return Err(Halt::Stopped);
     }
     let command = Command::Send {
@@ -64,6 +69,7 @@ pub(crate) fn act_seen<P: Passthrough>(
     way: &mut P,
     geometry: Geometry,
     seen: &mut [SeenZone],
+    unflushed: &mut bool,
     slba: u64,
     action: Action,
 ) -> Result<u64, Halt>
@@ -73,7 +79,7 @@ pub(crate) fn act_seen<P: Passthrough>(
     ensures leads { Leads geometry (P.shape way.new) (P.zones way.new) }
     ensures err { IfErr result (λ halt. halt ≡ Halt.Stopped) }
 {
-    let value = act(way, geometry, seen, slba, action)?;
+    let value = act(way, geometry, seen, unflushed, slba, action)?;
     if action == Action::Close {
         return Ok(value);
     }

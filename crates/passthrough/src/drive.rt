@@ -28,6 +28,8 @@ pub struct PassthroughDrive<P: Passthrough + Drop> {
     geometry: Geometry,
     /// What was seen of each zone.
     seen: Vec<SeenZone>,
+    /// Whether anything may have been written since the last Flush, by this device or before it.
+    unflushed: bool,
     completed: u64,
     /// How many of the completed commands were refused.
     refused: u64,
@@ -107,6 +109,7 @@ impl<P: Passthrough + Drop> PassthroughDrive<P> {
             way,
             geometry,
             seen,
+            unflushed: true,
             completed: 0,
             refused: 0,
             appended: 0,
@@ -150,6 +153,7 @@ impl<P: Passthrough + Drop> PassthroughDrive<P> {
             way,
             geometry,
             &mut self.seen,
+            &mut self.unflushed,
             &command,
             bytes,
             into,

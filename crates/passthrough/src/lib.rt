@@ -37,6 +37,11 @@
 //!   sends nothing.
 //! * It sends only what the contract of a way asks for: Reads of written blocks, Appends and actions that fit the
 //!   table, and reports of no more than one transfer. A block that is not written is zeros, whatever the drive says.
+//! * A Flush looks before it is answered. Once the drive has done it, the device asks for a report of each zone that is
+//!   active, and of each that was written, closed, finished or reset since the last Flush (`FlushLooked` in
+//!   `specs/Showing.antt`). One report shows as many neighbours as one transfer holds. What does not fit stops the device.
+//! * Before a Reset it sends a Flush, if anything was appended since the last one, or may have been before the device
+//!   began. So blocks that were moved out of a zone are durable before the zone is emptied.
 //! * It sends no Write, no Open, no Offline and no action to all zones. These stop the device. A disk needs none of
 //!   them, and a real drive may do half of some.
 //! * [`ReadAhead`] answers a Read by what the zones hold, and never reads past the end that it is given.
@@ -62,6 +67,11 @@
 //! * Which fault of a first report is named.
 //! * A Flush that a drive refused, and that a way told as done, is refused by no contract: a drive of this profile has
 //!   no volatile write cache.
+//! * Whether a loss of power keeps what was flushed. A way says nothing of it, so the device's `durable` is empty. What
+//!   may be lost changes with each Append and with the Flush before a Reset; the contract of a device lets only its own
+//!   Flush change it.
+//! * A look after a Flush guards against drives that break the premise: an Append that was answered and not done, and a
+//!   Reset by another program. Under the premise each such report fits. `call_tests` tries ways that lie.
 //! * That the fields of Identify are where drives have them. It is tested over pages of QEMU's drives.
 //! * The texts of the faults are tested.
 //!
@@ -73,6 +83,7 @@ mod appending;
 mod asking;
 mod drive;
 mod first_report;
+mod flushing;
 mod identify_fault;
 mod identity;
 mod kept;

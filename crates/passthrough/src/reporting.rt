@@ -46,14 +46,14 @@ pub(crate) struct ReportAsked {
     pub(crate) partial: bool,
 }
 
-/// How many zones a report can show, that is no longer than one transfer.
-fn zones_in_one(geometry: Geometry) -> u32
+/// How many zones of the drive a report can show, that is no longer than one transfer.
+pub(crate) fn zones_in_one(geometry: Geometry) -> u32
     requires { IsInRange geometry }
     ensures some { 1 ≤ result }
     ensures few { 64 + 64 * result ≤ geometry.transfer * geometry.block }
     ensures fits { result ≤ 16384 }
 {
-    geometry.transfer * geometry.block / 64 - 1
+    (geometry.transfer * geometry.block / 64 - 1).min(geometry.zones)
 }
 
 /// Looks at all zones.
