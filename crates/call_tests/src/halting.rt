@@ -65,9 +65,13 @@ impl Halting {
 }
 
 impl Passthrough for Halting {
+    ghost use Rattle.std.specs.Prelude.{true};
+
     ghost shape = { λ h. h.way.geometry };
 
     ghost zones = { λ h. h.way.zones };
+
+    ghost flushed = { λ h. true };
 
     fn geometry(&self) -> Geometry {
         self.way.geometry()

@@ -95,9 +95,13 @@ impl Watch {
 }
 
 impl Passthrough for Watch {
+    ghost use Rattle.std.specs.Prelude.{true};
+
     ghost shape = { λ w. w.way.geometry };
 
     ghost zones = { λ w. w.way.zones };
+
+    ghost flushed = { λ w. true };
 
     fn geometry(&self) -> Geometry {
         self.way.geometry()

@@ -38,10 +38,12 @@ pub(crate) fn act<P: Passthrough>(
     action: Action,
 ) -> Result<u64, Halt>
     requires ready { IsReady geometry (P.shape way.old) (P.zones way.old) seen.old }
+    requires known { unflushed.old ≡ false → P.flushed way.old ≡ true }
     ensures asks { Asks geometry (P.zones way.old) (Command.Send slba action false) [] result [] (P.zones way.new) }
     ensures ready { OnOk result (IsReady geometry (P.shape way.new) (P.zones way.new) seen.new) }
     ensures leads { Leads geometry (P.shape way.new) (P.zones way.new) }
     ensures err { IfErr result (λ halt. halt ≡ Halt.Stopped) }
+    ensures known { unflushed.new ≡ false → P.flushed way.new ≡ true }
 {
     if !may_act(geometry, seen, slba, action) {
         return Err(Halt::Stopped);
@@ -74,10 +76,12 @@ pub(crate) fn act_seen<P: Passthrough>(
     action: Action,
 ) -> Result<u64, Halt>
     requires ready { IsReady geometry (P.shape way.old) (P.zones way.old) seen.old }
+    requires known { unflushed.old ≡ false → P.flushed way.old ≡ true }
     ensures asks { Asks geometry (P.zones way.old) (Command.Send slba action false) [] result [] (P.zones way.new) }
     ensures ready { OnOk result (IsReady geometry (P.shape way.new) (P.zones way.new) seen.new) }
     ensures leads { Leads geometry (P.shape way.new) (P.zones way.new) }
     ensures err { IfErr result (λ halt. halt ≡ Halt.Stopped) }
+    ensures known { unflushed.new ≡ false → P.flushed way.new ≡ true }
 {
     let value = act(way, geometry, seen, unflushed, slba, action)?;
     if action == Action::Close {

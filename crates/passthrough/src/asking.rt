@@ -1,6 +1,6 @@
 // One command to the drive.
 
-ghost use Rattle.std.specs.Prelude.{◌≡◌, ◌≢◌, [], Err, IfErr, IfOk, Ok, OnErr, OnOk};
+ghost use Rattle.std.specs.Prelude.{◌≡◌, ◌≢◌, [], Err, IfErr, IfOk, Ok, OnErr, OnOk, false, true};
 ghost use Rattle.nvme_wire.specs.Entry.{IsAdmitted};
 ghost use Rattle.nvme_wire.specs.declared.status.Status.TheVariants.{Success};
 ghost use Rattle.drive_port.specs.Halting.{Adds};
@@ -33,6 +33,7 @@ pub(crate) fn ask<P: Passthrough>(
 ) -> Result<u64, Halt>
     requires ready { IsReady geometry (P.shape way.old) (P.zones way.old) seen.old }
     requires admitted { IsAdmitted command.now }
+    requires known { unflushed.old ≡ false → P.flushed way.old ≡ true }
     ensures ok { IfOk result (λ value. Adds into.old.items (λ returned. Effect geometry (P.zones way.old)
         (Ok command.now) bytes.now Success value returned (P.zones way.new)) into.new.items) }
     ensures err { IfErr result (λ halt. HaltsSo halt geometry (P.zones way.old) (Ok command.now) bytes.now
@@ -42,6 +43,7 @@ pub(crate) fn ask<P: Passthrough>(
     ensures kept { OnErr result (into.new.items ≡ into.old.items) }
     ensures looked { command.now ≡ Command.Flush → OnOk result (FlushLooked geometry (P.zones way.old) seen.old seen.new
         (P.zones way.new)) }
+    ensures known { unflushed.new ≡ false → P.flushed way.new ≡ true }
 {
     match *command {
         Command::Flush => flush(alloc, way, geometry, seen, unflushed),

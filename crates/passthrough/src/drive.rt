@@ -60,7 +60,8 @@ impl<P: Passthrough + Drop> Model for PassthroughDrive<P> {
     ghost invariant = { λ d. Leads d.geometry (P.shape d.way) (P.zones d.way)
         × (d.stopped ≡ false → AreSeen (P.zones d.way) d.seen.items)
         × (d.completed ≤ 2 ^ 63) × (d.refused ≤ d.completed) × (d.appended ≤ d.completed)
-        × (d.completed ≡ 2 ^ 63 → d.stopped ≡ true) };
+        × (d.completed ≡ 2 ^ 63 → d.stopped ≡ true)
+        × (d.unflushed ≡ false → P.flushed d.way ≡ true) };
 }
 
 /// The status of an entry that holds no command.

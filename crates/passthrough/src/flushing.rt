@@ -23,6 +23,8 @@ fn send_flush<P: Passthrough>(way: &mut P, geometry: Geometry) -> bool
     ensures done { result ≡ true → Effect geometry (P.zones way.old) (Ok Command.Flush) [] Success 0 [] (P.zones way.new) }
     ensures closes { IsClosing (P.zones way.old) (P.zones way.new) }
     ensures leads { Leads geometry (P.shape way.new) (P.zones way.new) }
+    ensures flushed { result ≡ true → P.flushed way.new ≡ true }
+    ensures kept { P.flushed way.old ≡ true → P.flushed way.new ≡ true }
 {
     let mut value = 0;
     way.submit(&Command::Flush, &[], 0, &mut [], &mut value) == 0
@@ -37,7 +39,9 @@ pub(crate) fn flush_before<P: Passthrough>(
     unflushed: &mut bool,
 ) -> bool
     requires leads { Leads geometry (P.shape way.old) (P.zones way.old) }
-    ensures flushed { result ≡ true → action ≡ Action.Reset → unflushed.new ≡ false }
+    requires known { unflushed.old ≡ false → P.flushed way.old ≡ true }
+    ensures flushed { result ≡ true → action ≡ Action.Reset → P.flushed way.new ≡ true }
+    ensures known { unflushed.new ≡ false → P.flushed way.new ≡ true }
     ensures closes { IsClosing (P.zones way.old) (P.zones way.new) }
     ensures leads { Leads geometry (P.shape way.new) (P.zones way.new) }
 {
@@ -100,6 +104,7 @@ fn look_at_stretch<P: Passthrough>(
     ensures closes { IsClosing (P.zones way.old) (P.zones way.new) }
     ensures leads { Leads geometry (P.shape way.new) (P.zones way.new) }
     ensures err { IfErr result (λ halt. halt ≡ Halt.Stopped) }
+    ensures flushed { P.flushed way.old ≡ true → P.flushed way.new ≡ true }
 {
     let (from, some) = due_stretch(seen, first, count);
     if some == 0 {
@@ -126,6 +131,7 @@ fn look_at_due<P: Passthrough>(
     ensures closes { IsClosing (P.zones way.old) (P.zones way.new) }
     ensures leads { Leads geometry (P.shape way.new) (P.zones way.new) }
     ensures err { IfErr result (λ halt. halt ≡ Halt.Stopped) }
+    ensures flushed { P.flushed way.old ≡ true → P.flushed way.new ≡ true }
 {
     let mut first = 0;
     while first < geometry.zones {
@@ -161,10 +167,12 @@ pub(crate) fn flush<P: Passthrough>(
     unflushed: &mut bool,
 ) -> Result<u64, Halt>
     requires ready { IsReady geometry (P.shape way.old) (P.zones way.old) seen.old }
+    requires known { unflushed.old ≡ false → P.flushed way.old ≡ true }
     ensures ok { IfOk result (λ value. (value ≡ 0) × Effect geometry (P.zones way.old) (Ok Command.Flush) [] Success 0 []
         (P.zones way.new)) }
     ensures looked { OnOk result (FlushLooked geometry (P.zones way.old) seen.old seen.new (P.zones way.new)) }
-    ensures flushed { OnOk result (unflushed.new ≡ false) }
+    ensures flushed { OnOk result (P.flushed way.new ≡ true) }
+    ensures known { unflushed.new ≡ false → P.flushed way.new ≡ true }
     ensures err { IfErr result (λ halt. (halt ≡ Halt.Memory → P.zones way.new ≡ P.zones way.old)
         × IsClosing (P.zones way.old) (P.zones way.new)) }
     ensures ready { result ≢ Err Halt.Stopped

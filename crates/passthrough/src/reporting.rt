@@ -1,6 +1,6 @@
 // Reports of the whole drive, in pieces.
 
-ghost use Rattle.std.specs.Prelude.{◌≡◌, ◌≢◌, ◌+◌, ◌*◌, ◌≤◌, ◌++◌, [], Err, IfErr, IfOk, Ok, OnErr, OnOk, length, map};
+ghost use Rattle.std.specs.Prelude.{◌≡◌, ◌≢◌, ◌+◌, ◌*◌, ◌≤◌, ◌++◌, [], Err, IfErr, IfOk, Ok, OnErr, OnOk, length, map, true};
 ghost use Rattle.nvme_wire.specs.declared.command.Command.TheVariants.{Receive};
 ghost use Rattle.nvme_wire.specs.declared.status.Status.TheVariants.{Success};
 ghost use Rattle.zone_report.specs.Report.{report};
@@ -73,6 +73,7 @@ fn look_at_all<P: Passthrough>(
     ensures closes { IsClosing (P.zones way.old) (P.zones way.new) }
     ensures leads { Leads geometry (P.shape way.new) (P.zones way.new) }
     ensures err { IfErr result (λ halt. halt ≡ Halt.Stopped) }
+    ensures flushed { P.flushed way.old ≡ true → P.flushed way.new ≡ true }
 {
     let mut first = 0;
     while first < geometry.zones {
@@ -144,6 +145,7 @@ pub(crate) fn report<P: Passthrough>(
         → IsReady geometry (P.shape way.new) (P.zones way.new) seen.new }
     ensures leads { Leads geometry (P.shape way.new) (P.zones way.new) }
     ensures kept { OnErr result (into.new.items ≡ into.old.items) }
+    ensures flushed { P.flushed way.old ≡ true → P.flushed way.new ≡ true }
 {
     if asked.slba >= geometry.end() {
         return Err(Halt::Stopped);
