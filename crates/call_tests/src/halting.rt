@@ -65,9 +65,13 @@ impl Halting {
 }
 
 impl Passthrough for Halting {
+    ghost use Rattle.std.specs.Prelude.{true};
+
     ghost shape = { λ h. h.way.geometry };
 
     ghost zones = { λ h. h.way.zones };
+
+    ghost flushed = { λ h. true };
 
     fn geometry(&self) -> Geometry {
         self.way.geometry()
@@ -128,7 +132,7 @@ fn check(rt: &impl Abort, alloc: Global, number: u32, before: u32, fault: Fault,
 #[test]
 fn no_answer_stops_the_device(rt: HostRuntime) {
     for number in 0..COMMANDS {
-        for before in 0..2 {
+        for before in 0..3 {
             check(&rt, rt.alloc(), number, before, Fault::Undone, 0xffff);
             check(&rt, rt.alloc(), number, before, Fault::Done, 0xffff);
         }

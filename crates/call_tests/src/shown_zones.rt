@@ -51,7 +51,12 @@ fn each_state_is_shown(rt: HostRuntime) {
         (ZoneState::Offline, None, None),
     ] {
         let seen = shown(rt.alloc(), descriptor(0, state, pointer)).expect(&rt, "a report");
-        assert_eq!(rt; seen, Ok(SeenZone { state, written }));
+        let zone = SeenZone {
+            state,
+            written,
+            changed: false,
+        };
+        assert_eq!(rt; seen, Ok(zone));
     }
 }
 

@@ -87,6 +87,9 @@ pub fn holds(alloc: Global, drive: &Drive, second: bool) -> bool {
 /// The commands that are sent, by number.
 pub const COMMANDS: u32 = 7;
 
+/// The number of the Flush.
+pub const FLUSH: u32 = 0;
+
 /// The number of the Append.
 pub const APPEND: u32 = 2;
 

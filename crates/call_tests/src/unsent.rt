@@ -3,7 +3,7 @@
 ghost use Rattle.nvme_wire.specs.Entry.{IsAdmitted};
 
 use crate::first_looks::first_seen;
-use crate::small_drives::{APPEND, COMMANDS, FINISH, RESET, action, does, drive, reads};
+use crate::small_drives::{APPEND, COMMANDS, FINISH, FLUSH, RESET, action, does, drive, reads};
 use crate::watched_ways::Watch;
 use drive_port::{Device, Halt};
 use nvme_wire::{Action, Command, ReportingOptions};
@@ -177,10 +177,62 @@ fn no_read_goes_past_what_is_written(rt: HostRuntime) {
 #[test]
 fn a_finish_and_a_reset_are_looked_at(rt: HostRuntime) {
     let alloc = rt.alloc();
-    for (number, reports) in [(APPEND, 0), (FINISH, 1), (RESET, 1)] {
+    for (number, reports, flushes) in [(APPEND, 0, 0), (FINISH, 1, 0), (RESET, 1, 1)] {
         let mut device = watched(alloc).expect(&rt, "a device");
         assert!(rt; does(alloc, &mut device, number));
         assert_eq!(rt; device.way().way().reports(), reports);
-        assert_eq!(rt; device.way().way().sent(), 1 + reports);
+        assert_eq!(rt; device.way().way().flushes(), flushes);
+        assert_eq!(rt; device.way().way().sent(), 1 + reports + flushes);
+    }
+}
+
+/// A Flush looks at the first zone while it is open, and once more after it is finished. Then no zone is due.
+#[test]
+fn a_flush_looks_at_what_may_be_written(rt: HostRuntime) {
+    let alloc = rt.alloc();
+    let mut device = watched(alloc).expect(&rt, "a device");
+    let mut reports = 0;
+    for (number, looks) in [(FLUSH, 1), (FLUSH, 1), (FINISH, 1), (FLUSH, 1), (FLUSH, 0)] {
+        assert!(rt; does(alloc, &mut device, number));
+        reports += looks;
+        assert_eq!(rt; device.way().way().reports(), reports);
+    }
+    assert_eq!(rt; device.way().way().flushes(), 4);
+    assert_eq!(rt; device.way().way().sent(), 5 + reports);
+}
+
+/// Zones at both ends are looked at by one report, since one transfer holds them all.
+#[test]
+fn one_report_shows_all_that_was_changed(rt: HostRuntime) {
+    let alloc = rt.alloc();
+    let mut device = watched(alloc).expect(&rt, "a device");
+    assert!(rt; does(alloc, &mut device, APPEND));
+    assert!(rt; does(alloc, &mut device, FLUSH));
+    assert_eq!(rt; device.way().way().reports(), 1);
+    assert_eq!(rt; device.way().way().sent(), 3);
+}
+
+/// The first Reset waits for a Flush, since blocks may have been written before the device began. Later ones wait for one
+/// only after an Append.
+#[test]
+fn a_reset_waits_for_a_flush(rt: HostRuntime) {
+    let alloc = rt.alloc();
+    let mut device = watched(alloc).expect(&rt, "a device");
+    let mut flushes = 0;
+    for (number, sent) in [
+        (RESET, 1),
+        (RESET, 0),
+        (APPEND, 0),
+        (RESET, 1),
+        (RESET, 0),
+        (FINISH, 0),
+        (RESET, 0),
+        (APPEND, 0),
+        (FLUSH, 1),
+        (RESET, 0),
+    ] {
+        assert!(rt; does(alloc, &mut device, number), "{number}");
+        flushes += sent;
+        assert_eq!(rt; device.way().way().flushes(), flushes, "{number}");
     }
 }

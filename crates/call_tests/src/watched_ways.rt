@@ -16,6 +16,8 @@ pub struct Watch {
     sent: u32,
     /// How many of them ask for a report.
     reports: u32,
+    /// How many of them are Flushes.
+    flushes: u32,
     /// How many Reads could go on past what is written.
     past: u32,
 }
@@ -28,6 +30,7 @@ impl Watch {
             way,
             sent: 0,
             reports: 0,
+            flushes: 0,
             past: 0,
         }
     }
@@ -40,6 +43,11 @@ impl Watch {
     /// How many of them ask for a report.
     pub fn reports(&self) -> u32 {
         self.reports
+    }
+
+    /// How many of them are Flushes.
+    pub fn flushes(&self) -> u32 {
+        self.flushes
     }
 
     /// How many Reads could go on past what is written.
@@ -74,6 +82,9 @@ impl Watch {
         if let Command::Receive { .. } = *command {
             self.reports = self.reports.saturating_add(1);
         }
+        if let Command::Flush = *command {
+            self.flushes = self.flushes.saturating_add(1);
+        }
         if let Command::Read { slba, blocks } = *command {
             let written = self.written_to(slba);
             if end > written || slba.saturating_add(u64::from(blocks)) > end {
@@ -84,9 +95,13 @@ impl Watch {
 }
 
 impl Passthrough for Watch {
+    ghost use Rattle.std.specs.Prelude.{true};
+
     ghost shape = { λ w. w.way.geometry };
 
     ghost zones = { λ w. w.way.zones };
+
+    ghost flushed = { λ w. true };
 
     fn geometry(&self) -> Geometry {
         self.way.geometry()

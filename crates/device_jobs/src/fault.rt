@@ -18,6 +18,18 @@ pub enum DeviceFault {
     /// The system does not open it.
     #[error("cannot be opened: {0}")]
     Unopened(SystemError),
+    /// The system does not let this program open it.
+    #[error("cannot be opened: this needs root, or permission to read and write it")]
+    NotPermitted,
+    /// The system does not let this program open the block device of the namespace.
+    #[error("cannot be opened: its block device needs root, or permission to read it")]
+    BlockNotPermitted,
+    /// The system does not open the block device of the namespace.
+    #[error("cannot be opened: its block device does not open: {0}")]
+    BlockUnopened(SystemError),
+    /// The system does not let this program send a command of the start.
+    #[error("is refused: the system lets only root send {0}")]
+    NotSent(StartCommand),
     /// Another program has it.
     #[error("is in use by another program")]
     Busy,

@@ -27,6 +27,13 @@ asked-bare geometry old new command bytes held items (Ok value) bare given =
     rw given.0 (adds-also held items _ _ (λ returned effect. effect-bare geometry old new command bytes returned Success 0 bare effect) given.1)
 asked-bare geometry old new command bytes held items (Err halt) bare given = tt
 
+-- a Flush that was completed
+pub flushed-ok : (geometry : Geometry) (old new : List Zone) (bytes held : List ℕ) (result : Result ℕ Halt)
+    → IfOk result (λ value. (value ≡ 0) × Effect geometry old (Ok Flush) [] Success 0 [] new)
+    → IfOk result (λ value. Adds held (λ returned. Effect geometry old (Ok Flush) bytes Success value returned new) held)
+flushed-ok geometry old new bytes held (Ok value) given = rw given.0 (adds-nothing held _ (effect-bare geometry old new Flush bytes [] Success 0 refl given.1))
+flushed-ok geometry old new bytes held (Err halt) given = tt
+
 -- an action that was completed
 pub sent-ok : (geometry : Geometry) (old new : List Zone) (slba : ℕ) (action : Action) (all : Bool) (bytes held : List ℕ) (result : Result ℕ Halt) → all ≡ false
     → Asks geometry old (Send slba action false) [] result [] new

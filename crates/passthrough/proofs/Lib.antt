@@ -1,5 +1,6 @@
 mod AskLaws
 mod FirstLaws
+mod FlushLaws
 mod KeptLaws
 mod LookLaws
 mod PartLaws

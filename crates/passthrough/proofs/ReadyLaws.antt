@@ -1,10 +1,11 @@
 -- What was seen stays true of the zones of a drive that is served.
-use Rattle.std.proofs.Common.{◌≡◌, ℕ, ◌+◌, ◌*◌, ◌/◌, ◌%◌, ◌<◌, ◌≤◌, Bool, false, true, List, [], length, Some, Ok, refl, sym, ◌∙◌, inl, inr, arith}
+use Rattle.std.proofs.Common.{Result, ◌≡◌, ℕ, ◌+◌, ◌*◌, ◌/◌, ◌%◌, ◌<◌, ◌≤◌, Bool, false, true, List, [], length, Some, Ok, refl, sym, ◌∙◌, inl, inr, arith}
 use Rattle.std.specs.Prelude.{slice_set}
 use Rattle.std.proofs.Math.Nat.{div-lt_iff_lt-mul, mod-add-div'}
 use Rattle.nvme_wire.specs.declared.command.Action.{Action}
 use Rattle.nvme_wire.specs.declared.command.Command.{Command}
 use Rattle.nvme_wire.specs.declared.command.Command.TheVariants.{Flush, Read, Write, Append, Send, Receive}
+use Rattle.nvme_wire.specs.declared.command.DecodeFault.{DecodeFault}
 use Rattle.nvme_wire.specs.declared.status.Status.{Status}
 use Rattle.nvme_wire.specs.declared.status.Status.TheVariants.{Success}
 use Rattle.nvme_wire.specs.declared.zone_state.ZoneState.{ZoneState}
@@ -108,6 +109,12 @@ pub appended-nothing : (geometry : Geometry) (old new : List Zone) (zslba blocks
 appended-nothing geometry old new zslba blocks bytes returned value effect =
     rw (succeeded geometry old new (Ok (Append zslba blocks)) bytes returned value effect).returned_is at effect
 
+-- nor does an action
+pub acted-nothing : (geometry : Geometry) (old new : List Zone) (slba : ℕ) (action : Action) (bytes returned : List ℕ) (value : ℕ)
+    → Effect geometry old (Ok (Send slba action false)) bytes Success value returned new → Effect geometry old (Ok (Send slba action false)) bytes Success value [] new
+acted-nothing geometry old new slba action bytes returned value effect =
+    rw (succeeded geometry old new (Ok (Send slba action false)) bytes returned value effect).returned_is at effect
+
 -- ---- commands that change no zone
 
 -- a command that only asks does no more to the zones than the controller may by itself
@@ -160,6 +167,30 @@ effect-closes geometry old middle new command bytes returned value effect closin
   returned_is = effect.returned_is;
   after = IsClosing-trans _ _ _ effect.after closing;
 }
+
+-- a closing, and then a command
+pub effect-later : (geometry : Geometry) (old middle new : List Zone) (command : Result Command DecodeFault) (bytes returned : List ℕ) (status : Status) (value : ℕ)
+    → IsClosing old middle → Effect geometry middle command bytes status value returned new → Effect geometry old command bytes status value returned new
+effect-later geometry old middle new command bytes returned status value closing effect = record {
+  middle = effect.middle;
+  before = IsClosing-trans _ _ _ closing effect.before;
+  status_is = effect.status_is;
+  value_is = effect.value_is;
+  returned_is = effect.returned_is;
+  after = effect.after;
+}
+
+-- and one that was not completed
+pub left-later : (geometry : Geometry) (old middle new : List Zone) (slba : ℕ) (action : Action) (bytes : List ℕ) → IsClosing old middle
+    → LeftBy geometry middle (Ok (Send slba action false)) bytes new → LeftBy geometry old (Ok (Send slba action false)) bytes new
+left-later geometry old middle new slba action bytes closing (inl closes) = inl (IsClosing-trans _ _ _ closing closes)
+left-later geometry old middle new slba action bytes closing (inr (inl whole)) = inr (inl (record {
+  status = whole.status;
+  value = whole.value;
+  returned = whole.returned;
+  effect = effect-later geometry old middle new (Ok (Send slba action false)) bytes whole.returned whole.status whole.value closing whole.effect;
+}))
+left-later geometry old middle new slba action bytes closing (inr (inr torn)) = absurd torn
 
 -- it may as well be that its answer was lost
 pub effect-left : (geometry : Geometry) (old new : List Zone) (command : Command) (bytes returned : List ℕ) (value : ℕ)

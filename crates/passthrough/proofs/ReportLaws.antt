@@ -23,7 +23,7 @@ use Rattle.passthrough.specs.declared.seen_zone.SeenZone.{SeenZone}
 -- ---- pieces
 
 -- a zone that is closed twice is closed
-closes-then : (a b c : Zone) → ClosesOne a b → ClosesOne b c → ClosesOne a c
+pub closes-then : (a b c : Zone) → ClosesOne a b → ClosesOne b c → ClosesOne a c
 closes-then a b c p q = record { blocks = q.blocks ∙ p.blocks; state = states p.state q.state }
   where
     states : (b.state ≡ a.state) ⊎ ((a.state ≡ ImplicitlyOpened) × (b.state ≡ Closed)) → (c.state ≡ b.state) ⊎ ((b.state ≡ ImplicitlyOpened) × (c.state ≡ Closed))

@@ -42,7 +42,7 @@ written-length capacity block blocks zone bytes = omega (arith, length-append zo
 
 -- a zone that is filled by a write
 pub seen-filled : (capacity block blocks written : ℕ) (zone : Zone) (bytes : List ℕ) → written ≡ length zone.blocks + blocks → written ≡ capacity
-    → IsSeen (written_zone capacity zone (cut_blocks block blocks bytes)) (record { state = Full; written = Some written })
+    → IsSeen (written_zone capacity zone (cut_blocks block blocks bytes)) (record { state = Full; written = Some written; changed = true })
 seen-filled capacity block blocks written zone bytes e filled =
     let all = written-length capacity block blocks zone bytes in
     record {
@@ -67,7 +67,7 @@ opened-state seen state is = elim is [
 -- a zone that is not filled by it
 pub seen-written : (capacity block blocks written : ℕ) (seen : SeenZone) (zone : Zone) (bytes : List ℕ) → IsSeen zone seen
     → written ≡ length zone.blocks + blocks → written ≢ capacity
-    → IsSeen (written_zone capacity zone (cut_blocks block blocks bytes)) (record { state = opened_by_write seen.state; written = Some written })
+    → IsSeen (written_zone capacity zone (cut_blocks block blocks bytes)) (record { state = opened_by_write seen.state; written = Some written; changed = true })
 seen-written capacity block blocks written seen zone bytes is e unfilled =
     let all = written-length capacity block blocks zone bytes in
     record {

@@ -143,7 +143,7 @@ shown-is : (geometry : Geometry) (number : ℕ) (old zone : Zone) (seen after : 
     → (zone.state ≡ after.state) × IsSeen zone after
 shown-is geometry number old zone seen after bytes state is shown e one shows =
     let same : zone.state ≡ state = code-injective _ _ (sym shows.state ∙ shown.code) in
-    let row : after ≡ record { state = state; written = seen.written } = e ∙ rw (shown.code, state_of-code state) refl in
+    let row : after ≡ record seen { state = state } = e ∙ rw (shown.code, state_of-code state) refl in
     rw row (
       same,
       record {

@@ -17,6 +17,10 @@ model_number pages = take 40 (drop 24 pages.controller)
 abbrev pub transfer_field : Pages → ℕ
 transfer_field pages = slice_index pages.controller 77
 
+-- ONCS, Optional NVM Command Support: bit 4 says whether features can be saved, and selected by Get Features
+abbrev pub can_save_features : Pages → Bool
+can_save_features pages = slice_index pages.controller 520 / 16 % 2 == 1
+
 -- VWC, Volatile Write Cache: bit 0 says whether there is one
 abbrev pub has_write_cache : Pages → Bool
 has_write_cache pages = slice_index pages.controller 525 % 2 == 1

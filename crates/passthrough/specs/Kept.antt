@@ -1,5 +1,5 @@
 -- What a way that reads ahead keeps, and which commands do not change it.
-use Rattle.std.specs.Prelude.{◌≡◌, ◌≢◌, ℕ, ◌+◌, ◌*◌, ◌/◌, ◌%◌, ◌≤◌, true, false, List, length, take, None}
+use Rattle.std.specs.Prelude.{◌≡◌, ◌≢◌, ℕ, ◌+◌, ◌*◌, ◌/◌, ◌%◌, ◌≤◌, Bool, true, false, List, length, take, None}
 use Rattle.nvme_wire.specs.declared.zone_state.ZoneState.TheVariants.{Offline}
 use Rattle.nvme_wire.specs.declared.command.Command.{Command}
 use Rattle.nvme_wire.specs.declared.command.Command.TheVariants.{Write, Append, Send}
@@ -12,6 +12,7 @@ use Rattle.passthrough.specs.declared.kept.Kept.{Kept}
 pub record WayState : Type 0 where
   pub shape : Geometry
   pub zones : List Zone
+  pub flushed : Bool
 
 -- ---- what is kept
 

@@ -10,7 +10,7 @@ use Rattle.nvme_wire.specs.Descriptor.{state_code}
 use Rattle.nvme_wire.specs.declared.command.Action.{Action}
 use Rattle.nvme_wire.specs.declared.command.Action.TheVariants as actions
 use Rattle.nvme_wire.specs.declared.command.Command.{Command}
-use Rattle.nvme_wire.specs.declared.command.Command.TheVariants.{Flush, Read, Append, Send, Receive}
+use Rattle.nvme_wire.specs.declared.command.Command.TheVariants.{Flush, Read, Write, Append, Send, Receive}
 use Rattle.nvme_wire.specs.declared.command.ReportingOptions.TheVariants.{AnyState}
 use Rattle.nvme_wire.specs.declared.status.Status.TheVariants.{Success}
 use Rattle.nvme_wire.specs.declared.zone_state.ZoneState.{ZoneState}
@@ -101,6 +101,20 @@ IsSent geometry zones (Append zslba blocks) bytes end room = IsSentAppend geomet
 IsSent geometry zones (Send slba action false) bytes end room = IsSentAction geometry zones slba action bytes room
 IsSent geometry zones (Receive slba dwords AnyState true) bytes end room = (bytes ≡ []) × IsSentReport geometry slba dwords room
 IsSent geometry zones command bytes end room = ⊥
+
+-- ---- what is durable
+
+-- a Reset is sent only while all that was appended is flushed: else blocks that were moved out of the zone could be lost with the power
+abbrev pub IsSafe : Command → Bool → Type 0
+IsSafe (Send slba actions.Reset all) flushed = flushed ≡ true
+IsSafe command flushed = Unit {0}
+
+-- by a Flush that succeeds all that was appended is flushed, and only an Append adds what is not
+abbrev pub KeepsFlushed : Command → ℕ → Bool → Bool → Type 0
+KeepsFlushed Flush status old new = (status ≡ 0 → new ≡ true) × (old ≡ true → new ≡ true)
+KeepsFlushed (Write slba blocks) status old new = Unit {0}
+KeepsFlushed (Append zslba blocks) status old new = Unit {0}
+KeepsFlushed command status old new = old ≡ true → new ≡ true
 
 -- ---- what a report shows
 

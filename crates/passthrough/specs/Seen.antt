@@ -1,8 +1,9 @@
 -- What was seen of the zones.
-use Rattle.std.specs.Prelude.{◌≡◌, ◌⊎◌, ℕ, ◌<◌, Bool, true, false, List, length, slice_index_or, IfSome, None, is_some}
+use Rattle.std.specs.Prelude.{◌≡◌, ◌⊎◌, ℕ, ◌<◌, ◌||◌, Bool, true, false, List, length, slice_index_or, IfSome, None, is_some}
 use Rattle.nvme_wire.specs.declared.zone_state.ZoneState.{ZoneState}
 use Rattle.nvme_wire.specs.declared.zone_state.ZoneState.TheVariants.{Closed, Full, ImplicitlyOpened, Offline, ReadOnly}
 use Rattle.zone_states.specs.declared.geometry.Geometry.{Geometry}
+use Rattle.zone_states.specs.Transition.{is_active}
 use Rattle.zone_states.specs.Zone.{Zone}
 use Rattle.drive_port.specs.Step.{zone_at}
 use Rattle.passthrough.specs.Premise.{IsOfZone, Shows, descriptor_in}
@@ -27,7 +28,7 @@ pub record IsSeen (zone : Zone) (seen : SeenZone) : Type 0 where
 
 -- nothing is known of no zone
 abbrev pub no_zone : SeenZone
-no_zone = record { state = Offline; written = None }
+no_zone = record { state = Offline; written = None; changed = false }
 
 abbrev pub seen_at : List SeenZone → ℕ → SeenZone
 seen_at seen number = slice_index_or seen number no_zone
@@ -36,6 +37,19 @@ seen_at seen number = slice_index_or seen number no_zone
 pub record AreSeen (zones : List Zone) (seen : List SeenZone) : Type 0 where
   pub count : length seen ≡ length zones
   pub each : (number : ℕ) → number < length zones → IsSeen (zone_at zones number) (seen_at seen number)
+
+-- a Flush looks at a zone that is active, and at one that was changed since the last Flush
+abbrev pub is_due : SeenZone → Bool
+is_due seen = is_active seen.state || seen.changed
+
+-- the same, once a Flush was done
+abbrev pub settled : SeenZone → SeenZone
+settled seen = record seen { changed = false }
+
+-- it was done of all zones
+pub record AreSettled (old new : List SeenZone) : Type 0 where
+  pub length_is : length new ≡ length old
+  pub each : (number : ℕ) → seen_at new number ≡ settled (seen_at old number)
 
 -- a row is what a descriptor of a zone shows, whichever zone of that number it is
 pub record IsRow (geometry : Geometry) (number : ℕ) (bytes : List ℕ) (row : SeenZone) : Type 0 where

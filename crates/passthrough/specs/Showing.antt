@@ -1,5 +1,5 @@
 -- What reports show of the zones that were seen.
-use Rattle.std.specs.Prelude.{◌≡◌, ◌⊎◌, ℕ, ◌+◌, ◌*◌, ◌<◌, ◌≤◌, List, [], length, replicate, unwrap_or, Option, Some, None}
+use Rattle.std.specs.Prelude.{◌≡◌, ◌⊎◌, ℕ, ◌+◌, ◌*◌, ◌<◌, ◌≤◌, true, false, List, [], length, replicate, unwrap_or, Option, Some, None}
 use Rattle.nvme_wire.specs.Descriptor.{state_code, state_of}
 use Rattle.nvme_wire.specs.declared.zone_state.ZoneState.{ZoneState}
 use Rattle.zone_states.specs.declared.geometry.Geometry.{Geometry}
@@ -9,7 +9,7 @@ use Rattle.zone_report.specs.Report.{descriptor_of, pointer_of, zone_status}
 use Rattle.drive_port.specs.Drive.{ClosesOne}
 use Rattle.drive_port.specs.Step.{zone_at}
 use Rattle.passthrough.specs.Premise.{capacity_in, descriptor_in, pointer_in, start_in, state_in, type_in}
-use Rattle.passthrough.specs.Seen.{IsState, seen_at}
+use Rattle.passthrough.specs.Seen.{IsState, is_due, seen_at}
 use Rattle.passthrough.specs.declared.seen_zone.SeenZone.{SeenZone}
 
 -- a descriptor shows this state of a zone that was seen, and its pointer
@@ -28,7 +28,7 @@ AreShown geometry first seen report count =
 
 -- what is seen of a zone when a report shows its state
 abbrev pub now_seen : SeenZone → Option ZoneState → SeenZone
-now_seen seen (Some state) = record { state = state; written = seen.written }
+now_seen seen (Some state) = record seen { state = state }
 now_seen seen None = seen
 
 -- the states that the first descriptors of a report show are seen, and nothing else
@@ -61,3 +61,22 @@ pub record WereSeen (first count : ℕ) (geometry : Geometry) (old : List Zone) 
   pub length_is : length after ≡ length before
   pub others : (number : ℕ) → (number < first) ⊎ (first + count ≤ number) → seen_at after number ≡ seen_at before number
   pub looked : (number : ℕ) → first ≤ number → number < first + count → LookedLike geometry number (zone_at old number) (seen_at after number) (zone_at new number)
+
+-- a stretch of zones has all those from a first one on, that many, that are due
+pub record CoversDue (seen : List SeenZone) (first count from some : ℕ) : Type 0 where
+  pub low : first ≤ from
+  pub high : from + some ≤ first + count
+  pub due : (number : ℕ) → first ≤ number → number < first + count → is_due (seen_at seen number) ≡ true → (from ≤ number) × (number < from + some)
+
+-- of the zones from a first one on, that many, those that were due were seen since
+pub record DueWereSeen (first count : ℕ) (geometry : Geometry) (old : List Zone) (before after : List SeenZone) (new : List Zone) : Type 0 where
+  pub length_is : length after ≡ length before
+  pub others : (number : ℕ) → (number < first) ⊎ (first + count ≤ number) → seen_at after number ≡ seen_at before number
+  pub looked : (number : ℕ) → first ≤ number → number < first + count → is_due (seen_at before number) ≡ true
+      → LookedLike geometry number (zone_at old number) (seen_at after number) (zone_at new number)
+
+-- a Flush looked at each zone that was due, and then no zone counts as changed
+pub record FlushLooked (geometry : Geometry) (old : List Zone) (before after : List SeenZone) (new : List Zone) : Type 0 where
+  pub looked : (number : ℕ) → number < geometry.zones → is_due (seen_at before number) ≡ true
+      → LookedLike geometry number (zone_at old number) (seen_at after number) (zone_at new number)
+  pub unchanged : (number : ℕ) → (seen_at after number).changed ≡ false

@@ -7,6 +7,7 @@ ghost use Rattle.passthrough.specs.Asking.{Asks, IsReady, Leads};
 ghost use Rattle.passthrough.specs.Premise.{IsSentAction};
 ghost use Rattle.passthrough.specs.Seen.{AreSeen};
 
+use crate::flushing::flush_before;
 use crate::looking::look;
 use crate::passthrough::Passthrough;
 use crate::seen_zone::SeenZone;
@@ -27,21 +28,27 @@ fn may_act(geometry: Geometry, seen: &[SeenZone], slba: u64, action: Action) -> 
     geometry.start_of(number) == slba && zone_at(seen, u64::from(number)).admits(action)
 }
 
-/// Closes, finishes or resets the zone that starts at an address.
+/// Closes, finishes or resets the zone that starts at an address. A Flush is sent before a Reset where it is needed.
 pub(crate) fn act<P: Passthrough>(
     way: &mut P,
     geometry: Geometry,
     seen: &mut [SeenZone],
+    unflushed: &mut bool,
     slba: u64,
     action: Action,
 ) -> Result<u64, Halt>
     requires ready { IsReady geometry (P.shape way.old) (P.zones way.old) seen.old }
+    requires known { unflushed.old ≡ false → P.flushed way.old ≡ true }
     ensures asks { Asks geometry (P.zones way.old) (Command.Send slba action false) [] result [] (P.zones way.new) }
     ensures ready { OnOk result (IsReady geometry (P.shape way.new) (P.zones way.new) seen.new) }
     ensures leads { Leads geometry (P.shape way.new) (P.zones way.new) }
     ensures err { IfErr result (λ halt. halt ≡ Halt.Stopped) }
+    ensures known { unflushed.new ≡ false → P.flushed way.new ≡ true }
 {
     if !may_act(geometry, seen, slba, action) {
+        return Err(Halt::Stopped);
+    }
+    if !flush_before(way, geometry, action, unflushed) {
         return Err(Halt::Stopped);
     }
     let command = Command::Send {
@@ -64,16 +71,19 @@ pub(crate) fn act_seen<P: Passthrough>(
     way: &mut P,
     geometry: Geometry,
     seen: &mut [SeenZone],
+    unflushed: &mut bool,
     slba: u64,
     action: Action,
 ) -> Result<u64, Halt>
     requires ready { IsReady geometry (P.shape way.old) (P.zones way.old) seen.old }
+    requires known { unflushed.old ≡ false → P.flushed way.old ≡ true }
     ensures asks { Asks geometry (P.zones way.old) (Command.Send slba action false) [] result [] (P.zones way.new) }
     ensures ready { OnOk result (IsReady geometry (P.shape way.new) (P.zones way.new) seen.new) }
     ensures leads { Leads geometry (P.shape way.new) (P.zones way.new) }
     ensures err { IfErr result (λ halt. halt ≡ Halt.Stopped) }
+    ensures known { unflushed.new ≡ false → P.flushed way.new ≡ true }
 {
-    let value = act(way, geometry, seen, slba, action)?;
+    let value = act(way, geometry, seen, unflushed, slba, action)?;
     if action == Action::Close {
         return Ok(value);
     }

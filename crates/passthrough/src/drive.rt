@@ -28,6 +28,8 @@ pub struct PassthroughDrive<P: Passthrough + Drop> {
     geometry: Geometry,
     /// What was seen of each zone.
     seen: Vec<SeenZone>,
+    /// Whether anything may have been written since the last Flush, by this device or before it.
+    unflushed: bool,
     completed: u64,
     /// How many of the completed commands were refused.
     refused: u64,
@@ -58,7 +60,8 @@ impl<P: Passthrough + Drop> Model for PassthroughDrive<P> {
     ghost invariant = { λ d. Leads d.geometry (P.shape d.way) (P.zones d.way)
         × (d.stopped ≡ false → AreSeen (P.zones d.way) d.seen.items)
         × (d.completed ≤ 2 ^ 63) × (d.refused ≤ d.completed) × (d.appended ≤ d.completed)
-        × (d.completed ≡ 2 ^ 63 → d.stopped ≡ true) };
+        × (d.completed ≡ 2 ^ 63 → d.stopped ≡ true)
+        × (d.unflushed ≡ false → P.flushed d.way ≡ true) };
 }
 
 /// The status of an entry that holds no command.
@@ -107,6 +110,7 @@ impl<P: Passthrough + Drop> PassthroughDrive<P> {
             way,
             geometry,
             seen,
+            unflushed: true,
             completed: 0,
             refused: 0,
             appended: 0,
@@ -150,6 +154,7 @@ impl<P: Passthrough + Drop> PassthroughDrive<P> {
             way,
             geometry,
             &mut self.seen,
+            &mut self.unflushed,
             &command,
             bytes,
             into,

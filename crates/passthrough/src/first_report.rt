@@ -52,7 +52,11 @@ fn zone_shown(geometry: Geometry, number: u32, bytes: &[u8; 64]) -> Option<SeenZ
             Some(written as u32)
         }
     };
-    Some(SeenZone { state, written })
+    Some(SeenZone {
+        state,
+        written,
+        changed: false,
+    })
 }
 
 /// Sees the zones that the descriptors of a report show, as many as there are.

@@ -11,6 +11,7 @@
 //! A [`Passthrough`] is such a way. Its contract is all that is known of the drive (`specs/Premise.antt`). What a Read
 //! returns is believed. A Success was done, if the address of an Append is the zone's pointer, and a report shows the
 //! zones that are there. Any other answer, or none, says only that the zones are left as by a stop inside the command.
+//! After a Flush that succeeds all that was appended is flushed, until the next Append.
 //!
 //! [`PassthroughDrive`] makes a device of a way. [`ReadAhead`] is a way above a way. [`Through`] is a way to any
 //! device, so the contract of a way can be met, and all of this can be tried over a drive in memory.
@@ -37,6 +38,12 @@
 //!   sends nothing.
 //! * It sends only what the contract of a way asks for: Reads of written blocks, Appends and actions that fit the
 //!   table, and reports of no more than one transfer. A block that is not written is zeros, whatever the drive says.
+//! * A Flush looks before it is answered. Once the drive has done it, the device asks for a report of each zone that is
+//!   active, and of each that was written, closed, finished or reset since the last Flush (`FlushLooked` in
+//!   `specs/Showing.antt`). One report shows as many neighbours as one transfer holds. What does not fit stops the device.
+//! * Before a Reset it sends a Flush, if anything was appended since the last one, or may have been before the device
+//!   began. So blocks that were moved out of a zone are durable before the zone is emptied. The contract of a way asks for
+//!   it: a Reset is sent only while all that was appended is flushed (`IsSafe` in `specs/Premise.antt`).
 //! * It sends no Write, no Open, no Offline and no action to all zones. These stop the device. A disk needs none of
 //!   them, and a real drive may do half of some.
 //! * [`ReadAhead`] answers a Read by what the zones hold, and never reads past the end that it is given.
@@ -46,7 +53,8 @@
 //!   is named with its number, in the order of [`IdentifyFault`] (`specs/Faults.antt`); none exactly if all pass.
 //! * An [`Identity`] has the model and serial number of the drive, without white space at their ends, and the bytes of
 //!   the namespace. A byte that is not printable ASCII is shown as `?` (`specs/Identity.antt`).
-//! * [`Pages::has_write_cache`] tells whether the drive has a volatile write cache.
+//! * [`Pages::has_write_cache`] tells whether the drive has a volatile write cache, and [`Pages::can_save_features`]
+//!   whether it can save such a setting.
 //!
 //! # What is assumed of Identify
 //!
@@ -62,6 +70,11 @@
 //! * Which fault of a first report is named.
 //! * A Flush that a drive refused, and that a way told as done, is refused by no contract: a drive of this profile has
 //!   no volatile write cache.
+//! * What a loss of power leaves of the drive. Of a way it is only known that all that was appended is flushed. The
+//!   device's `durable` is empty: by the contract of a device only its own Flush changes what may be left. Here the Flush
+//!   before a Reset does so, too, and so does each Append, of which a real drive may keep any part.
+//! * A look after a Flush guards against drives that break the premise: an Append that was answered and not done, and a
+//!   Reset by another program. Under the premise each such report fits.
 //! * That the fields of Identify are where drives have them. It is tested over pages of QEMU's drives.
 //! * The texts of the faults are tested.
 //!
@@ -73,6 +86,7 @@ mod appending;
 mod asking;
 mod drive;
 mod first_report;
+mod flushing;
 mod identify_fault;
 mod identity;
 mod kept;

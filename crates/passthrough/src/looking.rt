@@ -83,6 +83,7 @@ pub(crate) fn look<P: Passthrough>(
     ensures closes { IsClosing (P.zones way.old) (P.zones way.new) }
     ensures leads { Leads geometry (P.shape way.new) (P.zones way.new) }
     ensures err { IfErr result (λ halt. halt ≡ Halt.Stopped) }
+    ensures flushed { P.flushed way.old ≡ true → P.flushed way.new ≡ true }
 {
     let command = Command::Receive {
         slba: geometry.start_of(first),

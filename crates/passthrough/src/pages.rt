@@ -1,5 +1,5 @@
 ghost use Rattle.std.specs.Prelude.{◌≡◌, ◌<◌};
-ghost use Rattle.passthrough.specs.Fields.{active_field, append_field, block_exponent};
+ghost use Rattle.passthrough.specs.Fields.{active_field, append_field, block_exponent, can_save_features};
 ghost use Rattle.passthrough.specs.Fields.{extension_units, format_index, has_active_excursions};
 ghost use Rattle.passthrough.specs.Fields.{has_variable_capacity, has_write_cache, metadata_size};
 ghost use Rattle.passthrough.specs.Fields.{namespace_size, open_field, protection_type};
@@ -30,6 +30,13 @@ impl Pages {
         ensures { result ≡ transfer_field self.now }
     {
         self.controller[77]
+    }
+
+    /// Whether the drive can save features, and says by Get Features which: bit 4 of ONCS.
+    pub fn can_save_features(&self) -> bool
+        ensures { result ≡ can_save_features self.now }
+    {
+        (self.controller[520] >> 4) & 1 == 1
     }
 
     /// Whether the drive has a volatile write cache, on or off: bit 0 of VWC.

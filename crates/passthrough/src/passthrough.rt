@@ -1,8 +1,8 @@
-ghost use Rattle.std.specs.Prelude.{◌≡◌, List, length};
+ghost use Rattle.std.specs.Prelude.{◌≡◌, Bool, List, length};
 ghost use Rattle.nvme_wire.specs.Entry.{IsAdmitted};
 ghost use Rattle.zone_states.specs.declared.geometry.Geometry.{Geometry};
 ghost use Rattle.zone_states.specs.Zone.{Zone};
-ghost use Rattle.passthrough.specs.Premise.{Answers, AreLawful, IsSent};
+ghost use Rattle.passthrough.specs.Premise.{Answers, AreLawful, IsSafe, IsSent, KeepsFlushed};
 
 use nvme_wire::Command;
 use zone_states::Geometry;
@@ -15,6 +15,9 @@ pub trait Passthrough {
 
     /// Its zones.
     ghost zones: { Self → List Zone };
+
+    /// Whether all that was appended is flushed, so that a loss of power keeps it.
+    ghost flushed: { Self → Bool };
 
     /// The shape of the drive, which never changes.
     fn geometry(&self) -> Geometry
@@ -34,8 +37,10 @@ pub trait Passthrough {
     ) -> u16
         requires admitted { IsAdmitted command.now }
         requires sent { IsSent (shape self.old) (zones self.old) command.now bytes.now end (length room.old) }
+        requires safe { IsSafe command.now (flushed self.old) }
         ensures answers { Answers (shape self.old) (zones self.old) command.now bytes.now
             result value.new room.new (zones self.new) }
+        ensures flushed { KeepsFlushed command.now result (flushed self.old) (flushed self.new) }
         ensures shape { shape self.new ≡ shape self.old }
         ensures lawful { AreLawful (shape self.new) (zones self.new) };
 }

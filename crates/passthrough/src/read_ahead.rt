@@ -1,9 +1,9 @@
-ghost use Rattle.std.specs.Prelude.{◌≡◌, ◌*◌, ◌≤◌, IsTrue, [], Ok, length};
+ghost use Rattle.std.specs.Prelude.{◌≡◌, ◌*◌, ◌≤◌, IsTrue, [], Ok, length, true};
 ghost use Rattle.nvme_wire.specs.Entry.{IsAdmitted};
 ghost use Rattle.nvme_wire.specs.declared.status.Status.TheVariants.{Success};
 ghost use Rattle.drive_port.specs.Drive.{IsClosing};
 ghost use Rattle.drive_port.specs.Step.{Effect};
-ghost use Rattle.passthrough.specs.Premise.{Answers, AreLawful, IsSent, IsSentRead};
+ghost use Rattle.passthrough.specs.Premise.{Answers, AreLawful, IsSafe, IsSent, IsSentRead, KeepsFlushed};
 ghost use Rattle.passthrough.specs.Kept.{AreKept, CanFill};
 
 use crate::kept::Kept;
@@ -25,6 +25,7 @@ fn fill<P: Passthrough>(way: &mut P, kept: &mut Kept, address: u64, blocks: u32,
     requires sent { IsSentRead (P.shape way.old) (P.zones way.old) address blocks end
         (blocks * (P.shape way.old).block) }
     ensures closing { IsClosing (P.zones way.old) (P.zones way.new) }
+    ensures flushed { P.flushed way.old ≡ true → P.flushed way.new ≡ true }
     ensures shape { P.shape way.new ≡ P.shape way.old }
     ensures lawful { AreLawful (P.shape way.new) (P.zones way.new) }
     ensures kept { AreKept (P.shape way.old) (P.zones way.new) kept.new }
@@ -61,9 +62,11 @@ fn pass<P: Passthrough>(
     requires admitted { IsAdmitted command.now }
     requires sent { IsSent (P.shape way.old) (P.zones way.old) command.now bytes.now end
         (length room.old) }
+    requires safe { IsSafe command.now (P.flushed way.old) }
     requires kept { AreKept (P.shape way.old) (P.zones way.old) kept.old }
     ensures answers { Answers (P.shape way.old) (P.zones way.old) command.now bytes.now
         result value.new room.new (P.zones way.new) }
+    ensures flushed { KeepsFlushed command.now result (P.flushed way.old) (P.flushed way.new) }
     ensures shape { P.shape way.new ≡ P.shape way.old }
     ensures lawful { AreLawful (P.shape way.new) (P.zones way.new) }
     ensures kept { AreKept (P.shape way.old) (P.zones way.new) kept.new }
@@ -93,6 +96,7 @@ fn read_wide<P: Passthrough>(
     ensures read { IsTrue result → Effect (P.shape way.old) (P.zones way.old) (Ok (Command.Read address blocks)) []
         Success 0 room.new (P.zones way.new) }
     ensures closing { IsClosing (P.zones way.old) (P.zones way.new) }
+    ensures flushed { P.flushed way.old ≡ true → P.flushed way.new ≡ true }
     ensures shape { P.shape way.new ≡ P.shape way.old }
     ensures lawful { AreLawful (P.shape way.new) (P.zones way.new) }
     ensures kept { AreKept (P.shape way.old) (P.zones way.new) kept.new }
@@ -126,6 +130,7 @@ fn read<P: Passthrough>(
     requires lawful { AreLawful (P.shape way.old) (P.zones way.old) }
     ensures answers { Answers (P.shape way.old) (P.zones way.old) (Command.Read address blocks) []
         result value.new room.new (P.zones way.new) }
+    ensures flushed { P.flushed way.old ≡ true → P.flushed way.new ≡ true }
     ensures shape { P.shape way.new ≡ P.shape way.old }
     ensures lawful { AreLawful (P.shape way.new) (P.zones way.new) }
     ensures kept { AreKept (P.shape way.old) (P.zones way.new) kept.new }
@@ -166,7 +171,11 @@ impl<P: Passthrough + Drop> Model for ReadAhead<P> {
 
     ghost Value = { WayState };
 
-    ghost view = { λ r. record { shape = P.shape r.way; zones = P.zones r.way } };
+    ghost view = { λ r. record {
+      shape = P.shape r.way;
+      zones = P.zones r.way;
+      flushed = P.flushed r.way;
+    } };
 
     ghost invariant = { λ r. AreLawful (P.shape r.way) (P.zones r.way)
         × AreKept (P.shape r.way) (P.zones r.way) r.kept };
@@ -175,7 +184,11 @@ impl<P: Passthrough + Drop> Model for ReadAhead<P> {
 impl<P: Passthrough + Drop> ReadAhead<P> {
     /// Reads ahead above this way. Nothing is kept yet.
     pub fn new(alloc: Global, way: P) -> Self
-        ensures { result ≡ record { shape = P.shape way; zones = P.zones way } }
+        ensures { result ≡ record {
+          shape = P.shape way;
+          zones = P.zones way;
+          flushed = P.flushed way;
+        } }
     {
         let kept = Kept::new(alloc, way.geometry());
         ReadAhead { way, kept }
@@ -202,6 +215,8 @@ impl<P: Passthrough + Drop> Passthrough for ReadAhead<P> {
     ghost shape = { λ r. r.shape };
 
     ghost zones = { λ r. r.zones };
+
+    ghost flushed = { λ r. r.flushed };
 
     fn geometry(&self) -> Geometry {
         self.way.geometry()

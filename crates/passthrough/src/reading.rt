@@ -62,6 +62,7 @@ fn read_front<P: Passthrough>(
     ensures done { result ≡ true → ReadsFront geometry (P.zones way.old) slba asked.0 room.old room.new (P.zones way.new) }
     ensures closes { IsClosing (P.zones way.old) (P.zones way.new) }
     ensures leads { Leads geometry (P.shape way.new) (P.zones way.new) }
+    ensures flushed { P.flushed way.old ≡ true → P.flushed way.new ≡ true }
 {
     let (count, end) = asked;
     if count == 0 {
@@ -92,6 +93,7 @@ fn read_room<P: Passthrough>(
         room.new (P.zones way.new) }
     ensures closes { IsClosing (P.zones way.old) (P.zones way.new) }
     ensures leads { Leads geometry (P.shape way.new) (P.zones way.new) }
+    ensures flushed { P.flushed way.old ≡ true → P.flushed way.new ≡ true }
 {
     match asked_for(geometry, seen, slba, blocks) {
         Some(asked) => read_front(way, geometry, slba, asked, room),
@@ -117,6 +119,7 @@ pub(crate) fn read<P: Passthrough>(
         × IsClosing (P.zones way.old) (P.zones way.new)) }
     ensures ready { IsReady geometry (P.shape way.new) (P.zones way.new) seen.now }
     ensures kept { OnErr result (into.new.items ≡ into.old.items) }
+    ensures flushed { P.flushed way.old ≡ true → P.flushed way.new ≡ true }
 {
     let held = into.len();
     let room = blocks as usize * geometry.block as usize;

@@ -1,6 +1,6 @@
 // Reports of the whole drive, in pieces.
 
-ghost use Rattle.std.specs.Prelude.{◌≡◌, ◌≢◌, ◌+◌, ◌*◌, ◌≤◌, ◌++◌, [], Err, IfErr, IfOk, Ok, OnErr, OnOk, length, map};
+ghost use Rattle.std.specs.Prelude.{◌≡◌, ◌≢◌, ◌+◌, ◌*◌, ◌≤◌, ◌++◌, [], Err, IfErr, IfOk, Ok, OnErr, OnOk, length, map, true};
 ghost use Rattle.nvme_wire.specs.declared.command.Command.TheVariants.{Receive};
 ghost use Rattle.nvme_wire.specs.declared.status.Status.TheVariants.{Success};
 ghost use Rattle.zone_report.specs.Report.{report};
@@ -46,14 +46,14 @@ pub(crate) struct ReportAsked {
     pub(crate) partial: bool,
 }
 
-/// How many zones a report can show, that is no longer than one transfer.
-fn zones_in_one(geometry: Geometry) -> u32
+/// How many zones of the drive a report can show, that is no longer than one transfer.
+pub(crate) fn zones_in_one(geometry: Geometry) -> u32
     requires { IsInRange geometry }
     ensures some { 1 ≤ result }
     ensures few { 64 + 64 * result ≤ geometry.transfer * geometry.block }
     ensures fits { result ≤ 16384 }
 {
-    geometry.transfer * geometry.block / 64 - 1
+    (geometry.transfer * geometry.block / 64 - 1).min(geometry.zones)
 }
 
 /// Looks at all zones.
@@ -73,6 +73,7 @@ fn look_at_all<P: Passthrough>(
     ensures closes { IsClosing (P.zones way.old) (P.zones way.new) }
     ensures leads { Leads geometry (P.shape way.new) (P.zones way.new) }
     ensures err { IfErr result (λ halt. halt ≡ Halt.Stopped) }
+    ensures flushed { P.flushed way.old ≡ true → P.flushed way.new ≡ true }
 {
     let mut first = 0;
     while first < geometry.zones {
@@ -144,6 +145,7 @@ pub(crate) fn report<P: Passthrough>(
         → IsReady geometry (P.shape way.new) (P.zones way.new) seen.new }
     ensures leads { Leads geometry (P.shape way.new) (P.zones way.new) }
     ensures kept { OnErr result (into.new.items ≡ into.old.items) }
+    ensures flushed { P.flushed way.old ≡ true → P.flushed way.new ≡ true }
 {
     if asked.slba >= geometry.end() {
         return Err(Halt::Stopped);

@@ -10,6 +10,7 @@ use nvme_wire::ZoneState;
 pub(crate) const NO_ZONE: SeenZone = SeenZone {
     state: ZoneState::Offline,
     written: None,
+    changed: false,
 };
 
 /// What was seen of the zone with a number.

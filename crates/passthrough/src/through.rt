@@ -56,9 +56,14 @@ impl<D: Device + Drop> Through<D> {
 }
 
 impl<D: Device + Drop> Passthrough for Through<D> {
+    ghost use Rattle.std.specs.Prelude.{true};
+
     ghost shape = { λ drive. drive.geometry };
 
     ghost zones = { λ drive. drive.zones };
+
+    // What becomes of the device in a loss of power is not asked.
+    ghost flushed = { λ drive. true };
 
     fn geometry(&self) -> Geometry {
         self.device.geometry()

@@ -27,6 +27,10 @@ pub fn show_faults<R: Eprint + Input + Print>(rt: &R, alloc: Global) -> Result<(
     for fault in [
         DeviceFault::NoWay,
         DeviceFault::Unopened(SystemError::from(io::Error::from_raw_os_error(13))),
+        DeviceFault::NotPermitted,
+        DeviceFault::BlockNotPermitted,
+        DeviceFault::BlockUnopened(SystemError::from(io::Error::from_raw_os_error(5))),
+        DeviceFault::NotSent(StartCommand::SetWriteCache),
         DeviceFault::Busy,
         DeviceFault::Mounted,
         DeviceFault::NoNamespace,

@@ -12,7 +12,7 @@
 #include <sys/stat.h>
 #include <sys/sysmacros.h>
 
-enum { CHARACTER = 1000, BLOCK = 1001, PIECES = 127, LARGE_PAGE = 2 << 20, DO_NOT_RETRY = 0x4000 };
+enum { CHARACTER = 1000, BLOCK = 1001, LOOKED_AT = 1002, PIECES = 127, LARGE_PAGE = 2 << 20, DO_NOT_RETRY = 0x4000 };
 
 struct world world;
 
@@ -22,6 +22,7 @@ void begin_world(const struct shape *shape) {
         .mode = S_IFCHR | 0600,
         .identifier = NAMESPACE,
         .link = "../../devices/pci0000:00/0000:00:03.0/nvme/nvme0/ng0n1",
+        .subsystem = "../../../../../../class/nvme-generic",
         .most_bytes = (size_t)shape->transfer * shape->block,
         .large_pages = true,
     };
@@ -39,32 +40,42 @@ static int answer(int error, int value) {
 
 int __wrap_stat(const char *path, struct stat *found) {
     memset(found, 0, sizeof *found);
-    found->st_mode = world.mode;
-    if (strcmp(path, "/sys/class/block/nvme0n1/dev") == 0) return answer(world.block_stat_error, 0);
-    assert(strcmp(path, "/dev/ng0n1") == 0);
-    return answer(world.stat_error, 0);
+    assert(strcmp(path, "/sys/class/block/nvme0n1/dev") == 0);
+    return answer(world.block_stat_error, 0);
 }
 
 int __wrap_fstat(int file, struct stat *found) {
-    assert(file == CHARACTER);
+    assert(file == CHARACTER || file == LOOKED_AT);
     memset(found, 0, sizeof *found);
     found->st_mode = world.mode;
     found->st_rdev = makedev(245, 0);
     return 0;
 }
 
-int __wrap_open(const char *path, int flags) {
-    bool is_block = strcmp(path, "/dev/nvme0n1") == 0;
-    assert(is_block || strcmp(path, "/dev/ng0n1") == 0);
-    assert((flags & O_CLOEXEC) != 0 && (flags & O_ACCMODE) == (is_block ? O_RDONLY : O_RDWR));
-    assert(!is_block || (flags & O_EXCL) != 0);
-    int error = is_block ? world.block_open_error : world.open_error;
+// Opens a file, unless there is an error.
+static int open_file(int error, int file) {
     if (error == 0) world.open_files++;
-    return answer(error, is_block ? BLOCK : CHARACTER);
+    return answer(error, file);
+}
+
+// The path is only looked at. Then the file that was looked at is opened.
+int __wrap_open(const char *path, int flags) {
+    assert((flags & O_CLOEXEC) != 0);
+    if (strcmp(path, "/dev/ng0n1") == 0) {
+        assert((flags & O_PATH) != 0);
+        return open_file(world.look_error, LOOKED_AT);
+    }
+    if (strcmp(path, "/dev/nvme0n1") == 0) {
+        assert((flags & O_ACCMODE) == O_RDONLY && (flags & O_EXCL) != 0);
+        return open_file(world.block_open_error, BLOCK);
+    }
+    assert(strcmp(path, "/proc/self/fd/1002") == 0 && (flags & O_ACCMODE) == O_RDWR);
+    world.opened++;
+    return open_file(world.open_error, CHARACTER);
 }
 
 int __wrap_close(int file) {
-    assert(file == CHARACTER || file == BLOCK);
+    assert(file == CHARACTER || file == BLOCK || file == LOOKED_AT);
     world.open_files--;
     return 0;
 }
@@ -74,12 +85,17 @@ int __wrap_flock(int file, int operation) {
     return answer(world.lock_error, 0);
 }
 
+// Gives what a link names.
+static ssize_t name_link(const char *named, char *target, size_t length, int error) {
+    assert(strlen(named) <= length);
+    memcpy(target, named, strlen(named));
+    return answer(error, (int)strlen(named));
+}
+
 ssize_t __wrap_readlink(const char *path, char *target, size_t length) {
+    if (strcmp(path, "/sys/dev/char/245:0/subsystem") == 0) return name_link(world.subsystem, target, length, 0);
     assert(strcmp(path, "/sys/dev/char/245:0") == 0);
-    size_t named = strlen(world.link);
-    assert(named <= length);
-    memcpy(target, world.link, named);
-    return answer(world.link_error, (int)named);
+    return name_link(world.link, target, length, world.link_error);
 }
 
 // How many pieces of memory Linux would make of a buffer.

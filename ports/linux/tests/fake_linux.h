@@ -10,11 +10,13 @@
 // An error is the number of one, or 0 where the call succeeds.
 struct world {
     struct drive drive;
-    int stat_error, open_error, identify_error, lock_error, link_error, block_stat_error, block_open_error;
+    int look_error, open_error, identify_error, lock_error, link_error, block_stat_error, block_open_error;
     mode_t mode;            // what is at the path
     int identifier;         // what the character device answers
     const char *link;       // what the system calls the character device
+    const char *subsystem;  // what the system says that it belongs to
     int command_error;      // of each command
+    unsigned opened;        // how often the character device was opened
     int open_files;         // how many files are open
     unsigned commands;      // how many commands the drive has got
     size_t most_bytes;      // Linux refuses greater commands

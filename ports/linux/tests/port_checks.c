@@ -38,7 +38,7 @@ static void refused(enum refusal wanted, uint64_t error, const char *what) {
 
 static void try_refusals(void) {
     begin_world(&shape);
-    world.stat_error = ENOENT;
+    world.look_error = ENOENT;
     refused(NOT_FOUND, ENOENT, "nothing is there");
     world.mode = S_IFREG;
     refused(NO_CHARACTER_DEVICE, 0, "a file");
@@ -64,6 +64,20 @@ static void try_refusals(void) {
     refused(BLOCK_DEVICE_IN_USE, EBUSY, "a mounted block device");
     world.block_open_error = ENOENT;
     refused(BLOCK_DEVICE_NOT_OPENED, ENOENT, "a block device without a name");
+    end_world();
+}
+
+// Opening a device of another kind may do something, as /dev/watchdog begins to count. It is never opened.
+static void try_other_kinds(void) {
+    static const char *const subsystems[] = {
+        "../../../class/watchdog", "../../../class/nvme", "nvme-generic", "../../../class/not-nvme-generic", ""};
+    uint64_t session, number;
+    begin_world(&shape);
+    for (size_t i = 0; i < sizeof subsystems / sizeof *subsystems; i++) {
+        world.subsystem = subsystems[i];
+        expect(open_it(&session, &number) == NO_NAMESPACE && number == 0, subsystems[i]);
+        expect(world.opened == 0 && world.open_files == 0, "a device of another kind is opened");
+    }
     end_world();
 }
 
@@ -105,6 +119,10 @@ static void try_admin(uint64_t session) {
     expect(world.admin.namespace_number == 0, "Identify Controller names no namespace");
     expect(zonedisk_admin(session, 0x06, 0, 0xff, 0, page, sizeof page, &result) == INVALID_FIELD && result == 0,
            "a refused Identify");
+    expect(zonedisk_admin(session, 0x09, 0, 6 | 1u << 31, 0, NULL, 0, &result) == DONE, "Set Features with Save");
+    expect(world.admin.dword10 == (6 | 1u << 31), "what Set Features with Save passes");
+    expect(zonedisk_admin(session, 0x0a, 0, 6 | 3 << 8, 0, NULL, 0, &result) == DONE, "Get Features of capabilities");
+    expect(world.admin.dword10 == (6 | 3 << 8), "what Get Features of capabilities passes");
     expect(zonedisk_admin(session, 0x09, 0, 6, 0, NULL, 0, &result) == DONE, "Set Features");
     expect(world.admin.opcode == 0x09 && world.admin.length == 0, "what Set Features passes");
     expect(zonedisk_admin(session, 0x0a, 0, 6, 0, NULL, 0, &result) == DONE && result == 3, "Get Features");
@@ -117,6 +135,10 @@ static void try_admin(uint64_t session) {
     expect(world.admin.opcode == 0, "one of them was sent");
     world.command_error = ENODEV;
     expect(zonedisk_admin(session, 0x06, 1, 0, 0, page, sizeof page, &result) == NOT_ANSWERED, "a removed drive");
+    world.command_error = EACCES;
+    expect(zonedisk_admin(session, 0x06, 1, 0, 0, page, sizeof page, &result) == NOT_PERMITTED, "no permission");
+    world.command_error = EPERM;
+    expect(zonedisk_admin(session, 0x09, 0, 6, 0, NULL, 0, &result) == NOT_PERMITTED, "no permission to set a feature");
     world.command_error = 0;
 }
 
@@ -255,11 +277,9 @@ static void try_errors(uint64_t session, uint64_t moment) {
         expect(zonedisk_submit(session, &moment, entry, room, BLOCK, 0, NULL, 0, &value) == NOT_ANSWERED,
                "an error of the system");
         expect(value == 0 && moment == i + 1, "what is left after an error of the system");
-        expect(!zonedisk_flush(session), "a Flush that was not answered");
     }
     world.command_error = 0;
     expect(zonedisk_submit(session, &moment, entry, room, BLOCK, 0, NULL, 0, &value) == DONE, "after an error");
-    expect(zonedisk_flush(session), "a Flush");
 }
 
 // Whether something ends the process by SIGABRT.
@@ -285,7 +305,11 @@ static void submit_at(uint64_t session, uint64_t moment) {
 static void submit_in_past(uint64_t session) { submit_at(session, 0); }
 static void submit_in_future(uint64_t session) { submit_at(session, 100); }
 static void submit_at_none(uint64_t session) { submit_at(session, UINT64_MAX); }
-static void flush_no_session(uint64_t session) { zonedisk_flush(session + 100); }
+static void raw_no_session(uint64_t session) {
+    static const uint8_t flush[64];
+    uint64_t value;
+    zonedisk_raw(session + 100, flush, NULL, 0, NULL, 0, &value);
+}
 
 static void submit_after_raw(uint64_t session) {
     static const uint8_t flush[64];
@@ -300,7 +324,7 @@ static void try_moments(uint64_t session) {
     expect(aborts(submit_in_past, session), "a submit in the past");
     expect(aborts(submit_in_future, session), "a submit in the future");
     expect(aborts(submit_at_none, session), "a submit at no moment");
-    expect(aborts(flush_no_session, session), "a session that is not there");
+    expect(aborts(raw_no_session, session), "a session that is not there");
     expect(aborts(submit_after_raw, session), "a submit after a raw command");
     expect(!aborts(submit_now, session), "a submit at the present moment");
 }
@@ -317,6 +341,7 @@ static void try_many_sessions(void) {
 int main(void) {
     try_paths();
     try_refusals();
+    try_other_kinds();
     try_without_block_device();
     uint64_t session = new_session();
     expect(aborts(submit_at_none, session), "a submit before the beginning");

@@ -20,4 +20,4 @@ returns-clause-ready g c =
     let waits = c.in-Some.ensures _ c.requires.ready.leads.lawful.count c.requires.ready.are in
     rw (c.set_zone.ensures, c.from.ensures) (ready-append _ _ _ _ _ c.args.seen.now c.args.zslba c.args.blocks _ c.args.bytes.now _ _ c.requires.ready waits.0
     (believed-append _ _ _ _ _ _ _ _ _ _ c.requires.ready.leads.shape_is c.submit-status.ensures.answers done same waits.1)
-    c.submit-status.ensures.shape c.submit-status.ensures.lawful (rw (c.zone_at.ensures, c.from.ensures) at c.appended-zone.ensures))
+    c.submit-status.ensures.shape c.submit-status.ensures.lawful (rw (c.zone_at.ensures, c.from.ensures) at c.appended-zone.ensures.seen))

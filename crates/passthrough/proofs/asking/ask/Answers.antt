@@ -1,17 +1,10 @@
-use Rattle.std.proofs.Common.{rules, ◌≡◌, true, false, refl, inl}
-use Rattle.drive_port.proofs.CallLaws.{adds-nothing}
+use Rattle.std.proofs.Common.{rules, ◌≡◌, false, refl, inl}
 use Rattle.drive_port.proofs.ClosingLaws.{IsClosing-refl}
-use Rattle.passthrough.proofs.AskLaws.{asked-bare, sent-err, sent-ok}
-use Rattle.passthrough.proofs.ReadyLaws.{effect-bare, ready-closing}
+use Rattle.passthrough.proofs.AskLaws.{asked-bare, flushed-ok, sent-err, sent-ok}
 use Rattle.passthrough.proofs.asking.ask.Goals as goal
 
-pub returns-then-flush-clause-ok : goal.returns-then-flush-clause-ok
-returns-then-flush-clause-ok g c =
-    let done : c.flush.result ≡ true = search rules in
-    rw c.in-Flush.is (adds-nothing _ _ (effect-bare _ _ _ _ c.args.bytes.now _ _ _ refl (c.flush.ensures.done done)))
-
-pub returns-then-flush-clause-ready : goal.returns-then-flush-clause-ready
-returns-then-flush-clause-ready g c = λ going. ready-closing _ _ _ _ _ _ c.requires.ready c.flush.ensures.leads c.flush.ensures.closes
+pub returns-in-Flush-clause-ok : goal.returns-in-Flush-clause-ok
+returns-in-Flush-clause-ok g c = rw c.in-Flush.is (flushed-ok _ _ _ c.args.bytes.now _ _ c.flush.ensures.ok)
 
 pub returns-in-Read-clause-ok : goal.returns-in-Read-clause-ok
 returns-in-Read-clause-ok g c = rw c.in-Read.is (asked-bare _ _ _ _ c.args.bytes.now _ _ _ refl c.read.ensures.ok)

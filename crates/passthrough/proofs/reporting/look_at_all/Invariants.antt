@@ -1,4 +1,4 @@
-use Rattle.std.proofs.Common.{◌≤◌, ◌-◌}
+use Rattle.std.proofs.Common.{◌≡◌, true, ◌≤◌, ◌-◌}
 use Rattle.drive_port.specs.Drive.{IsClosing}
 use Rattle.passthrough.specs.Asking.{IsReady}
 use Rattle.passthrough.specs.Showing.{WereSeen}
@@ -10,6 +10,7 @@ invariant-loop-first g l =
     × WereSeen 0 l.first l.geometry (g.P.Passthrough.zones l.fn.way) l.fn.seen l.seen (g.P.Passthrough.zones l.way)
     × IsReady l.geometry (g.P.Passthrough.shape l.way) (g.P.Passthrough.zones l.way) l.seen
     × IsClosing (g.P.Passthrough.zones l.fn.way) (g.P.Passthrough.zones l.way)
+    × (g.P.Passthrough.flushed l.fn.way ≡ true → g.P.Passthrough.flushed l.way ≡ true)
 
 abbrev pub decreases-loop-first : goal.decreases-loop-first
 decreases-loop-first g l = l.geometry.zones - l.first

@@ -1,6 +1,7 @@
 // Passes single commands to Linux's NVMe driver.
 #define _GNU_SOURCE
 #include "parts.h"
+#include <errno.h>
 #include <linux/nvme_ioctl.h>
 #include <stdlib.h>
 #include <string.h>
@@ -175,7 +176,9 @@ uint16_t pass_admin(const struct namespace_devices *devices, uint8_t opcode, boo
         .cdw11 = dwords[1],
         .timeout_ms = TIME_LIMIT,
     };
-    uint16_t status = status_of(ioctl(devices->character, NVME_IOCTL_ADMIN64_CMD, &command));
+    int given = ioctl(devices->character, NVME_IOCTL_ADMIN64_CMD, &command);
+    if (given < 0 && (errno == EACCES || errno == EPERM)) return NOT_PERMITTED;
+    uint16_t status = status_of(given);
     if (status == 0) *result = (uint32_t)command.result;
     return status;
 }

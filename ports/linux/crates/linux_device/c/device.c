@@ -90,10 +90,6 @@ uint16_t zonedisk_raw(uint64_t session, const uint8_t entry[64], const uint8_t *
     return pass_command(&used->devices, used->block, &request, value);
 }
 
-bool zonedisk_flush(uint64_t session) {
-    static const uint8_t entry[64] = {0};
-    const struct request request = {.entry = entry};
-    const struct session *used = session_of(session);
-    uint64_t value;
-    return pass_command(&used->devices, used->block, &request, &value) == 0;
+void zonedisk_tell(const uint8_t *text, size_t length) {
+    fprintf(stderr, "zonedisk: %.*s\n", (int)length, (const char *)text);
 }

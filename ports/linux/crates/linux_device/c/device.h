@@ -12,12 +12,15 @@
 // The status where the drive has not answered. The command may have been done, or not, or it was never sent.
 #define NOT_ANSWERED 0xffff
 
+// The status of an admin command that the system does not let this program send. It was not sent.
+#define NOT_PERMITTED 0xfffe
+
 // Why a namespace was not opened. Beside it stands the number of the error that the system gave. It is 0 where the
 // system gave none: for OPENED, NO_CHARACTER_DEVICE, and a namespace without a number.
 enum refusal {
     OPENED = 0,
     BAD_PATH = 1,             // no bytes, too many, or a byte 0
-    NOT_FOUND = 2,            // nothing is there, or it cannot be looked at
+    NOT_FOUND = 2,            // nothing is there, or the path to it is closed to this program
     NO_CHARACTER_DEVICE = 3,  // a file, a folder, a block device
     NOT_OPENED = 4,           // it is there, and it cannot be opened
     NO_NAMESPACE = 5,         // a character device that is no NVMe namespace
@@ -65,5 +68,5 @@ uint16_t zonedisk_submit(uint64_t session, uint64_t *moment, const uint8_t entry
 uint16_t zonedisk_raw(uint64_t session, const uint8_t entry[64], const uint8_t *bytes, size_t length, uint8_t *room,
                       size_t room_length, uint64_t *value);
 
-// Lets the drive make durable what it has completed. Whether it said that it has.
-bool zonedisk_flush(uint64_t session);
+// Writes a line with this text to standard error.
+void zonedisk_tell(const uint8_t *text, size_t length);

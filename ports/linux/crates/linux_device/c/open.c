@@ -19,12 +19,25 @@ static enum refusal refuse(enum refusal refusal, uint64_t *number) {
     return refusal;
 }
 
-// Opens a character device that answers as a namespace. It is looked at before it is opened, since opening a device of
-// another kind may do something.
-static enum refusal open_character(const char *path, struct namespace_devices *devices, uint64_t *number) {
+// Whether the system says of a character device, by its number, that it is the generic one of an NVMe namespace.
+static bool is_generic(dev_t device) {
+    char link[64], target[PATH_MAX];
+    snprintf(link, sizeof link, "/sys/dev/char/%u:%u/subsystem", major(device), minor(device));
+    ssize_t length = readlink(link, target, sizeof target - 1);
+    if (length < 0) return false;
+    target[length] = 0;
+    const char *last = strrchr(target, '/');
+    return last != NULL && strcmp(last, "/nvme-generic") == 0;
+}
+
+// Opens the character device that was looked at, if it answers as a namespace.
+static enum refusal open_looked_at(int looked_at, struct namespace_devices *devices, uint64_t *number) {
+    char path[64];
     struct stat seen;
-    if (stat(path, &seen) != 0) return refuse(NOT_FOUND, number);
+    if (fstat(looked_at, &seen) != 0) return refuse(NOT_FOUND, number);
     if (!S_ISCHR(seen.st_mode)) return NO_CHARACTER_DEVICE;
+    if (!is_generic(seen.st_rdev)) return NO_NAMESPACE;
+    snprintf(path, sizeof path, "/proc/self/fd/%d", looked_at);
     devices->character = open(path, O_RDWR | O_CLOEXEC | O_NOCTTY);
     if (devices->character < 0) return refuse(NOT_OPENED, number);
     int identifier = ioctl(devices->character, NVME_IOCTL_ID);
@@ -32,6 +45,17 @@ static enum refusal open_character(const char *path, struct namespace_devices *d
     if (identifier == 0) return NO_NAMESPACE;
     devices->number = (uint32_t)identifier;
     return OPENED;
+}
+
+// Opens the character device at a path. Opening a device of another kind may do something, as /dev/watchdog begins to
+// count. So what is there is held first without opening the device (O_PATH), and looked at. Then just that is opened,
+// whatever stands at the path by then.
+static enum refusal open_character(const char *path, struct namespace_devices *devices, uint64_t *number) {
+    int looked_at = open(path, O_PATH | O_CLOEXEC);
+    if (looked_at < 0) return refuse(NOT_FOUND, number);
+    enum refusal refusal = open_looked_at(looked_at, devices, number);
+    close(looked_at);
+    return refusal;
 }
 
 // Takes the lock that other programs of this kind ask for too. It is given back when the process ends.
