@@ -87,6 +87,15 @@ fn put<D: Device>(alloc: Global, drive: &mut D, start: u64, byte: u8, blocks: us
     append(alloc, drive, start, &bytes).is_ok()
 }
 
+/// Appends one block of one byte to a zone, and answers its address.
+fn put_one<D: Device>(alloc: Global, drive: &mut D, start: u64, byte: u8) -> Option<u64> {
+    let bytes = Vec::from_elem(alloc, byte, 512).ok()?;
+    if drive.geometry().block != 512 {
+        return None;
+    }
+    append(alloc, drive, start, &bytes).ok()
+}
+
 fn flush<D: Device>(alloc: Global, drive: &mut D) -> Option<()> {
     let mut into = Vec::new(alloc);
     drive
@@ -320,7 +329,12 @@ fn survives_a_failed_sync(
     let (flushed, last) = steps;
     let mut drive = opened(alloc, formatted(alloc, &GEOMETRY)?, Before)?;
     let wanted = done(alloc, &mut drive)?;
-    let mut file = failing(alloc, syncs, if syncs == 0 { 0 } else { last + 1 })?;
+    let answered = if syncs == 0 {
+        0
+    } else {
+        last.saturating_add(1)
+    };
+    let mut file = failing(alloc, syncs, answered)?;
     let bytes = torn(alloc, &bytes_after(alloc, flushed)?, file.bytes(), which)?;
     if file.open_again(&bytes) != Ok(true) {
         return None;
@@ -367,11 +381,7 @@ fn is_found_in_its_file(alloc: Global) -> Option<bool> {
     let mut found = opened(alloc, file, Before)?;
     let same = shown(alloc, &mut found)? == shown(alloc, &mut drive)?;
     let refuses = !put(alloc, &mut found, 16, 5, 1) && !put(alloc, &mut found, 8, 5, 1);
-    let bytes = Vec::from_elem(alloc, 6, 512).ok()?;
-    if found.geometry().block != 512 {
-        return None;
-    }
-    Some(same && refuses && append(alloc, &mut found, 0, &bytes) == Ok(2))
+    Some(same && refuses && put_one(alloc, &mut found, 0, 6) == Some(2))
 }
 
 #[test]

@@ -191,14 +191,14 @@ fn a_finish_and_a_reset_are_looked_at(rt: HostRuntime) {
 fn a_flush_looks_at_what_may_be_written(rt: HostRuntime) {
     let alloc = rt.alloc();
     let mut device = watched(alloc).expect(&rt, "a device");
-    let mut reports = 0;
+    let mut reports: u32 = 0;
     for (number, looks) in [(FLUSH, 1), (FLUSH, 1), (FINISH, 1), (FLUSH, 1), (FLUSH, 0)] {
         assert!(rt; does(alloc, &mut device, number));
-        reports += looks;
+        reports = reports.saturating_add(looks);
         assert_eq!(rt; device.way().way().reports(), reports);
     }
     assert_eq!(rt; device.way().way().flushes(), 4);
-    assert_eq!(rt; device.way().way().sent(), 5 + reports);
+    assert_eq!(rt; device.way().way().sent(), reports.saturating_add(5));
 }
 
 /// Zones at both ends are looked at by one report, since one transfer holds them all.
@@ -218,7 +218,7 @@ fn one_report_shows_all_that_was_changed(rt: HostRuntime) {
 fn a_reset_waits_for_a_flush(rt: HostRuntime) {
     let alloc = rt.alloc();
     let mut device = watched(alloc).expect(&rt, "a device");
-    let mut flushes = 0;
+    let mut flushes: u32 = 0;
     for (number, sent) in [
         (RESET, 1),
         (RESET, 0),
@@ -232,7 +232,7 @@ fn a_reset_waits_for_a_flush(rt: HostRuntime) {
         (RESET, 0),
     ] {
         assert!(rt; does(alloc, &mut device, number), "{number}");
-        flushes += sent;
+        flushes = flushes.saturating_add(sent);
         assert_eq!(rt; device.way().way().flushes(), flushes, "{number}");
     }
 }
