@@ -55,7 +55,7 @@ mod stop;
 pub use calls::{
     PortFault, append, close, count_zones, finish, flush, read, read_extending, report, reset,
 };
-pub use device::{Device, Halt};
+pub use device::{Device, Halt, Honest};
 pub use laws::{
     closing_keeps_contents, closing_takes_no_resource, closings_join, restart_keeps_contents,
 };

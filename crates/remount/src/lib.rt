@@ -59,6 +59,7 @@ mod empty;
 mod finish;
 mod mounting;
 mod plan;
+mod refused;
 mod repair;
 mod tables;
 

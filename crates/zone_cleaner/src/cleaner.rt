@@ -1,4 +1,4 @@
-ghost use Rattle.std.specs.Prelude.{◌≡◌, ◌≤◌, ◌<◌, ◌+◌, ◌^◌, None, Some, is_some, length};
+ghost use Rattle.std.specs.Prelude.{◌≡◌, ◌≤◌, ◌<◌, ◌+◌, ◌^◌, None, Some, IsTrue, is_some, length};
 ghost use Rattle.std.specs.List.{AllByRecursion};
 ghost use Rattle.std.specs.Option.{option_map};
 ghost use Rattle.zone_choice.specs.Builder.{IsBuilt};
@@ -107,6 +107,7 @@ impl Cleaner {
         // Refused, the clean is the same, and nothing was appended, unless the drive stopped.
         ensures leaves { HostLeaves disk.old self.old host.zone (built_for disk.old batch.now)
             result disk.new self.new }
+        ensures trusted { IsTrue disk.new.drive.clean → IsTrue disk.old.drive.clean }
         // It completes two commands at most.
         ensures completed { disk.new.drive.completed ≤ disk.old.drive.completed + 2 }
     {

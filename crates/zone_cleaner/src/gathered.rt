@@ -9,7 +9,7 @@ ghost use Rattle.zone_cleaner.specs.Answering.{GatherAnswers};
 ghost use Rattle.zone_cleaner.specs.Gathered.{AreOfLength, AreWithin, stored_bytes, data_bytes, entries_for, entry_for};
 ghost use Rattle.zone_cleaner.specs.Moving.{HoldsMove, headed_bytes, heading_for, move_with};
 ghost use Rattle.zone_cleaner.specs.LiveRecords.{gathered_data, trim_record, without_all, without_block};
-ghost use Rattle.zone_cleaner.specs.Reading.{CanGather, IsGatherFault, IsStoredAt, OnlyReads, data_record, live_record};
+ghost use Rattle.zone_cleaner.specs.Reading.{CanGather, IsGatherFault, IsStoredAt, OnlyReads, Fetched, GathersData};
 ghost use Rattle.zone_cleaner.specs.Turns.{clean_fault};
 
 use crate::fault::CleanFault;
@@ -90,10 +90,7 @@ fn fetch<D: Device>(
     ensures reads { OnlyReads disk.old disk.new }
     ensures heading { batch.new.heading ≡ batch.old.heading }
     // Done, the block's bytes follow the bytes that the batch had.
-    ensures ok { OnOk result
-        (batch.new.bytes ≡ batch.old.bytes ++ slice_index_or (mounted_array disk.old) block []) }
-    ensures length { OnOk result
-        (length batch.new.bytes ≡ length batch.old.bytes + disk.old.drive.geometry.block) }
+    ensures ok { OnOk result (Fetched disk.old disk.new block batch.old.bytes batch.new.bytes) }
     // Refused, the bytes are the same. It is out of memory, or the drive has stopped.
     ensures failed { OnErr result (batch.new.bytes ≡ batch.old.bytes) }
     ensures err { IfErr result (IsGatherFault disk.new.drive) }
@@ -162,7 +159,7 @@ impl Gathered {
         ensures reads { OnlyReads disk.old disk.new }
         // Done, the record is the last one. Refused, the records are the same, and the fault has its cause.
         ensures ok { OnOk result
-            (self.new.records ≡ self.old.records ++ data_record disk.old block ∷ []) }
+            (GathersData disk.old disk.new block self.old.records self.new.records) }
         ensures failed { OnErr result (self.new.records ≡ self.old.records) }
         ensures err { IfErr result (IsGatherFault disk.new.drive) }
     {
@@ -185,7 +182,7 @@ impl Gathered {
         place: Place,
     ) -> Result<(), CleanFault>
         requires { CanGather disk.old block place self.old.records }
-        ensures { GatherAnswers disk.old self.old.records (live_record disk.old block place) result
+        ensures { GatherAnswers disk.old self.old.records block place result
             disk.new self.new.records }
     {
         if let Place::At(address) = place {
