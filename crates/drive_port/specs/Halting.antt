@@ -48,6 +48,7 @@ pub record Stops (old : DriveState) (command : Result Command DecodeFault) (byte
   pub stopped : new.stopped ≡ true
   pub geometry : new.geometry ≡ old.geometry
   pub trusted : IsTrue new.clean → IsTrue old.clean
+  pub fair : IsTrue old.clean → IsTrue new.clean
   pub counts : SameCounts old new
   pub left : LeftBy old.geometry old.zones command bytes new.zones
   pub hardens : MayHarden command old new

@@ -57,7 +57,8 @@ pub use calls::{
 };
 pub use device::{Device, Halt, Honest};
 pub use laws::{
-    closing_keeps_contents, closing_takes_no_resource, closings_join, restart_keeps_contents,
+    closing_keeps_contents, closing_takes_no_resource, closings_join, read_strictly,
+    restart_keeps_contents,
 };
 pub use recorder::Recorder;
 pub use stop::StopAfter;

@@ -85,6 +85,7 @@ completes old middle closing new entry bytes returned completion reply gives set
         told = λ clean. refl;
         length_is = refl;
         trusted = λ clean. rw (ap (λ (d : DriveState). d.clean) others) at (rw (ap (λ (d : DriveState). d.clean) ends) at clean);
+        fair = λ clean same. rw (ap (λ (d : DriveState). d.clean) ends, ap (λ (d : DriveState). d.clean) others) clean;
         effect = record {
           middle = chosen old.habit geometry zones command bytes;
           before = closes-chosen (wants_open_resource (outcome geometry zones command bytes).status && makes_room old.habit) zones;
@@ -116,6 +117,7 @@ halts-noted old new command bytes Stopped going same stops hardens =
       stopped = ap (λ (d : DriveState). d.stopped) is;
       geometry = ap (λ (d : DriveState). d.geometry) is;
       trusted = λ clean. rw (ap (λ (d : DriveState). d.clean) is) at clean;
+      fair = λ clean. rw (ap (λ (d : DriveState). d.clean) is) clean;
       counts = record {
         completed = ap (λ (d : DriveState). d.completed) is;
         refused = ap (λ (d : DriveState). d.refused) is;
