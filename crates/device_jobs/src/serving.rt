@@ -8,7 +8,7 @@ ghost use Rattle.nbd_jobs.specs.Serving.{ServesStopping, TellsSession};
 ghost use Rattle.device_jobs.specs.Durable.{ServesAndFlushes};
 
 use crate::hardening::flush_if;
-use drive_port::{Device, PortFault};
+use drive_port::{Device, Honest, PortFault};
 use job_drives::KeepFault;
 use nbd_jobs::{
     BUFFER, Ended, Kept, NbdFault, NbdJob, SessionTold, are_sent, sent_end, serve_stopping,
@@ -28,7 +28,7 @@ pub struct Served {
 
 /// Mounts the drive behind a device, and serves it to a client, read only if the job says so. Each sync is one of the
 /// medium.
-pub fn serve_device<D: Device + Drop, M: Medium + Drop, R: Client, W: Write>(
+pub fn serve_device<D: Device + Honest + Drop, M: Medium + Drop, R: Client, W: Write>(
     alloc: Global,
     job: &NbdJob,
     device: D,
@@ -64,7 +64,7 @@ pub struct Flushed<D: Device + Drop, M: Medium + Drop> {
 }
 
 /// The same, and flushes the drive at the end where a sync of its medium is that, also after a fault.
-pub fn serve_flushed<D: Device + Drop, M: Medium + Drop, R: Client, W: Write>(
+pub fn serve_flushed<D: Device + Honest + Drop, M: Medium + Drop, R: Client, W: Write>(
     alloc: Global,
     job: &NbdJob,
     device: D,
@@ -91,7 +91,7 @@ pub fn serve_flushed<D: Device + Drop, M: Medium + Drop, R: Client, W: Write>(
 }
 
 /// The same for a client that sends to `input` and gets what `output` takes, both through buffers.
-pub fn serve_client<D: Device + Drop, M: Medium + Drop, R: Read + Drop, W: Write>(
+pub fn serve_client<D: Device + Honest + Drop, M: Medium + Drop, R: Read + Drop, W: Write>(
     alloc: Global,
     job: &NbdJob,
     device: D,

@@ -35,13 +35,13 @@ pub fn restart_keeps_contents()
 {}
 
 /// What a Read of an honest device returns is what the device holds, with no condition.
-pub fn read_strictly<D: Honest>(
+pub fn read_strictly<D: Device + Honest>(
     device: &mut D,
     slba: u64,
     into: &mut Vec<u8>,
 ) -> Result<(), PortFault>
-    ensures { OnOk result (into.new.items ≡ into.old.items ++ bytes_at (D.Device.drive device.old).geometry
-        (contents (D.Device.drive device.old).zones) slba 1) }
+    ensures { OnOk result (into.new.items ≡ into.old.items ++ bytes_at (D.drive device.old).geometry
+        (contents (D.drive device.old).zones) slba 1) }
 {
     let result = read_extending(device, slba, 1, into);
     device.vouch();

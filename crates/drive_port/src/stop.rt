@@ -237,7 +237,7 @@ impl<D: Device + Drop> Device for StopAfter<D> {
     }
 }
 
-impl<D: Honest + Drop> Honest for StopAfter<D> {
+impl<D: Device + Honest + Drop> Honest for StopAfter<D> {
     fn vouch(&self) {
         self.device.vouch();
     }

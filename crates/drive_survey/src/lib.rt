@@ -46,6 +46,7 @@
 mod clearing;
 mod fault;
 mod heads;
+pub mod honest;
 mod records;
 mod reported;
 mod scan;

@@ -57,6 +57,7 @@
 
 mod empty;
 mod finish;
+pub mod honest;
 mod mounting;
 mod plan;
 mod refused;

@@ -1,5 +1,4 @@
 -- A batch of the host keeps what holds between two turns, whether a clean runs or not; and the drive can be mounted after a stop inside it.
-use Rattle.std.specs.Prelude.{IsTrue}
 use Rattle.std.proofs.Common.{◌≡◌, ◌≢◌, ℕ, ◌+◌, ◌<◌, ◌≤◌, Bool, true, false, cond, eqb, ltb, [], ◌∷◌, ◌++◌, length, Option, Some, None, Ok, Err, refl, sym, inl, inr, arith}
 use Rattle.drive_port.specs.declared.device.Halt.{Halt}
 use Rattle.drive_port.specs.declared.device.Halt.TheVariants as halt
@@ -27,7 +26,7 @@ use Rattle.zone_cleaner.specs.Host.{HostLeaves}
 use Rattle.zone_cleaner.specs.Start.{AgreesWithClean}
 use Rattle.zone_cleaner.proofs.CloseLaws.{memory-closes}
 use Rattle.zone_cleaner.proofs.CleanLaws.{turns_kept}
-use Rattle.zone_cleaner.proofs.HistoryLaws.{moves-beside, moves_have_spare, spare-beside}
+use Rattle.zone_cleaner.proofs.HistoryLaws.{moves-beside, moves_have_spare}
 use Rattle.zone_cleaner.proofs.HostLaws.{host_gives, next-batch}
 use Rattle.zone_cleaner.proofs.SealedLaws.{sealed-apart, second-filling, zone-logs}
 use Rattle.zone_cleaner.proofs.NextLaws.{cleaned_kept}
@@ -68,26 +67,26 @@ host-apart host second h f differ host-is second-is = let here = rw (host-is, se
 
 -- ---- a batch of the host
 
-host_cleaned : (before after : MountedView) (clean : Option CleanView) (host : Filling) (b : Batch) → AgreesWithClean before clean → before.tables.roles.host ≡ Some host → CanPlace before host.zone b → Places before after host.zone b → (IsTrue after.drive.clean → IsTrue before.drive.clean) → AgreesWithClean after (option_map (forgotten b.heading.entries) clean)
-host_cleaned before after None host b is host-is can done trusted =
+host_cleaned : (before after : MountedView) (clean : Option CleanView) (host : Filling) (b : Batch) → AgreesWithClean before clean → before.tables.roles.host ≡ Some host → CanPlace before host.zone b → Places before after host.zone b → AgreesWithClean after (option_map (forgotten b.heading.entries) clean)
+host_cleaned before after None host b is host-is can done =
     (done.agrees, (rw (done.roles, alone-empty before.drive.geometry before.tables.roles host.zone) is.1.0, rw (done.roles, done.geometry) (alone-beside before.drive.geometry before.tables.roles host (batch_size b) (rw host-is at is.0.roles.apart.differ) is.1.1)))
-host_cleaned before after (Some c) host b is host-is can done trusted =
+host_cleaned before after (Some c) host b is host-is can done =
     let apart = host-apart before.tables.roles.host before.tables.roles.second host is.1.destination is.0.roles.apart.differ host-is is.1.second in
-    (done.agrees, (host_gives before after c host.zone b is.1 can apart done trusted).clean)
+    (done.agrees, (host_gives before after c host.zone b is.1 can apart done).clean)
 
 -- as many turns are left as before, or fewer
-host_turns : (before after : MountedView) (clean : Option CleanView) (host : Filling) (b : Batch) → AgreesWithClean before clean → before.tables.roles.host ≡ Some host → CanPlace before host.zone b → Places before after host.zone b → (IsTrue after.drive.clean → IsTrue before.drive.clean)
+host_turns : (before after : MountedView) (clean : Option CleanView) (host : Filling) (b : Batch) → AgreesWithClean before clean → before.tables.roles.host ≡ Some host → CanPlace before host.zone b → Places before after host.zone b
     → turns_left (batch_most before.drive.geometry) after.tables (option_map (forgotten b.heading.entries) clean) ≤ turns_left (batch_most before.drive.geometry) before.tables clean
-host_turns before after None host b is host-is can done trusted = omega arith
-host_turns before after (Some c) host b is host-is can done trusted =
+host_turns before after None host b is host-is can done = omega arith
+host_turns before after (Some c) host b is host-is can done =
     let apart = host-apart before.tables.roles.host before.tables.roles.second host is.1.destination is.0.roles.apart.differ host-is is.1.second in
-    (host_gives before after c host.zone b is.1 can apart done trusted).turns
+    (host_gives before after c host.zone b is.1 can apart done).turns
 
 -- ---- a stop inside its Append
 
-spare-after : (before : MountedView) (clean : Option CleanView) (host : Filling) (b : Batch) → AgreesWithClean before clean → before.tables.roles.host ≡ Some host → CanPlace before host.zone b → IsTrue before.drive.clean → HasSpare before.drive.geometry.block before.tables.given (append_log (drive_logs before.drive) host.zone b)
-spare-after before None host b is host-is can clean = empty-spare_after before.drive before.tables host.zone b is.0 is.1.0 can.filling
-spare-after before (Some c) host b is host-is can clean =
+spare-beside : (before : MountedView) (clean : Option CleanView) (host : Filling) (b : Batch) → AgreesWithClean before clean → before.tables.roles.host ≡ Some host → CanPlace before host.zone b → HasSpare before.drive.geometry.block before.tables.given (append_log (drive_logs before.drive) host.zone b)
+spare-beside before None host b is host-is can = empty-spare_after before.drive before.tables host.zone b is.0 is.1.0 can.filling
+spare-beside before (Some c) host b is host-is can =
     let f = is.1.destination in
     let logs = drive_logs before.drive in
     let filling = second-filling before.tables.roles (Destination f) is.1.second in
@@ -95,17 +94,16 @@ spare-after before (Some c) host b is host-is can clean =
     let lt : host.zone < length logs = omega (arith, filling-in_range before.drive before.tables host.zone can.agrees can.filling, zone-logs before.drive) in
     let below : f.zone < length logs = omega (arith, filling-in_range before.drive before.tables f.zone is.0 filling, zone-logs before.drive) in
     let away : host.zone ≢ c.victim = λ same. sealed-apart before.tables.roles c.victim host.zone is.1.victim can.filling (sym same) in
-    let moves = moves-beside host.zone c.victim f.zone logs b away ne is.1.moves in
-    let nothing = spare-beside before.drive.geometry.block (before.tables.next + 1) before.tables.given host.zone f.zone _ logs b lt ne
-    (sound-weaker before.tables.next (before.tables.next + 1) before.tables.given logs (omega arith) can.agrees.sound) (next-batch before host.zone b can) (is.1.spare clean) in
+    let moves = moves-beside before.drive.geometry.block (before.tables.next + 1) before.tables.given host.zone c.victim f.zone _ logs b lt away ne
+    (sound-weaker before.tables.next (before.tables.next + 1) before.tables.given logs (omega arith) can.agrees.sound) (next-batch before host.zone b can) is.1.moves in
     moves_have_spare before.drive.geometry.block before.tables.given c.victim f.zone (append_log logs host.zone b) (sealed-apart before.tables.roles c.victim f.zone is.1.victim filling)
-    (omega (arith, below, length-set logs host.zone (log_at logs host.zone ++ b ∷ []))) moves nothing
+    (omega (arith, below, length-set logs host.zone (log_at logs host.zone ++ b ∷ []))) moves
 
-host_stops : (before after : MountedView) (clean : Option CleanView) (host : Filling) (b : Batch) → AgreesWithClean before clean → before.tables.roles.host ≡ Some host → CanPlace before host.zone b → StopsInside before after host.zone b → (IsTrue after.drive.clean → IsTrue before.drive.clean) → IsTrue after.drive.clean → IsMountable after.drive after.tables.given
-host_stops before after clean host b is host-is can stops trusted flag =
+host_stops : (before after : MountedView) (clean : Option CleanView) (host : Filling) (b : Batch) → AgreesWithClean before clean → before.tables.roles.host ≡ Some host → CanPlace before host.zone b → StopsInside before after host.zone b → IsMountable after.drive after.tables.given
+host_stops before after clean host b is host-is can stops =
     let spare : HasSpare before.drive.geometry.block before.tables.given (drive_logs after.drive) = elim stops.left [
-      | inl same ↦ rw same.logs_are (cleans-spare before clean is (trusted flag))
-      | inr more ↦ rw more.logs_are (spare-after before clean host b is host-is can (trusted flag))
+      | inl same ↦ rw same.logs_are (cleans-spare before clean is)
+      | inr more ↦ rw more.logs_are (spare-beside before clean host b is host-is can)
     ] in
     rw (stops-tables before after host.zone b stops).given (stops.mountable spare)
 
@@ -117,16 +115,16 @@ kept_turns before after None most is kept = omega arith
 kept_turns before after (Some c) most is kept = omega (arith, turns_kept before after c most is.0 kept is.1)
 
 -- the blocks that the batch names are its entries'
-pub host-leaves : (before after : MountedView) (clean : Option CleanView) (host : Filling) (b : Batch) → AgreesWithClean before clean → before.tables.roles.host ≡ Some host → CanPlace before host.zone b → Places before after host.zone b → (IsTrue after.drive.clean → IsTrue before.drive.clean)
+pub host-leaves : (before after : MountedView) (clean : Option CleanView) (host : Filling) (b : Batch) → AgreesWithClean before clean → before.tables.roles.host ≡ Some host → CanPlace before host.zone b → Places before after host.zone b
     → HostLeaves before clean host.zone b (Ok tt) after (option_map (forgotten b.heading.entries) clean)
-host-leaves before after clean host b is host-is can done trusted = (done, refl, record { cleaned = host_cleaned before after clean host b is host-is can done trusted; turns = host_turns before after clean host b is host-is can done trusted })
+host-leaves before after clean host b is host-is can done = (done, refl, record { cleaned = host_cleaned before after clean host b is host-is can done; turns = host_turns before after clean host b is host-is can done })
 
 -- a batch of the host that was not appended
-pub host-halts : (before after : MountedView) (clean : Option CleanView) (host : Filling) (b : Batch) (fault : Halt) → AgreesWithClean before clean → before.tables.roles.host ≡ Some host → CanPlace before host.zone b → BatchLeaves before after host.zone b (Err fault) → (IsTrue after.drive.clean → IsTrue before.drive.clean) → HostLeaves before clean host.zone b (Err fault) after clean
-host-halts before after clean host b halt.Memory is host-is can leaves trusted =
+pub host-halts : (before after : MountedView) (clean : Option CleanView) (host : Filling) (b : Batch) (fault : Halt) → AgreesWithClean before clean → before.tables.roles.host ≡ Some host → CanPlace before host.zone b → BatchLeaves before after host.zone b (Err fault) → HostLeaves before clean host.zone b (Err fault) after clean
+host-halts before after clean host b halt.Memory is host-is can leaves =
     let kept = memory-keeps before after host.zone b is.0 leaves in
-    (kept, refl, record { cleaned = cleaned_kept before after clean is kept trusted; turns = kept_turns before after clean (batch_most before.drive.geometry) is kept }, memory-closes before after host.zone b leaves)
-host-halts before after clean host b halt.Stopped is host-is can leaves trusted = (leaves, refl, host_stops before after clean host b is host-is can leaves trusted)
+    (kept, refl, record { cleaned = cleaned_kept before after clean is kept; turns = kept_turns before after clean (batch_most before.drive.geometry) is kept }, memory-closes before after host.zone b leaves)
+host-halts before after clean host b halt.Stopped is host-is can leaves = (leaves, refl, host_stops before after clean host b is host-is can leaves)
 
 -- one Close at most comes before it
 pub few-closes : (disk : MountedView) (zone : ℕ) → closes_before disk zone ≤ 1

@@ -29,8 +29,9 @@ use Rattle.zone_choice.proofs.ChangeLaws.{large-block}
 use Rattle.zone_cleaner.specs.Clean.{CleanView, IsClean}
 use Rattle.zone_cleaner.specs.Gathered.{AreOfLength}
 use Rattle.zone_cleaner.specs.LiveRecords.{LiveRecord, live_content, gathered_data, gathered_entries, gathered_entry, gathered_move, records_in}
-use Rattle.zone_cleaner.proofs.CarryLaws.{data-entries, entries-below, fits-move, gathered-below, gathered-distinct}
-use Rattle.zone_cleaner.proofs.RecordLaws.{AreBetween}
+use Rattle.zone_cleaner.proofs.CarryLaws.{data-entries, entries-below, fits-move, gathered-below, gathered-distinct, gathered-say}
+use Rattle.zone_cleaner.proofs.CleanLaws.{clean_spare}
+use Rattle.zone_cleaner.proofs.RecordLaws.{AreBetween, SayTheArray}
 use Rattle.zone_cleaner.proofs.SealedLaws.{of-second, sealed-in_range, second-filling}
 use Rattle.zone_cleaner.proofs.StepLaws.{MoveDue}
 
@@ -60,9 +61,19 @@ length-data (r ∷ rs) = one (length-data rs) r.block r.content
 
 -- ---- the data are whole blocks
 
+gathered-whole : (array : List (List ℕ)) (size high : ℕ) (rs : List LiveRecord) → AreOfLength size array → high ≤ length array → AreBetween 0 high rs → SayTheArray array size rs → AreOfLength size (gathered_data rs)
+gathered-whole array size high [] whole le all says = tt
+gathered-whole array size high (r ∷ rs) whole le all says = one (gathered-whole array size high rs whole le all.1 says.1) r.block r.content all.0.1 says.0
+  where
+    one : AreOfLength size (gathered_data rs) → (block : ℕ) (content : Option (List ℕ)) → block < high → get_or array block [] ≡ shown_content size content → AreOfLength size (gathered_data (record { block = block; content = content } ∷ rs))
+    one rest block None lt same = rest
+    one rest block (Some bytes) lt same = (ap length (sym same) ∙ all-at (λ (b : List ℕ). length b ≡ size) array block [] whole (omega (arith, lt, le)), rest)
+
 -- the data that was gathered is whole blocks
 pub data-whole : (disk : MountedView) (c : CleanView) → Agrees disk → IsClean disk c → AreOfLength disk.drive.geometry.block (gathered_data c.gathered)
-data-whole disk c agrees is = is.gathers.whole
+data-whole disk c agrees is =
+    let whole = whole-encoded disk.drive disk.tables.given (agrees_mountable disk.drive disk.tables agrees (clean_spare disk c agrees is)) in
+    gathered-whole (mounted_array disk) disk.drive.geometry.block c.cursor c.gathered whole (omega (arith, is.gathers.within, length-encoded disk.drive disk.tables.given, size-encoded disk agrees)) (gathered-below disk c is) (gathered-say disk c agrees is)
 
 -- ---- the header
 
@@ -126,7 +137,7 @@ entries-all P (r ∷ rs) all = (one r.block r.content all.0, entries-all P rs al
 gathered-ready : (disk : MountedView) (c : CleanView) → IsClean disk c → ArePlacedReady disk.tables.map → AllByRecursion (λ (e : Entry). IsReady disk.tables.map e.block) (gathered_entries c.gathered)
 gathered-ready disk c is ready =
     let m = disk.tables.map in
-    entries-all (IsReady m) c.gathered (rw is.gathers.gathered (records-all (IsReady m) is.gathers.believed m.zone_size c.victim 0 (take c.cursor m.places) each))
+    entries-all (IsReady m) c.gathered (rw is.gathers.gathered (records-all (IsReady m) (mounted_array disk) m.zone_size c.victim 0 (take c.cursor m.places) each))
   where
     away : (size zone : ℕ) (p : Place) → lies_in size zone p ≡ true → p ≢ places.None
     away size zone places.None e = absurd (cc)

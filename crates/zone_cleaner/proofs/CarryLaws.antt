@@ -1,5 +1,5 @@
 -- What a Move of the gathered records leaves of a clean.
-use Rattle.std.proofs.Common.{◌≡◌, ℕ, ◌+◌, ◌*◌, ◌<◌, ◌≤◌, IsTrue, Bool, true, cond, List, [], ◌∷◌, map, length, get_or, take, drop, Option, Some, None, refl, sym, ap, ◌∙◌, arith}
+use Rattle.std.proofs.Common.{◌≡◌, ℕ, ◌+◌, ◌*◌, ◌<◌, ◌≤◌, Bool, true, cond, List, [], ◌∷◌, map, length, get_or, take, drop, Option, Some, None, refl, sym, ap, ◌∙◌, arith}
 use Rattle.std.specs.Prelude.{nat_eq}
 use Rattle.std.specs.List.{AllByRecursion, IsDistinct}
 use Rattle.std.proofs.lemmas.Bool.{eq-eqb}
@@ -30,7 +30,7 @@ use Rattle.zone_cleaner.specs.LiveRecords.{LiveRecord, gathered_entries, gathere
 use Rattle.zone_cleaner.proofs.BudgetLaws.{AfterMove, after-move}
 use Rattle.zone_cleaner.proofs.CleanLaws.{live-parts}
 use Rattle.zone_cleaner.proofs.MoveLaws.{PlacedAway, elsewhere, length-placed, move-same, placed-away, placed-rest, without-own}
-use Rattle.zone_cleaner.proofs.RecordLaws.{AreBetween, SayTheArray, ZerosUnlessData, between, distinct-blocks, length-records_in, live_in, live_in-split, records-none, say-the-array}
+use Rattle.zone_cleaner.proofs.RecordLaws.{AreBetween, SayTheArray, ZerosUnlessData, between, distinct-blocks, length-records_in, live_in, live_in-split, say-the-array}
 use Rattle.zone_cleaner.proofs.SealedLaws.{of-second, sealed-apart, second-filling}
 use Rattle.zone_cleaner.proofs.StepLaws.{MoveDue}
 
@@ -42,10 +42,10 @@ place-zeros drive array block (places.Trimmed address) h = h
 place-zeros drive array block (places.At address) h = tt
 
 -- the gathered records say what the array has
-pub gathered-say : (disk : MountedView) (c : CleanView) → Agrees disk → IsClean disk c → IsTrue disk.drive.clean → SayTheArray (mounted_array disk) disk.drive.geometry.block c.gathered
-gathered-say disk c agrees is clean =
+pub gathered-say : (disk : MountedView) (c : CleanView) → Agrees disk → IsClean disk c → SayTheArray (mounted_array disk) disk.drive.geometry.block c.gathered
+gathered-say disk c agrees is =
     let m = disk.tables.map in
-    rw (is.gathers.right clean) (say-the-array (mounted_array disk) disk.drive.geometry.block m.zone_size c.victim 0 (take c.cursor m.places) each)
+    rw is.gathers.gathered (say-the-array (mounted_array disk) disk.drive.geometry.block m.zone_size c.victim 0 (take c.cursor m.places) each)
   where
     each : (k : ℕ) → k < length (take c.cursor disk.tables.map.places) → ZerosUnlessData (mounted_array disk) disk.drive.geometry.block (0 + k) (get_or (take c.cursor disk.tables.map.places) k places.None)
     each k lt =
@@ -58,12 +58,12 @@ gathered-say disk c agrees is clean =
 -- ---- the array stays
 
 -- so their Move leaves the array
-pub told_same : (disk : MountedView) (c : CleanView) → Agrees disk → IsClean disk c → IsTrue disk.drive.clean → told_over disk.drive.geometry.block (gathered_move (size_of disk.tables) disk.tables.next c.victim c.gathered) (mounted_array disk) ≡ mounted_array disk
-told_same disk c agrees is clean =
+pub told_same : (disk : MountedView) (c : CleanView) → Agrees disk → IsClean disk c → told_over disk.drive.geometry.block (gathered_move (size_of disk.tables) disk.tables.next c.victim c.gathered) (mounted_array disk) ≡ mounted_array disk
+told_same disk c agrees is =
     let block = disk.drive.geometry.block in
     let array = mounted_array disk in
     let long : length array ≡ size_of disk.tables = length-encoded disk.drive disk.tables.given ∙ sym (size-encoded disk agrees) in
-    rw (extended-same (zero_block block) (size_of disk.tables) array long) (move-same array block disk.tables.next c.gathered (gathered-say disk c agrees is clean))
+    rw (extended-same (zero_block block) (size_of disk.tables) array long) (move-same array block disk.tables.next c.gathered (gathered-say disk c agrees is))
 
 -- ---- where the records are
 
@@ -86,13 +86,13 @@ named-blocks (r ∷ rs) = rw (one r.block r.content, named-blocks rs) refl
 
 -- which is where the clean has come to
 pub gathered-below : (disk : MountedView) (c : CleanView) → IsClean disk c → AreBetween 0 c.cursor c.gathered
-gathered-below disk c is = let m = disk.tables.map in rw is.gathers.gathered (between is.gathers.believed m.zone_size c.victim 0 c.cursor (take c.cursor m.places) (omega (arith, length-take c.cursor m.places)))
+gathered-below disk c is = let m = disk.tables.map in rw is.gathers.gathered (between (mounted_array disk) m.zone_size c.victim 0 c.cursor (take c.cursor m.places) (omega (arith, length-take c.cursor m.places)))
 
 -- each block once
 pub gathered-distinct : (disk : MountedView) (c : CleanView) → IsClean disk c → IsDistinct nat_eq (blocks_named (gathered_entries c.gathered))
 gathered-distinct disk c is =
     let m = disk.tables.map in
-    rw (named-blocks c.gathered, is.gathers.gathered) (distinct-blocks is.gathers.believed m.zone_size c.victim 0 (take c.cursor m.places))
+    rw (named-blocks c.gathered, is.gathers.gathered) (distinct-blocks (mounted_array disk) m.zone_size c.victim 0 (take c.cursor m.places))
 
 -- ---- the clean after it
 
@@ -123,7 +123,7 @@ fits-move disk c agrees is due =
 -- where the gathered blocks are
 pub record MovedPlaces (disk : MountedView) (c : CleanView) (destination : Filling) (new : List Place) : Type 0 where
   pub long : length new ≡ size_of disk.tables
-  pub taken : (array : List (List ℕ)) → records_in array disk.tables.map.zone_size c.victim 0 (take c.cursor new) ≡ []
+  pub taken : records_in (mounted_array disk) disk.tables.map.zone_size c.victim 0 (take c.cursor new) ≡ []
   pub rest : drop c.cursor new ≡ drop c.cursor disk.tables.map.places
   pub live_is : live_in disk.tables.map.zone_size c.victim new ≡ untaken disk.tables c
 
@@ -146,14 +146,14 @@ moved_places disk c new agrees is due new-is =
     let away = elsewhere m.zone_size c.victim f.zone f.written count (λ e. apart (sym e)) short in
     let end : f.zone * m.zone_size + (f.written + count) ≡ header + count = omega (arith, at) in
     let placed-is : new ≡ placed header (header + 1) es m.places = new-is ∙ ap (placed header (header + 1) es) (extended-same places.None (size_of disk.tables) m.places refl) in
-    let moved : PlacedAway is.gathers.believed m.zone_size c.victim c.cursor es m.places (placed header (header + 1) es m.places) =
-    placed-away is.gathers.believed m.zone_size c.victim c.cursor header (header + 1) (header + count) es m.places (gathered-distinct disk c is) (rw (← at, end) at away) (omega arith) (omega arith) (omega arith) in
-    let none : records_in is.gathers.believed m.zone_size c.victim 0 (take c.cursor new) ≡ [] =
+    let moved : PlacedAway (mounted_array disk) m.zone_size c.victim c.cursor es m.places (placed header (header + 1) es m.places) =
+    placed-away (mounted_array disk) m.zone_size c.victim c.cursor header (header + 1) (header + count) es m.places (gathered-distinct disk c is) (rw (← at, end) at away) (omega arith) (omega arith) (omega arith) in
+    let none : records_in (mounted_array disk) m.zone_size c.victim 0 (take c.cursor new) ≡ [] =
     rw placed-is (moved.taken ∙ ap (λ (rs : List LiveRecord). without_all es rs) (sym is.gathers.gathered) ∙ without-own c.gathered) in
     let rest : drop c.cursor new ≡ drop c.cursor m.places = rw placed-is (placed-rest c.cursor header (header + 1) es m.places (entries-below c.gathered 0 c.cursor (gathered-below disk c is))) in
     record {
       long = ap length placed-is ∙ length-placed header (header + 1) es m.places;
-      taken = λ array. records-none is.gathers.believed array m.zone_size c.victim 0 (take c.cursor new) none;
+      taken = none;
       rest = rest;
-      live_is = omega (arith, live_in-split m.zone_size c.victim c.cursor new, ap length none, length-records_in is.gathers.believed m.zone_size c.victim 0 (take c.cursor new), ap (live_in m.zone_size c.victim) rest);
+      live_is = omega (arith, live_in-split m.zone_size c.victim c.cursor new, ap length none, length-records_in (mounted_array disk) m.zone_size c.victim 0 (take c.cursor new), ap (live_in m.zone_size c.victim) rest);
     }

@@ -1,5 +1,4 @@
 -- After each step, by its answer.
-use Rattle.std.specs.Prelude.{IsTrue}
 use Rattle.std.proofs.Common.{◌≡◌, ◌⊎◌, ℕ, ◌*◌, ◌/◌, ◌<◌, List, [], ◌∷◌, ◌++◌, length, Some, Ok, Err, refl, sym, ap, subst, ◌∙◌, inl, inr, arith}
 use Rattle.std.specs.List.{concat}
 use Rattle.std.proofs.lemmas.List.{length-set}
@@ -38,7 +37,7 @@ use Rattle.zone_cleaner.specs.Turns.{EmptiesVictim, IsAtStep, MovesRecords, Only
 use Rattle.zone_cleaner.proofs.OnlyLaws.{only-more, only-same, only-without}
 use Rattle.zone_cleaner.proofs.CarryLaws.{told_same}
 use Rattle.zone_cleaner.proofs.CleanLaws.{clean_spare}
-use Rattle.zone_cleaner.proofs.HistoryLaws.{moves-more, moves_have_spare, spare-more}
+use Rattle.zone_cleaner.proofs.HistoryLaws.{moves-more, moves_have_spare}
 use Rattle.zone_cleaner.proofs.ResetLaws.{reset_gives}
 use Rattle.zone_cleaner.proofs.SealedLaws.{sealed-apart, sealed-holds, sealed-in_range, second-filling, zone-logs}
 use Rattle.zone_cleaner.proofs.StepLaws.{MoveDue, ResetDue, move-due}
@@ -55,15 +54,14 @@ logs-array : (drive : DriveState) (n : ℕ) (g : Geometry) (logs : List (List Ba
 unfolding encoded_array
 logs-array drive n g logs e same = rw (← e, ← same) refl
 
-carry_stops : (before after : MountedView) (c : CleanView) → Agrees before → (is : IsClean before c) → StopsInside before after is.destination.zone (gathered_move (size_of before.tables) before.tables.next c.victim c.gathered) → (IsTrue after.drive.clean → IsTrue before.drive.clean) → StopsClean before after
-carry_stops before after c agrees is stops trusted =
+carry_stops : (before after : MountedView) (c : CleanView) → Agrees before → (is : IsClean before c) → StopsInside before after is.destination.zone (gathered_move (size_of before.tables) before.tables.next c.victim c.gathered) → StopsClean before after
+carry_stops before after c agrees is stops =
     let kept = stops-tables before after is.destination.zone (gathered_move (size_of before.tables) before.tables.next c.victim c.gathered) stops in
     record {
       stopped = stops.stopped;
       moves = only;
-      trusted = trusted;
-      mountable = λ clean. rw kept.given (stops.mountable (spare clean));
-      array = λ clean. ap (encoded after.drive) kept.given ∙ array clean;
+      mountable = rw kept.given (stops.mountable spare);
+      array = ap (encoded after.drive) kept.given ∙ array;
       tables = stops-close before after is.destination.zone (gathered_move (size_of before.tables) before.tables.next c.victim c.gathered) stops;
       geometry = stops.geometry;
       refused = stops.refused;
@@ -86,20 +84,20 @@ carry_stops before after c agrees is stops trusted =
       | inr more ↦ only-more (drive_logs before.drive) (drive_logs after.drive) zone b in_range refl more.logs_are
     ]
 
-    array : IsTrue after.drive.clean → encoded after.drive before.tables.given ≡ mounted_array before
-    array clean = elim stops.left as (λ _. encoded after.drive before.tables.given ≡ mounted_array before) [
+    array : encoded after.drive before.tables.given ≡ mounted_array before
+    array = elim stops.left as (λ _. encoded after.drive before.tables.given ≡ mounted_array before) [
       | inl same ↦ same.array_is
-      | inr more ↦ more.array_is ∙ told_same before c agrees is (trusted clean)
+      | inr more ↦ more.array_is ∙ told_same before c agrees is
     ]
 
-    spare : IsTrue after.drive.clean → HasSpare before.drive.geometry.block before.tables.given (drive_logs after.drive)
-    spare clean = elim stops.left as (λ _. HasSpare before.drive.geometry.block before.tables.given (drive_logs after.drive)) [
-      | inl same ↦ rw same.logs_are (clean_spare before c agrees is (trusted clean))
-      | inr more ↦ rw more.logs_are (more-spare clean more.logs_are)
+    spare : HasSpare before.drive.geometry.block before.tables.given (drive_logs after.drive)
+    spare = elim stops.left as (λ _. HasSpare before.drive.geometry.block before.tables.given (drive_logs after.drive)) [
+      | inl same ↦ rw same.logs_are (clean_spare before c agrees is)
+      | inr more ↦ rw more.logs_are (more-spare more.logs_are)
     ]
       where
-        more-spare : IsTrue after.drive.clean → drive_logs after.drive ≡ append_log (drive_logs before.drive) is.destination.zone b → HasSpare before.drive.geometry.block before.tables.given (append_log (drive_logs before.drive) is.destination.zone b)
-        more-spare clean logs_are =
+        more-spare : drive_logs after.drive ≡ append_log (drive_logs before.drive) is.destination.zone b → HasSpare before.drive.geometry.block before.tables.given (append_log (drive_logs before.drive) is.destination.zone b)
+        more-spare logs_are =
             let f = is.destination in
             let logs = drive_logs before.drive in
             let g = before.drive.geometry in
@@ -108,21 +106,22 @@ carry_stops before after c agrees is stops trusted =
             let below : f.zone < length logs = omega (arith, filling-in_range before.drive before.tables f.zone agrees filling, zone-logs before.drive) in
             let below' : c.victim < length logs = omega (arith, sealed-in_range before c.victim agrees is.victim, zone-logs before.drive) in
             let there = logs-array after.drive before.tables.given g (append_log logs f.zone b) logs_are stops.geometry in
-            let moved = moves-more before.tables.given c.victim f.zone (size_of before.tables) logs b below' below apart (record {
+            let moved = moves-more g.block before.tables.given c.victim f.zone (size_of before.tables) logs b below' below apart (record {
               move = (refl, refl);
               has = refl;
               grows = omega (arith, size-encoded before agrees);
               greatest = agrees.sound.numbers;
               some = (sealed-holds before c.victim agrees is.victim).has_batch;
+              same = there ∙ array ∙ sym (mounted-encoded before);
             }) is.moves in
-            moves_have_spare g.block before.tables.given c.victim f.zone (append_log logs f.zone b) apart (omega (arith, below, length-set logs f.zone (log_at logs f.zone ++ b ∷ []))) moved (spare-more g.block before.tables.given f.zone logs b (there ∙ array clean ∙ sym (mounted-encoded before)) (is.spare (trusted clean)))
+            moves_have_spare g.block before.tables.given c.victim f.zone (append_log logs f.zone b) apart (omega (arith, below, length-set logs f.zone (log_at logs f.zone ++ b ∷ []))) moved
 
 -- a Move that was not appended
-carry_fails : (before after : MountedView) (c : CleanView) (fault : Halt) → Agrees before → (is : IsClean before c) → BatchLeaves before after is.destination.zone (gathered_move (size_of before.tables) before.tables.next c.victim c.gathered) (Err fault) → (IsTrue after.drive.clean → IsTrue before.drive.clean) → StepFails Move (clean_fault fault) before after
-carry_fails before after c halt.Memory agrees is leaves trusted =
+carry_fails : (before after : MountedView) (c : CleanView) (fault : Halt) → Agrees before → (is : IsClean before c) → BatchLeaves before after is.destination.zone (gathered_move (size_of before.tables) before.tables.next c.victim c.gathered) (Err fault) → StepFails Move (clean_fault fault) before after
+carry_fails before after c halt.Memory agrees is leaves =
     let b = gathered_move (size_of before.tables) before.tables.next c.victim c.gathered in
-    (memory-keeps before after is.destination.zone b agrees leaves, memory-closes before after is.destination.zone b leaves, trusted)
-carry_fails before after c halt.Stopped agrees is leaves trusted = carry_stops before after c agrees is leaves trusted
+    (memory-keeps before after is.destination.zone b agrees leaves, memory-closes before after is.destination.zone b leaves)
+carry_fails before after c halt.Stopped agrees is leaves = carry_stops before after c agrees is leaves
 
 -- ---- the Reset
 
@@ -149,23 +148,22 @@ pub record ResetFails (old new : DriveState) (tables : TablesView) (fault : Port
 pub reset_fails : (old new : DriveState) (tables : TablesView) (c : CleanView) (start : ℕ) (fault : PortFault) → Agrees (mounted old tables) → IsClean (mounted old tables) c → ResetDue (mounted old tables) c → start ≡ c.victim * old.geometry.size
     → ResetGives {V = Unit {0}} old start (Err fault) new → ResetKeeps {V = Unit {0}} old start (Err fault) new → ResetLeaves {V = Unit {0}} old start (Err fault) new → Obeys {V = Unit {0}} old (Err fault) new → (CanReset old start → IsNotRefused {V = Unit {0}} (Err fault)) → ResetFails old new tables fault
 reset_fails old new tables c start (port.Refused status) agrees is due start-is gives kept leaves obeys passed = absurd (passed (can_reset old tables c start agrees is start-is))
-reset_fails old new tables c start port.Memory agrees is due start-is gives kept leaves obeys passed = record { halt = tt; fails = (keeps-halt old new tables gives.1.1.1 agrees, inl refl, obeys.trusted) }
+reset_fails old new tables c start port.Memory agrees is due start-is gives kept leaves obeys passed = record { halt = tt; fails = (keeps-halt old new tables gives.1.1.1 agrees, inl refl) }
 reset_fails old new tables c start port.Stopped agrees is due start-is gives kept leaves obeys passed = record { halt = tt; fails = by kept }
   where
     opens : OpensNone old.zones new.zones
     opens = reset-opens {V = Unit {0}} old new start (Err port.Stopped) leaves
 
     by : SameContents old new ⊎ ResetContents old new start → StopsClean (mounted old tables) (mounted new tables)
-    by (inl same) = stops_kept (mounted old tables) (mounted new tables) c agrees is (keeps-same old new tables agrees same opens obeys.lawful (obeys.counts refl).refused obeys.durable (obeys.counts refl).appended) obeys.trusted refl (obeys.stops refl)
+    by (inl same) = stops_kept (mounted old tables) (mounted new tables) c agrees is (keeps-same old new tables agrees same opens obeys.lawful (obeys.counts refl).refused obeys.durable (obeys.counts refl).appended) refl (obeys.stops refl)
     by (inr done) =
         let index = (zone-start c.victim old.geometry.size agrees.geometry.size.0).0 in
         let after = reset_gives old new tables c agrees is due obeys.geometry obeys.lawful (rw (start-is, index) at done.contents) opens in
         record {
           stopped = obeys.stops refl;
           moves = only-without (drive_logs old) (drive_logs new) c.victim (omega (arith, sealed-in_range (mounted old tables) c.victim agrees is.victim, zone-logs old)) after.logs;
-          trusted = obeys.trusted;
-          mountable = λ clean. after.mountable (obeys.trusted clean);
-          array = λ clean. after.array;
+          mountable = after.mountable;
+          array = after.array;
           tables = inl refl;
           geometry = obeys.geometry;
           refused = (obeys.counts refl).refused;
@@ -175,8 +173,8 @@ reset_fails old new tables c start port.Stopped agrees is due start-is gives kep
 
 -- and one that was
 pub reset_done : (old new : DriveState) (tables after : TablesView) (c : CleanView) (start : ℕ) → Agrees (mounted old tables) → IsClean (mounted old tables) c → ResetDue (mounted old tables) c → start ≡ c.victim * old.geometry.size
-    → ResetZone old new start → ResetLeaves {V = Unit {0}} old start (Ok tt) new → IsLawful new → new.durable ≡ old.durable → (IsTrue new.clean → IsTrue old.clean) → after ≡ record tables { roles = clean_ended tables.roles c.victim } → EmptiesVictim (mounted old tables) (mounted new after) c.victim
-reset_done old new tables after c start agrees is due start-is done leaves lawful durable trusted after-is =
+    → ResetZone old new start → ResetLeaves {V = Unit {0}} old start (Ok tt) new → IsLawful new → new.durable ≡ old.durable → after ≡ record tables { roles = clean_ended tables.roles c.victim } → EmptiesVictim (mounted old tables) (mounted new after) c.victim
+reset_done old new tables after c start agrees is due start-is done leaves lawful durable after-is =
     let index = (zone-start c.victim old.geometry.size agrees.geometry.size.0).0 in
     let opens : OpensNone old.zones new.zones = reset-opens {V = Unit {0}} old new start (Ok tt) leaves in
     let gives = reset_gives old new tables c agrees is due done.geometry lawful (rw (start-is, index) at done.contents) opens in
@@ -192,7 +190,6 @@ reset_done old new tables after c start agrees is due start-is done leaves lawfu
       refused = done.counts.refused;
       durable = durable;
       appended = omega (arith, done.counts.appended);
-      trusted = trusted;
     })
 
 -- ---- the Move
@@ -230,15 +227,15 @@ carry_ready disk c f builder k next ready =
     record { built_is = made.is; can = rw (made.batch, ← carries-to disk c f builder k) can }
 
 -- it was, and the records are moved
-pub carry_done : (before after : MountedView) (c : CleanView) (f : Filling) (builder : BuilderView) → Carries before c f builder → Places before after f.zone (built_for before builder) → (IsTrue after.drive.clean → IsTrue before.drive.clean) → MovesRecords before c after
-carry_done before after c f builder k placed trusted =
+pub carry_done : (before after : MountedView) (c : CleanView) (f : Filling) (builder : BuilderView) → Carries before c f builder → Places before after f.zone (built_for before builder) → MovesRecords before c after
+carry_done before after c f builder k placed =
     let made = carries-built before c f builder k in
-    (move_gives before after c k.at.agrees k.at.clean_is (carries-due before c f builder k) (rw (carries-to before c f builder k, ← made.batch) placed) trusted).done
+    (move_gives before after c k.at.agrees k.at.clean_is (carries-due before c f builder k) (rw (carries-to before c f builder k, ← made.batch) placed)).done
 
 -- or it was not
-pub carry_failed : (before after : MountedView) (c : CleanView) (f : Filling) (builder : BuilderView) (fault : Halt) → Carries before c f builder → BatchLeaves before after f.zone (built_for before builder) (Err fault) → (IsTrue after.drive.clean → IsTrue before.drive.clean) → StepFails Move (clean_fault fault) before after
-carry_failed before after c f builder fault k leaves trusted =
+pub carry_failed : (before after : MountedView) (c : CleanView) (f : Filling) (builder : BuilderView) (fault : Halt) → Carries before c f builder → BatchLeaves before after f.zone (built_for before builder) (Err fault) → StepFails Move (clean_fault fault) before after
+carry_failed before after c f builder fault k leaves =
     let made = carries-built before c f builder k in
     let b = gathered_move (size_of before.tables) before.tables.next c.victim c.gathered in
     let P : Filling → Batch → Type 0 = λ x batch. BatchLeaves before after x.zone batch (Err fault) in
-    carry_fails before after c fault k.at.agrees k.at.clean_is (subst (λ x. P x b) (sym (carries-to before c f builder k)) (subst (P f) made.batch leaves)) trusted
+    carry_fails before after c fault k.at.agrees k.at.clean_is (subst (λ x. P x b) (sym (carries-to before c f builder k)) (subst (P f) made.batch leaves))

@@ -1,6 +1,5 @@
 -- A step that is not done leaves the clean unchanged.
-use Rattle.std.specs.Prelude.{IsTrue}
-use Rattle.std.proofs.Common.{◌≡◌, ℕ, ◌+◌, ◌<◌, ◌≤◌, ◌^◌, true, List, [], ◌∷◌, Some, None, get_or, inl, refl, arith}
+use Rattle.std.proofs.Common.{◌≡◌, ℕ, ◌+◌, ◌<◌, ◌≤◌, ◌^◌, true, List, [], ◌∷◌, get_or, inl, arith}
 use Rattle.std.specs.List.{AllByRecursion}
 use Rattle.logical_map.specs.declared.place.Place.{Place}
 use Rattle.logical_map.specs.declared.place.Place.TheVariants as places
@@ -15,8 +14,8 @@ use Rattle.zone_cleaner.specs.declared.fault.CleanFault.TheVariants as faults
 use Rattle.zone_cleaner.specs.declared.step.Step.TheVariants.{Gather}
 use Rattle.zone_cleaner.specs.Clean.{CleanView, IsClean}
 use Rattle.zone_cleaner.specs.LiveRecords.{LiveRecord}
-use Rattle.zone_cleaner.specs.Reading.{GathersRecord, IsGatherFault}
-use Rattle.zone_cleaner.specs.Turns.{GathersOne, StepFails, StopsClean, next_step}
+use Rattle.zone_cleaner.specs.Reading.{IsGatherFault}
+use Rattle.zone_cleaner.specs.Turns.{StepFails, StopsClean, next_step}
 use Rattle.zone_cleaner.proofs.OnlyLaws.{only-same}
 use Rattle.zone_cleaner.proofs.CarryLaws.{gathered-below}
 use Rattle.zone_cleaner.proofs.CleanLaws.{clean_kept, clean_spare, gather-next}
@@ -24,13 +23,12 @@ use Rattle.zone_cleaner.proofs.RecordLaws.{AreBetween}
 use Rattle.zone_cleaner.proofs.StepLaws.{gather-due}
 
 -- a stop that kept the array
-pub stops_kept : (before after : MountedView) (c : CleanView) → Agrees before → IsClean before c → KeepsArray before after → (IsTrue after.drive.clean → IsTrue before.drive.clean) → after.tables ≡ before.tables → after.drive.stopped ≡ true → StopsClean before after
-stops_kept before after c agrees is kept trusted same stopped = record {
+pub stops_kept : (before after : MountedView) (c : CleanView) → Agrees before → IsClean before c → KeepsArray before after → after.tables ≡ before.tables → after.drive.stopped ≡ true → StopsClean before after
+stops_kept before after c agrees is kept same stopped = record {
   stopped = stopped;
   moves = only-same (drive_logs before.drive) (drive_logs after.drive) kept.logs;
-  trusted = trusted;
-  mountable = λ clean. agrees_mountable after.drive after.tables kept.agrees (clean_spare after c kept.agrees (clean_kept before after c agrees kept trusted is) clean);
-  array = λ clean. kept.array;
+  mountable = agrees_mountable after.drive after.tables kept.agrees (clean_spare after c kept.agrees (clean_kept before after c agrees kept is));
+  array = kept.array;
   tables = inl same;
   geometry = kept.geometry;
   refused = kept.refused;
@@ -39,10 +37,10 @@ stops_kept before after c agrees is kept trusted same stopped = record {
 }
 
 -- a record that was not read
-pub read_fails : (before after : MountedView) (c : CleanView) (block : ℕ) (place : Place) (fault : CleanFault) → Agrees before → IsClean before c → KeepsArray before after → (IsTrue after.drive.clean → IsTrue before.drive.clean) → after.tables ≡ before.tables → IsGatherFault after.drive fault → StepFails (Gather block place) fault before after
-read_fails before after c block place faults.OutOfMemory agrees is kept trusted same cause = (kept, inl same, trusted)
-read_fails before after c block place faults.Stopped agrees is kept trusted same cause = stops_kept before after c agrees is kept trusted same cause
-read_fails before after c block place faults.Spent agrees is kept trusted same cause = absurd cause
+pub read_fails : (before after : MountedView) (c : CleanView) (block : ℕ) (place : Place) (fault : CleanFault) → Agrees before → IsClean before c → KeepsArray before after → after.tables ≡ before.tables → IsGatherFault after.drive fault → StepFails (Gather block place) fault before after
+read_fails before after c block place faults.OutOfMemory agrees is kept same cause = (kept, inl same)
+read_fails before after c block place faults.Stopped agrees is kept same cause = stops_kept before after c agrees is kept same cause
+read_fails before after c block place faults.Spent agrees is kept same cause = absurd cause
 
 -- what is known of the next record
 pub record NextRecord (disk : MountedView) (c : CleanView) (block : ℕ) (place : Place) : Type 0 where
@@ -65,17 +63,3 @@ next_record disk c block place agrees is due =
     go : (rs : List LiveRecord) → c.cursor ≤ block → AreBetween 0 c.cursor rs → AllByRecursion (λ (r : LiveRecord). r.block < block) rs
     go [] le all = tt
     go (r ∷ rs) le all = (omega (arith, all.0.1, le), go rs le all.1)
-
--- a record that was read
-pub gathers-one : (before after : MountedView) (c : CleanView) (block : ℕ) (place : Place) (now : List LiveRecord) → KeepsArray before after → after.tables ≡ before.tables → (IsTrue after.drive.clean → IsTrue before.drive.clean) → GathersRecord before after block place c.gathered now
-    → GathersOne before c block place after (Some (record { victim = c.victim; cursor = block + 1; gathered = now }))
-gathers-one before after c block (places.At address) now kept tables trusted got = record {
-  kept = kept;
-  tables = tables;
-  trusted = trusted;
-  content = Some got.got;
-  read = (got.long, got.right);
-  clean_is = rw got.records refl;
-}
-gathers-one before after c block places.None now kept tables trusted is = record { kept = kept; tables = tables; trusted = trusted; content = None; read = refl; clean_is = rw is refl }
-gathers-one before after c block (places.Trimmed address) now kept tables trusted is = record { kept = kept; tables = tables; trusted = trusted; content = None; read = refl; clean_is = rw is refl }

@@ -1,8 +1,6 @@
 -- One record is read.
-use Rattle.std.proofs.Common.{◌≡◌, ℕ, List, [], ◌++◌, length, get_or, Err, refl, sym, ap, ◌∙◌, append-nil, length-append, arith}
-use Rattle.std.specs.Prelude.{IsTrue}
-use Rattle.std.proofs.lemmas.List.{append_cancel_left}
-use Rattle.drive_port.specs.Calls.{CanRead, IsNotRefused, Obeys, ReadGives, ReadShows}
+use Rattle.std.proofs.Common.{◌≡◌, ℕ, List, [], get_or, Err, refl, ◌∙◌, append-nil, arith}
+use Rattle.drive_port.specs.Calls.{CanRead, IsNotRefused, Obeys, ReadGives}
 use Rattle.drive_port.specs.Contents.{Counts, SameContents, block_at, bytes_at, contents}
 use Rattle.drive_port.specs.Drive.{DriveState, IsClosing, IsLawful}
 use Rattle.drive_port.specs.declared.calls.PortFault.{PortFault}
@@ -16,19 +14,18 @@ use Rattle.zone_choice.specs.Tables.{TablesView}
 use Rattle.zone_choice.proofs.ChangeLaws.{keeps-contents, keeps-halt, keeps-same}
 use Rattle.zone_choice.proofs.OpenLaws.{closing-opens}
 use Rattle.zone_choice.proofs.ReadLaws.{HoldsPlace, holds_place}
-use Rattle.zone_cleaner.specs.Reading.{Fetched, IsGatherFault, IsStoredAt, OnlyReads}
+use Rattle.zone_cleaner.specs.Reading.{IsGatherFault, IsStoredAt, OnlyReads}
 use Rattle.zone_cleaner.specs.Turns.{clean_fault}
 
 holds : (drive : DriveState) (tables : TablesView) (block : ℕ) (at : Place) → IsStoredAt (mounted drive tables) block at → HoldsPlace drive (encoded drive tables.given) block at
 holds drive tables block at stored = rw stored.place (holds_place drive tables block stored.agrees stored.in_range)
 
 -- a Read that is done
-pub fetch_reads : (old new : DriveState) (tables : TablesView) (block : ℕ) (at : Place) → IsStoredAt (mounted old tables) block at → SameContents old new → IsClosing old.zones new.zones → IsLawful new → new.durable ≡ old.durable → Counts old new 0 → (IsTrue new.clean → IsTrue old.clean) → OnlyReads (mounted old tables) (mounted new tables)
-fetch_reads old new tables block at stored same closing lawful durable counts trusted = record {
+pub fetch_reads : (old new : DriveState) (tables : TablesView) (block : ℕ) (at : Place) → IsStoredAt (mounted old tables) block at → SameContents old new → IsClosing old.zones new.zones → IsLawful new → new.durable ≡ old.durable → Counts old new 0 → OnlyReads (mounted old tables) (mounted new tables)
+fetch_reads old new tables block at stored same closing lawful durable counts = record {
   kept = keeps-contents old new tables stored.agrees same (closing-opens old.zones new.zones closing) lawful durable counts;
   tables = refl;
   same = same;
-  trusted = trusted;
   completed = omega (arith, counts.completed);
 }
 
@@ -44,7 +41,7 @@ pub fetch_halts : (old new : DriveState) (tables : TablesView) (block address : 
 fetch_halts old new tables block address returned (port.Refused status) stored gives same closing obeys passed = absurd (passed (holds old tables block (places.At address) stored).can)
 fetch_halts old new tables block address returned port.Memory stored gives same closing obeys passed = record {
   halt = tt;
-  reads = record { kept = keeps-halt old new tables gives.1.1 stored.agrees; tables = refl; same = same; trusted = obeys.trusted; completed = obeys.completed };
+  reads = record { kept = keeps-halt old new tables gives.1.1 stored.agrees; tables = refl; same = same; completed = obeys.completed };
   cause = tt;
 }
 fetch_halts old new tables block address returned port.Stopped stored gives same closing obeys passed = record {
@@ -53,7 +50,6 @@ fetch_halts old new tables block address returned port.Stopped stored gives same
     kept = keeps-same old new tables stored.agrees same (closing-opens old.zones new.zones closing) obeys.lawful (obeys.counts refl).refused obeys.durable (obeys.counts refl).appended;
     tables = refl;
     same = same;
-    trusted = obeys.trusted;
     completed = obeys.completed;
   };
   cause = obeys.stops refl;
@@ -62,13 +58,3 @@ fetch_halts old new tables block address returned port.Stopped stored gives same
 -- what it showed is the array's
 pub fetch_shown : (drive : DriveState) (tables : TablesView) (block address : ℕ) → IsStoredAt (mounted drive tables) block (places.At address) → bytes_at drive.geometry (contents drive.zones) address 1 ≡ get_or (encoded drive tables.given) block []
 fetch_shown drive tables block address stored = append-nil (block_at drive.geometry (contents drive.zones) address) ∙ (holds drive tables block (places.At address) stored).shown
-
--- what was put after the bytes of a batch
-pub fetched : (old new : DriveState) (tables : TablesView) (block address : ℕ) (held items returned : List ℕ) → items ≡ held ++ returned → ReadShows old new address 1 held items
-    → bytes_at old.geometry (contents old.zones) address 1 ≡ get_or (encoded old tables.given) block [] → Fetched (mounted old tables) (mounted new tables) block held items
-fetched old new tables block address held items returned joined shows shown = record {
-  got = returned;
-  joined = joined;
-  long = omega (arith, shows.length_is, ap length joined, length-append held returned);
-  right = λ clean. append_cancel_left held returned _ (sym joined ∙ shows.bytes clean) ∙ shown;
-}

@@ -7,7 +7,7 @@ use Rattle.drive_array.specs.Laws.{IsNext}
 use Rattle.drive_array.specs.Mountable.{AreSound}
 use Rattle.drive_array.specs.Records.{append_log}
 use Rattle.drive_array.specs.Sizes.{IsUpTo, array_of, encoded_size, greatest, larger, log_greatest, size_or}
-use Rattle.drive_array.specs.Spare.{HasSpare, IsBefore, IsHalfClean, IsMoveFrom, IsSpare, first_sequence}
+use Rattle.drive_array.specs.Spare.{HasSpare, IsBefore, IsHalfClean, IsMoveFrom, first_sequence}
 use Rattle.drive_array.specs.ZoneLogs.{log_at, sequences}
 use Rattle.drive_array.proofs.AllLaws.{all-append}
 use Rattle.drive_array.proofs.AppendLaws.{log_at-other, log_at-same}
@@ -44,65 +44,58 @@ follows-more old (x ∷ log) b size first le has is =
     let more : log_greatest ((x ∷ log) ++ b ∷ []) ≡ larger d b.heading.size = log_greatest-more (x ∷ log) b in
     (is.0, ap (larger v) more ∙ larger-assoc v d b.heading.size ∙ ap (λ (s : Option ℕ). larger s b.heading.size) is.1 ∙ sym more)
 
--- The next batch is a Move.
-pub record KeepsByMove (n : ℕ) (logs : List (List Batch)) (victim destination size : ℕ) (b : Batch) : Type 0 where
+-- The next batch is a Move of what the array has: it keeps the array.
+pub record KeepsByMove (block_bytes n : ℕ) (logs : List (List Batch)) (victim destination size : ℕ) (b : Batch) : Type 0 where
   pub move : IsMoveFrom victim b
   pub has : b.heading.size ≡ Some size
   pub grows : encoded_size n logs ≤ size
   pub greatest : AllByRecursion (λ sequence. sequence < b.heading.sequence) (sequences logs)
   pub some : 1 ≤ length (log_at logs victim)
+  pub same : array_of block_bytes n (append_log logs destination b) ≡ array_of block_bytes n logs
 
 -- one Move more from the victim to the destination
-pub moves-more : (n victim destination size : ℕ) (logs : List (List Batch)) (b : Batch) → victim < length logs → destination < length logs → victim ≢ destination → KeepsByMove n logs victim destination size b
-    → AreMoves logs victim destination → AreMoves (append_log logs destination b) victim destination
-moves-more n victim destination size logs b in_range lt apart keeps is =
+pub moves-more : (block_bytes n victim destination size : ℕ) (logs : List (List Batch)) (b : Batch) → victim < length logs → destination < length logs → victim ≢ destination → KeepsByMove block_bytes n logs victim destination size b
+    → AreMoves block_bytes n logs victim destination → AreMoves block_bytes n (append_log logs destination b) victim destination
+moves-more block_bytes n victim destination size logs b in_range lt apart keeps is =
     let there : log_at (append_log logs destination b) destination ≡ log_at logs destination ++ b ∷ [] = log_at-same logs destination b lt in
     let other : log_at (append_log logs destination b) victim ≡ log_at logs victim = log_at-other logs destination victim b apart in
     let first = first-below b.heading.sequence (log_at logs victim) (zone-sequences (λ s. s < b.heading.sequence) logs victim keeps.greatest) keeps.some in
     record {
       moves = rw there (all-append (IsMoveFrom victim) (log_at logs destination) (b ∷ []) is.moves (keeps.move, tt));
       follows = rw (there, other) (follows-more (log_at logs victim) (log_at logs destination) b size first (size-few n size victim logs in_range keeps.grows) keeps.has is.follows);
+      spare = ap (array_of block_bytes n) (set-set logs destination (log_at logs destination ++ b ∷ []) []) ∙ is.spare ∙ sym keeps.same;
     }
-
--- and nothing is lost without them still, if it says what the array has
-pub spare-more : (block_bytes n destination : ℕ) (logs : List (List Batch)) (b : Batch) → array_of block_bytes n (append_log logs destination b) ≡ array_of block_bytes n logs
-    → IsSpare block_bytes n logs destination → IsSpare block_bytes n (append_log logs destination b) destination
-spare-more block_bytes n destination logs b same spare = ap (array_of block_bytes n) (set-set logs destination (log_at logs destination ++ b ∷ []) []) ∙ spare ∙ sym same
 
 -- ---- a batch of the host
 
 -- a batch elsewhere leaves the Moves
-pub moves-beside : (zone victim destination : ℕ) (logs : List (List Batch)) (b : Batch) → zone ≢ victim → zone ≢ destination
-    → AreMoves logs victim destination → AreMoves (append_log logs zone b) victim destination
-moves-beside zone victim destination logs b away apart is =
+pub moves-beside : (block_bytes limit n zone victim destination size : ℕ) (logs : List (List Batch)) (b : Batch) → zone < length logs → zone ≢ victim → zone ≢ destination → AreSound limit n logs → IsNext limit n logs size b
+    → AreMoves block_bytes n logs victim destination → AreMoves block_bytes n (append_log logs zone b) victim destination
+moves-beside block_bytes limit n zone victim destination size logs b lt away apart sound next is =
     let there : log_at (append_log logs zone b) destination ≡ log_at logs destination = log_at-other logs zone destination b (λ e. apart (sym e)) in
     let other : log_at (append_log logs zone b) victim ≡ log_at logs victim = log_at-other logs zone victim b (λ e. away (sym e)) in
     record {
       moves = rw there is.moves;
       follows = rw (there, other) is.follows;
+      spare = (append_keeps_spare block_bytes limit n zone destination size logs b lt apart sound next).spare_is is.spare;
     }
-
--- and nothing is lost without them
-pub spare-beside : (block_bytes limit n zone destination size : ℕ) (logs : List (List Batch)) (b : Batch) → zone < length logs → zone ≢ destination → AreSound limit n logs → IsNext limit n logs size b
-    → IsSpare block_bytes n logs destination → IsSpare block_bytes n (append_log logs zone b) destination
-spare-beside block_bytes limit n zone destination size logs b lt apart sound next spare = (append_keeps_spare block_bytes limit n zone destination size logs b lt apart sound next).spare_is spare
 
 -- ---- a stop at any moment
 
 -- the destination is vacant, or half clean
-moves-spare : (block_bytes n victim destination : ℕ) (logs : List (List Batch)) → victim ≢ destination → AreMoves logs victim destination → IsSpare block_bytes n logs destination → (x : Batch) (log : List Batch) → log_at logs destination ≡ x ∷ log → IsHalfClean block_bytes n logs destination
-moves-spare block_bytes n victim destination logs apart is spare x log e = record {
+moves-spare : (block_bytes n victim destination : ℕ) (logs : List (List Batch)) → victim ≢ destination → AreMoves block_bytes n logs victim destination → (x : Batch) (log : List Batch) → log_at logs destination ≡ x ∷ log → IsHalfClean block_bytes n logs destination
+moves-spare block_bytes n victim destination logs apart is x log e = record {
   victim = victim;
   apart = apart;
   moves = is.moves;
   older = (let follows = rw e at is.follows in rw e follows.0);
-  spare = spare;
+  spare = is.spare;
 }
 
 -- so a zone is spare at any moment of a clean
-pub moves_have_spare : (block_bytes n victim destination : ℕ) (logs : List (List Batch)) → victim ≢ destination → destination < length logs → AreMoves logs victim destination → IsSpare block_bytes n logs destination → HasSpare block_bytes n logs
-moves_have_spare block_bytes n victim destination logs apart lt is nothing = by (log_at logs destination) refl
+pub moves_have_spare : (block_bytes n victim destination : ℕ) (logs : List (List Batch)) → victim ≢ destination → destination < length logs → AreMoves block_bytes n logs victim destination → HasSpare block_bytes n logs
+moves_have_spare block_bytes n victim destination logs apart lt is = by (log_at logs destination) refl
   where
     by : (log : List Batch) → log_at logs destination ≡ log → HasSpare block_bytes n logs
     by [] e = record { zone = destination; in_range = lt; spare = inl e }
-    by (x ∷ log) e = record { zone = destination; in_range = lt; spare = inr (moves-spare block_bytes n victim destination logs apart is nothing x log e) }
+    by (x ∷ log) e = record { zone = destination; in_range = lt; spare = inr (moves-spare block_bytes n victim destination logs apart is x log e) }

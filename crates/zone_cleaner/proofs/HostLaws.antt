@@ -1,5 +1,5 @@
 -- The host writes while a clean runs: its blocks are taken out of what is gathered, and no more turns are left.
-use Rattle.std.proofs.Common.{◌≡◌, ◌≢◌, ℕ, zero, suc, ◌+◌, ◌-◌, ◌*◌, ◌<◌, ◌≤◌, max, IsTrue, Bool, true, false, cond, eqb, ltb, List, [], ◌∷◌, ◌++◌, length, set, get_or, take, drop, replicate, Option, Some, None, refl, sym, ap, subst, ◌∙◌, arith}
+use Rattle.std.proofs.Common.{◌≡◌, ◌≢◌, ℕ, zero, suc, ◌+◌, ◌-◌, ◌*◌, ◌<◌, ◌≤◌, max, Bool, true, false, cond, eqb, ltb, List, [], ◌∷◌, ◌++◌, length, set, get_or, take, drop, replicate, Option, Some, refl, sym, ap, subst, ◌∙◌, arith}
 use Rattle.std.specs.Int.{div_ceil}
 use Rattle.std.specs.List.{AllByRecursion}
 use Rattle.std.specs.Option.{option_map}
@@ -31,11 +31,10 @@ use Rattle.drive_array.proofs.AllLaws.{all-weaker}
 use Rattle.zone_choice.proofs.CommandLaws.{filling-in_range}
 use Rattle.drive_array.proofs.ReserveLaws.{div_ceil-mono, positive-most}
 use Rattle.zone_cleaner.specs.Clean.{CleanView, IsClean, forgotten, destination_written, turns_left, moves_due, untaken}
-use Rattle.zone_cleaner.specs.LiveRecords.{LiveRecord, gathered_data, records_in, with_data, without_all, without_block}
-use Rattle.zone_cleaner.specs.Gathered.{AreOfLength}
+use Rattle.zone_cleaner.specs.LiveRecords.{LiveRecord, records_in, without_all, without_block}
 use Rattle.zone_cleaner.proofs.BudgetLaws.{fewer-room}
 use Rattle.zone_cleaner.proofs.CleanLaws.{KeptDestination}
-use Rattle.zone_cleaner.proofs.HistoryLaws.{moves-beside, spare-beside}
+use Rattle.zone_cleaner.proofs.HistoryLaws.{moves-beside}
 use Rattle.zone_cleaner.proofs.MoveLaws.{Elsewhere, PlacedAway, elsewhere, entry-away, length-placed, placed-away}
 use Rattle.zone_cleaner.proofs.RecordLaws.{live_in, live_in-cons, records_in-array}
 use Rattle.zone_cleaner.proofs.SealedLaws.{sealed-alone, sealed-apart, zone-logs}
@@ -122,26 +121,6 @@ length-without_all (e ∷ es) rs = omega (arith, length-without_all es (without_
         by true h = omega arith
         by false h = omega (arith, h)
 
-whole-less : (size : ℕ) (content : Option (List ℕ)) (blocks : List (List ℕ)) → AreOfLength size (with_data content blocks) → AreOfLength size blocks
-whole-less size None blocks all = all
-whole-less size (Some bytes) blocks all = all.1
-
-whole-one : (size : ℕ) (content : Option (List ℕ)) (a b : List (List ℕ)) → AreOfLength size (with_data content a) → AreOfLength size b → AreOfLength size (with_data content b)
-whole-one size None a b all bs = bs
-whole-one size (Some bytes) a b all bs = (all.0, bs)
-
-whole-block : (size block : ℕ) (rs : List LiveRecord) → AreOfLength size (gathered_data rs) → AreOfLength size (gathered_data (without_block block rs))
-whole-block size block [] all = tt
-whole-block size block (r ∷ rs) all = by (whole-block size block rs (whole-less size r.content (gathered_data rs) all)) (eqb block r.block)
-  where
-    by : AreOfLength size (gathered_data (without_block block rs)) → (b : Bool) → AreOfLength size (gathered_data (cond b rs (r ∷ without_block block rs)))
-    by rest true = whole-less size r.content (gathered_data rs) all
-    by rest false = whole-one size r.content (gathered_data rs) (gathered_data (without_block block rs)) all rest
-
-whole-without : (size : ℕ) (es : List Entry) (rs : List LiveRecord) → AreOfLength size (gathered_data rs) → AreOfLength size (gathered_data (without_all es rs))
-whole-without size [] rs whole = whole
-whole-without size (e ∷ es) rs whole = whole-without size es (without_block e.block rs) (whole-block size e.block rs whole)
-
 -- ---- a batch of the host
 
 -- what a batch of the host leaves of a clean
@@ -154,27 +133,21 @@ turns-le k u u' a a' l l' pos left fewer same = rw same (omega (arith, left, div
 
 -- what the batch does to the places, as far as the clean looks
 record HostPlaces (before after : MountedView) (c : CleanView) (es : List Entry) : Type 0 where
-  believed : List (List ℕ)
-  kept : without_all es c.gathered ≡ records_in believed before.tables.map.zone_size c.victim 0 (take c.cursor after.tables.map.places)
-  taken : IsTrue before.drive.clean → without_all es c.gathered ≡ records_in (mounted_array after) before.tables.map.zone_size c.victim 0 (take c.cursor after.tables.map.places)
+  taken : without_all es c.gathered ≡ records_in (mounted_array after) before.tables.map.zone_size c.victim 0 (take c.cursor after.tables.map.places)
   fewer : live_in before.tables.map.zone_size c.victim after.tables.map.places ≤ live_in before.tables.map.zone_size c.victim before.tables.map.places
   left : live_in before.tables.map.zone_size c.victim (drop c.cursor after.tables.map.places) ≤ live_in before.tables.map.zone_size c.victim (drop c.cursor before.tables.map.places)
 
 host-places : (before after : MountedView) (c : CleanView) (zone : ℕ) (b : Batch) → IsClean before c → CanPlace before zone b → Places before after zone b → HostPlaces before after c b.heading.entries
 host-places before after c zone b is can done =
     let m = before.tables.map in
-    let moved = away-is (mounted_array before) in
-    let believed = away-is is.gathers.believed in
+    let moved = away-is in
     let front : take c.cursor big ≡ take c.cursor m.places = take-front c.cursor m.places (replicate (size_with before.tables b - length m.places) places.None) is.gathers.within in
     let rest : drop c.cursor big ≡ drop c.cursor m.places ++ replicate (size_with before.tables b - length m.places) places.None = drop-front c.cursor m.places (replicate (size_with before.tables b - length m.places) places.None) is.gathers.within in
     let n = size_with before.tables b - length m.places in
     record {
-      believed = is.gathers.believed;
-      kept = sym (ap (λ (ps : List Place). records_in is.gathers.believed m.zone_size c.victim 0 (take c.cursor ps)) done.places ∙ believed.taken
-          ∙ ap (λ (ps : List Place). without_all es (records_in is.gathers.believed m.zone_size c.victim 0 ps)) front ∙ ap (without_all es) (sym is.gathers.gathered));
-      taken = λ clean. sym (records_in-array (mounted_array before) (mounted_array after) m.zone_size c.victim 0 (take c.cursor after.tables.map.places) same
+      taken = sym (records_in-array (mounted_array before) (mounted_array after) m.zone_size c.victim 0 (take c.cursor after.tables.map.places) same
           ∙ ap (λ (ps : List Place). records_in (mounted_array before) m.zone_size c.victim 0 (take c.cursor ps)) done.places ∙ moved.taken
-          ∙ ap (λ (ps : List Place). without_all es (records_in (mounted_array before) m.zone_size c.victim 0 ps)) front ∙ ap (without_all es) (sym (is.gathers.right clean)));
+          ∙ ap (λ (ps : List Place). without_all es (records_in (mounted_array before) m.zone_size c.victim 0 ps)) front ∙ ap (without_all es) (sym is.gathers.gathered));
       fewer = omega (arith, ap (live_in m.zone_size c.victim) done.places, moved.fewer, live_in-new m.zone_size c.victim n m.places);
       left = omega (arith, ap (λ (ps : List Place). live_in m.zone_size c.victim (drop c.cursor ps)) done.places, moved.left, ap (live_in m.zone_size c.victim) rest, live_in-new m.zone_size c.victim n (drop c.cursor m.places));
     }
@@ -203,8 +176,8 @@ host-places before after c zone b is can done =
         let end : zone * before.tables.map.zone_size + (written + batch_size b) ≡ header + batch_size b = omega (arith, at) in
         subst (λ (e : ℕ). Elsewhere before.tables.map.zone_size c.victim header e) end (subst (λ (s : ℕ). Elsewhere before.tables.map.zone_size c.victim s (zone * before.tables.map.zone_size + (written + batch_size b))) (sym at) (elsewhere before.tables.map.zone_size c.victim zone written (batch_size b) victim-apart (omega (arith, can.room, can.agrees.geometry.capacity, zone_size))))
 
-    away-is : (array : List (List ℕ)) → PlacedAway array before.tables.map.zone_size c.victim c.cursor es big (placed header (header + 1) es big)
-    away-is array = placed-away array before.tables.map.zone_size c.victim c.cursor header (header + 1) (header + batch_size b) es big can.heading.distinct away (omega arith) (omega arith) (omega arith)
+    away-is : PlacedAway (mounted_array before) before.tables.map.zone_size c.victim c.cursor es big (placed header (header + 1) es big)
+    away-is = placed-away (mounted_array before) before.tables.map.zone_size c.victim c.cursor header (header + 1) (header + batch_size b) es big can.heading.distinct away (omega arith) (omega arith) (omega arith)
 
     same : (k : ℕ) → k < length (take c.cursor after.tables.map.places) → lies_in before.tables.map.zone_size c.victim (get_or (take c.cursor after.tables.map.places) k places.None) ≡ true → get_or (mounted_array after) (0 + k) [] ≡ get_or (mounted_array before) (0 + k) []
     same k lt lies =
@@ -231,8 +204,8 @@ next-batch before zone b can = record {
 }
 
 -- the clean continues, and has forgotten its blocks
-pub host_gives : (before after : MountedView) (c : CleanView) (zone : ℕ) (b : Batch) → (is : IsClean before c) → CanPlace before zone b → zone ≢ is.destination.zone → Places before after zone b → (IsTrue after.drive.clean → IsTrue before.drive.clean) → HostGives before after c (forgotten b.heading.entries c)
-host_gives before after c zone b is can ne done trusted =
+pub host_gives : (before after : MountedView) (c : CleanView) (zone : ℕ) (b : Batch) → (is : IsClean before c) → CanPlace before zone b → zone ≢ is.destination.zone → Places before after zone b → HostGives before after c (forgotten b.heading.entries c)
+host_gives before after c zone b is can ne done =
     let g = before.drive.geometry in
     let k = batch_most g in
     let f = is.destination in
@@ -254,15 +227,11 @@ host_gives before after c zone b is can ne done trusted =
         gathers = record {
           within = omega (arith, is.gathers.within, done.size, can.grows);
           few = rw done.geometry (omega (arith, is.gathers.few, length-without_all b.heading.entries c.gathered));
-          believed = new.believed;
-          gathered = subst (λ (z : ℕ). without_all b.heading.entries c.gathered ≡ records_in new.believed z c.victim 0 (take c.cursor after.tables.map.places)) (sym zones) new.kept;
-          whole = rw done.geometry (whole-without g.block b.heading.entries c.gathered is.gathers.whole);
-          right = λ clean. rw zones (new.taken (trusted clean));
+          gathered = rw zones new.taken;
         };
         room = rw (done.geometry, kept.written) (fewer-room g.capacity k f.written (live before.tables.map c.victim) (live after.tables.map c.victim) pos live_now is.room);
-        moves = rw (done.logs, kept.zone) (moves-beside zone c.victim f.zone logs b apart ne is.moves);
-        spare = λ clean. rw (done.logs, done.geometry, done.given, kept.zone) (spare-beside g.block (before.tables.next + 1) before.tables.given zone f.zone (size_with before.tables b) logs b lt ne
-            (sound-weaker before.tables.next (before.tables.next + 1) before.tables.given logs (omega arith) can.agrees.sound) (next-batch before zone b can) (is.spare (trusted clean)));
+        moves = rw (done.logs, done.geometry, done.given, kept.zone) (moves-beside g.block (before.tables.next + 1) before.tables.given zone c.victim f.zone (size_with before.tables b) logs b lt apart ne
+            (sound-weaker before.tables.next (before.tables.next + 1) before.tables.given logs (omega arith) can.agrees.sound) (next-batch before zone b can) is.moves);
       };
       turns = turns-le k (untaken before.tables c) (untaken after.tables (forgotten b.heading.entries c)) (destination_written before.tables.roles.second) (destination_written after.tables.roles.second) (live before.tables.map c.victim) (live after.tables.map c.victim) pos left_now live_now (ap destination_written second ∙ kept.written ∙ sym (ap destination_written is.second));
     }

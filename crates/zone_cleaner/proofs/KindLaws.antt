@@ -63,7 +63,7 @@ pub move-trims : (before after : MountedView) (c : CleanView) → Agrees before 
 move-trims before after c agrees is moves =
     let m = before.tables.map in
     let header = next_address before.drive moves.destination.zone in
-    let tell : TellTrims m.places c.gathered = rw is.gathers.gathered (records-tell is.gathers.believed m.zone_size c.victim 0 (take c.cursor m.places) m.places each) in
+    let tell : TellTrims m.places c.gathered = rw is.gathers.gathered (records-tell (mounted_array before) m.zone_size c.victim 0 (take c.cursor m.places) m.places each) in
     ap (map trims) (moves.places.places ∙ ap (placed header (header + 1) (gathered_entries c.gathered)) (extended-same places.None (size_of before.tables) m.places refl)) ∙ placed-trims header (header + 1) c.gathered m.places tell
   where
     each : (k : ℕ) → k < length (take c.cursor before.tables.map.places) → get_or before.tables.map.places (0 + k) places.None ≡ get_or (take c.cursor before.tables.map.places) k places.None

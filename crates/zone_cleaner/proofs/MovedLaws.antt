@@ -1,5 +1,4 @@
 -- A Move is done: the clean continues, with fewer turns left.
-use Rattle.std.specs.Prelude.{IsTrue}
 use Rattle.std.proofs.Common.{◌≡◌, ℕ, ◌+◌, ◌<◌, max, true, drop, length, Some, refl, sym, ap, ◌∙◌, arith}
 use Rattle.std.specs.Int.{div_ceil}
 use Rattle.std.specs.Option.{option_map}
@@ -22,7 +21,7 @@ use Rattle.zone_cleaner.specs.LiveRecords.{gathered_entries, gathered_move}
 use Rattle.zone_cleaner.specs.Turns.{MovesRecords, after_move}
 use Rattle.zone_cleaner.proofs.CarryLaws.{fits-move, grown-self, moved_places, told_same}
 use Rattle.zone_cleaner.proofs.CleanLaws.{live-parts}
-use Rattle.zone_cleaner.proofs.HistoryLaws.{moves-more, spare-more}
+use Rattle.zone_cleaner.proofs.HistoryLaws.{moves-more}
 use Rattle.zone_cleaner.proofs.RecordLaws.{live_in}
 use Rattle.zone_cleaner.proofs.SealedLaws.{alone-own, sealed-alone, sealed-apart, sealed-holds, sealed-in_range, second-filling, zone-logs}
 use Rattle.zone_cleaner.proofs.StepLaws.{MoveDue}
@@ -45,8 +44,8 @@ turns-less k u u' w w' a a' l l' g left now parts was is fewer = rw (left, now, 
 
 -- a Move keeps the array, and moves the records
 pub move_gives : (before after : MountedView) (c : CleanView) → Agrees before → (is : IsClean before c) → MoveDue before (batch_most before.drive.geometry) c
-    → Places before after is.destination.zone (gathered_move (size_of before.tables) before.tables.next c.victim c.gathered) → (IsTrue after.drive.clean → IsTrue before.drive.clean) → MoveGives before after c
-move_gives before after c agrees is due placed trusted =
+    → Places before after is.destination.zone (gathered_move (size_of before.tables) before.tables.next c.victim c.gathered) → MoveGives before after c
+move_gives before after c agrees is due placed =
     let g = before.drive.geometry in
     let f = is.destination in
     let logs = drive_logs before.drive in
@@ -57,7 +56,7 @@ move_gives before after c agrees is due placed trusted =
     let apart = sealed-apart before.tables.roles c.victim f.zone is.victim filling in
     let below : f.zone < length logs = omega (arith, filling-in_range before.drive before.tables f.zone agrees filling, zone-logs before.drive) in
     let below' : c.victim < length logs = omega (arith, sealed-in_range before c.victim agrees is.victim, zone-logs before.drive) in
-    let same : IsTrue after.drive.clean → mounted_array after ≡ mounted_array before = λ clean. placed.array ∙ told_same before c agrees is (trusted clean) in
+    let same : mounted_array after ≡ mounted_array before = placed.array ∙ told_same before c agrees is in
     let after_array : array_of g.block given (append_log logs f.zone b) ≡ mounted_array after = rw (← placed.logs, ← placed.geometry, ← placed.given) (mounted-encoded after) in
     let moved = moved_places before c after.tables.map.places agrees is due placed.places in
     let fits = fits-move before c agrees is due in
@@ -68,21 +67,21 @@ move_gives before after c agrees is due placed trusted =
     let now : live_in after.tables.map.zone_size c.victim after.tables.map.places ≡ untaken before.tables c = ap (λ (z : ℕ). live_in z c.victim after.tables.map.places) zones ∙ moved.live_is in
     let left : untaken after.tables (after_move c) ≡ untaken before.tables c = ap (λ (z : ℕ). live_in z c.victim (drop c.cursor after.tables.map.places)) zones ∙ ap (live_in before.tables.map.zone_size c.victim) moved.rest in
     record {
-      done = record { destination = f; second = is.second; places = placed; trusted = trusted; array = same };
+      done = record { destination = f; second = is.second; places = placed; array = same };
       clean = record {
         destination = record { zone = f.zone; written = f.written + batch_size b; may_open = true };
         second = second;
         victim = rw placed.roles (sealed-alone g before.tables.roles f.zone (batch_size b) c.victim is.victim);
-        gathers = record { within = omega (arith, is.gathers.within, moved.long); few = omega arith; believed = is.gathers.believed; gathered = rw zones (sym (moved.taken is.gathers.believed)); whole = tt; right = λ clean. rw zones (sym (moved.taken (mounted_array after))) };
+        gathers = record { within = omega (arith, is.gathers.within, moved.long); few = omega arith; gathered = rw (same, zones) (sym moved.taken) };
         room = rw (placed.geometry, now, count) fits.after.room;
-        moves = rw placed.logs (moves-more given c.victim f.zone size logs b below' below apart (record {
+        moves = rw (placed.logs, placed.geometry, placed.given) (moves-more g.block given c.victim f.zone size logs b below' below apart (record {
           move = (refl, refl);
           has = refl;
           grows = omega (arith, size-encoded before agrees);
           greatest = agrees.sound.numbers;
           some = (sealed-holds before c.victim agrees is.victim).has_batch;
+          same = after_array ∙ same ∙ sym (mounted-encoded before);
         }) is.moves);
-        spare = λ clean. rw (placed.logs, placed.geometry, placed.given) (spare-more g.block given f.zone logs b (after_array ∙ same clean ∙ sym (mounted-encoded before)) (is.spare (trusted clean)));
       };
       fewer = turns-less (batch_most g) (untaken before.tables c) (untaken after.tables (after_move c)) f.written (f.written + (1 + data_count (gathered_entries c.gathered))) (destination_written before.tables.roles.second) (destination_written after.tables.roles.second) _ _ (length c.gathered) left now (live-parts before c is) (ap destination_written is.second) (ap destination_written second ∙ omega (arith, count)) fits.after.fewer;
     }

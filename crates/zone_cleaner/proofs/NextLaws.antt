@@ -1,5 +1,4 @@
 -- What holds between two turns is kept where tables and array are, and where the next zone becomes the host zone.
-use Rattle.std.specs.Prelude.{IsTrue}
 use Rattle.std.proofs.Common.{◌≡◌, ℕ, ◌+◌, ◌≤◌, Bool, List, Option, Some, None, refl, ap, subst, ◌∙◌, arith}
 use Rattle.std.specs.Option.{option_map}
 use Rattle.drive_port.specs.Drive.{DriveState}
@@ -38,13 +37,13 @@ closed-alone capacity (Some (Destination g)) (Some (Next f)) same alone = absurd
 closed-alone capacity (Some (Destination g)) (Some (Destination f)) same alone = absurd alone
 
 -- tables, drive and clean agree where the array is kept
-pub cleaned_kept : (before after : MountedView) (clean : Option CleanView) → AgreesWithClean before clean → KeepsArray before after → (IsTrue after.drive.clean → IsTrue before.drive.clean) → AgreesWithClean after clean
-cleaned_kept before after None is kept trusted = (kept.agrees, (kept.spare is.1.0, rw kept.geometry (closed-alone before.drive.geometry.capacity after.tables.roles.second before.tables.roles.second kept.second is.1.1)))
-cleaned_kept before after (Some c) is kept trusted = (kept.agrees, clean_kept before after c is.0 kept trusted is.1)
+pub cleaned_kept : (before after : MountedView) (clean : Option CleanView) → AgreesWithClean before clean → KeepsArray before after → AgreesWithClean after clean
+cleaned_kept before after None is kept = (kept.agrees, (kept.spare is.1.0, rw kept.geometry (closed-alone before.drive.geometry.capacity after.tables.roles.second before.tables.roles.second kept.second is.1.1)))
+cleaned_kept before after (Some c) is kept = (kept.agrees, clean_kept before after c is.0 kept is.1)
 
 -- what keeps the array is kept by cleaning
-pub cleaning_kept : (before after : MountedView) (clean : Option CleanView) → AgreesWithClean before clean → KeepsArray before after → (IsTrue after.drive.clean → IsTrue before.drive.clean) → KeepsByCleaning before after
-cleaning_kept before after clean is kept trusted = array_keeps before after clean (cleaned_kept before after clean is kept trusted) kept trusted
+pub cleaning_kept : (before after : MountedView) (clean : Option CleanView) → AgreesWithClean before clean → KeepsArray before after → KeepsByCleaning before after
+cleaning_kept before after clean is kept = array_keeps before after clean (cleaned_kept before after clean is kept) kept
 
 -- ---- the next zone becomes the host zone
 
@@ -82,7 +81,7 @@ promote_gives drive old new f is none next new-is =
     let cleaned : AgreesWithClean (mounted drive (tables_with old.map (roles_with old.roles.empty (Some f) None) old.next old.given)) None = (agrees-promoted drive old.map old.roles.empty f old.next old.given plain, (is.1.0, tt)) in
     rw same (record {
       cleaned = cleaned;
-      keeps = record { trusted = λ clean. clean; mountable = cleans_mountable (mounted drive (tables_with old.map (roles_with old.roles.empty (Some f) None) old.next old.given)) None cleaned; array = λ clean. refl; moves = only-same (drive_logs drive) (drive_logs drive) refl; size = refl; trimmed = refl; given = refl; geometry = refl; refused = refl; durable = refl; next = refl; appended = omega arith };
+      keeps = record { mountable = cleans_mountable (mounted drive (tables_with old.map (roles_with old.roles.empty (Some f) None) old.next old.given)) None cleaned; array = refl; moves = only-same (drive_logs drive) (drive_logs drive) refl; size = refl; trimmed = refl; given = refl; geometry = refl; refused = refl; durable = refl; next = refl; appended = omega arith };
       host = refl;
       room = (let alone = rw second at is.1.1 in alone);
     })

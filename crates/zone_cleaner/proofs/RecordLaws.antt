@@ -293,12 +293,3 @@ records_in-array old new size zone first (p ∷ ps) same =
         let content = one p (rw here at (same 0 (omega arith) is)) in
         rw (content, e) refl
     by false is e = e
-
--- where one array has no records in a zone, none has
-pub records-none : (old new : List (List ℕ)) (size zone first : ℕ) (ps : List Place) → records_in old size zone first ps ≡ [] → records_in new size zone first ps ≡ []
-records-none old new size zone first [] none = refl
-records-none old new size zone first (p ∷ ps) none = by (records-none old new size zone (first + 1) ps) (lies_in size zone p) none
-  where
-    by : (records_in old size zone (first + 1) ps ≡ [] → records_in new size zone (first + 1) ps ≡ []) → (b : Bool) → one_more b (record { block = first; content = live_content old first p }) (records_in old size zone (first + 1) ps) ≡ [] → one_more b (record { block = first; content = live_content new first p }) (records_in new size zone (first + 1) ps) ≡ []
-    by rest true bad = absurd (cc)
-    by rest false none = rest none

@@ -1,10 +1,9 @@
 -- The victim is emptied, and the clean ends.
-use Rattle.std.specs.Prelude.{IsTrue}
 use Rattle.std.proofs.Common.{◌≡◌, ◌≢◌, ℕ, ◌<◌, ◌≤◌, Bool, true, false, ◌||◌, eqb, List, [], ◌∷◌, ◌++◌, length, set, get_or, Option, Some, None, refl, sym, ap, ◌∙◌, inl, inr, arith}
 use Rattle.std.specs.List.{AllByRecursion, list_any}
 use Rattle.std.specs.Option.{option_map}
 use Rattle.std.proofs.lemmas.Bool.{cases_eq, eq-eqb}
-use Rattle.std.proofs.lemmas.List.{map-set, get_or-set_other, get_or-set_same, length-map, length-set}
+use Rattle.std.proofs.lemmas.List.{get_or-set_other, get_or-set_same, length-map, length-set}
 use Rattle.drive_port.specs.Drive.{DriveState, IsLawful}
 use Rattle.drive_port.specs.Contents.{Content, Resets, content_at, contents, emptied, nothing}
 use Rattle.batch_log.specs.Log.{Batch, log_size}
@@ -13,7 +12,7 @@ use Rattle.zone_choice.specs.declared.roles.Filling.{Filling}
 use Rattle.zone_choice.specs.declared.roles.Second.{Second}
 use Rattle.zone_choice.specs.declared.roles.Second.TheVariants.{Next, Destination}
 use Rattle.zone_choice.specs.Agreement.{Agrees, HoldsFilling, MountedView, RolesAgree, mounted}
-use Rattle.drive_array.specs.ZoneLogs.{HasLog, drive_logs, log_at, encoded, encoded_array, zone_log, zone_logs}
+use Rattle.drive_array.specs.ZoneLogs.{HasLog, drive_logs, log_at, encoded, encoded_array, zone_log}
 use Rattle.drive_array.specs.Laws.{OnlyTorn}
 use Rattle.drive_array.specs.Mountable.{IsMountable}
 use Rattle.drive_array.specs.Records.{place, shown, without}
@@ -127,7 +126,7 @@ pub record ResetGives (old new : DriveState) (tables : TablesView) (victim : ℕ
   pub agrees : Agrees (mounted new (record tables { roles = clean_ended tables.roles victim }))
   pub logs : drive_logs new ≡ without (drive_logs old) victim
   pub array : encoded new tables.given ≡ encoded old tables.given
-  pub mountable : IsTrue old.clean → IsMountable new tables.given
+  pub mountable : IsMountable new tables.given
 
 few-reset : (most victim : ℕ) (logs : List (List Batch)) (fs : List Filling) → list_any (is_at victim) fs ≡ false → AllByRecursion (λ (f : Filling). AllByRecursion (HasAtMost most) (log_at logs f.zone)) fs
     → AllByRecursion (λ (f : Filling). AllByRecursion (HasAtMost most) (log_at (without logs victim) f.zone)) fs
@@ -138,18 +137,17 @@ few-reset most victim logs fs out all =
 -- a Reset of the victim keeps the array
 pub reset_gives : (old new : DriveState) (tables : TablesView) (c : CleanView) → Agrees (mounted old tables) → IsClean (mounted old tables) c → ResetDue (mounted old tables) c → new.geometry ≡ old.geometry → IsLawful new
     → Resets (contents old.zones) (contents new.zones) c.victim → OpensNone old.zones new.zones → ResetGives old new tables c.victim
-unfolding encoded_array zone_log
+unfolding encoded_array
 reset_gives old new tables c agrees is due geometry lawful resets opens =
     let g = old.geometry in
     let zones = contents old.zones in
     let was = drive_logs old in
     let given = tables.given in
     let lost = nothing_lost (mounted old tables) c agrees is due in
-    let mountable = λ (clean : IsTrue old.clean). agrees_mountable old tables agrees (clean_spare (mounted old tables) c agrees is clean) in
+    let mountable = agrees_mountable old tables agrees (clean_spare (mounted old tables) c agrees is) in
     let only : OnlyTorn g zones c.victim = λ other torn. absurd (let no_tail = no_tails g zones tables.roles agrees.roles other in let tail = torn.tail in cc) in
-    let after = λ (clean : IsTrue old.clean). spare_resets g zones (contents new.zones) given c.victim (mountable clean).holds lost.array only resets in
-    let emptied_logs : zone_logs g (contents new.zones) ≡ without was c.victim = ap (zone_logs g) resets.zones ∙ map-set (zone_log g) zones c.victim emptied in
-    let logs : drive_logs new ≡ without was c.victim = rw geometry emptied_logs in
+    let after = spare_resets g zones (contents new.zones) given c.victim mountable.holds lost.array only resets in
+    let logs : drive_logs new ≡ without was c.victim = rw geometry after.logs in
     let spare = empty_spare g.block tables.next given c.victim was agrees.sound lost.array in
     let sealed = sealed-zone tables.roles c.victim is.victim in
     let out : list_any (is_at c.victim) (fillings tables.roles) ≡ false = sealed.not_filling in
@@ -170,5 +168,5 @@ reset_gives old new tables c agrees is due geometry lawful resets opens =
       };
       logs = logs;
       array = rw (logs, geometry) lost.array;
-      mountable = λ clean. record { lawful = lawful; holds = rw geometry (after clean).mountable };
+      mountable = record { lawful = lawful; holds = rw geometry after.mountable };
     }

@@ -30,8 +30,8 @@ has-next second filling is = rw is refl
 
 step-room : (before after : MountedView) (c : CleanView) (new : Option CleanView) (step : Step) → AgreesWithClean before (Some c) → StepDone step before c after new → LeavesNextZone before after (Some c) new
 step-room before after c new (Gather block place) is done = record {
-  host = λ none. rw done.tables none;
-  next = λ some ended. let bad : None ≡ Some _ = sym ended ∙ done.clean_is in absurd (cc);
+  host = λ none. rw done.1 none;
+  next = λ some ended. let bad : None ≡ Some _ = sym ended ∙ done.2 in absurd (cc);
 }
 step-room before after c new Move is done = record {
   host = λ none. rw done.0.places.roles (move-host before.drive.geometry before.tables.roles done.0.destination.zone _ none);

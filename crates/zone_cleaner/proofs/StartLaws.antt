@@ -99,10 +99,9 @@ start_gives drive tables new victim zone agrees due lowest new-is =
           destination = fresh zone;
           second = refl;
           victim = sealed-made (with_destination tables.roles zone) victim (omega (arith, was.in_range, length-set tables.roles.empty zone false)) (get_or-set_other tables.roles.empty zone victim false false ne ∙ was.not_empty) (not-filling tables.roles.host was.not_filling ne);
-          gathers = record { within = omega arith; few = omega arith; believed = []; gathered = refl; whole = tt; right = λ clean. refl };
+          gathers = record { within = omega arith; few = omega arith; gathered = refl };
           room = start-room g.capacity k (live tables.map victim) due.fits;
-          moves = record { moves = rw no_log tt; follows = rw no_log tt };
-          spare = λ clean. nothing_lost no_log;
+          moves = record { moves = rw no_log tt; follows = rw no_log tt; spare = nothing_lost no_log };
         },
       );
       turns = start-turns g.capacity k (live tables.map victim) (positive-most g agrees.geometry) due.fits;

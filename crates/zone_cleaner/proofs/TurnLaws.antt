@@ -2,7 +2,7 @@
 use Rattle.std.proofs.Common.{◌≡◌, ℕ, ◌+◌, ◌<◌, ◌≤◌, Bool, true, false, cond, map, length, set, get_or, Option, Some, None, Result, Ok, Err, refl, sym, ap, ◌∙◌, arith}
 use Rattle.std.specs.List.{count_by}
 use Rattle.std.specs.Option.{option_map}
-use Rattle.std.specs.Prelude.{IsTrue, OnErr, OnOk}
+use Rattle.std.specs.Prelude.{OnErr, OnOk}
 use Rattle.std.proofs.lemmas.List.Sums.{get_or-le-sum_by, sum_by-set}
 use Rattle.drive_port.specs.Drive.{DriveState}
 use Rattle.zone_choice.specs.declared.roles.Filling.{Filling}
@@ -42,13 +42,13 @@ use Rattle.zone_cleaner.proofs.StepLaws.{gather-due, move-due}
 -- ---- a drive that is cleaned can be mounted
 
 -- a disk that is cleaned has a spare zone
-pub cleans-spare : (disk : MountedView) (clean : Option CleanView) → AgreesWithClean disk clean → IsTrue disk.drive.clean → HasSpare disk.drive.geometry.block disk.tables.given (drive_logs disk.drive)
-cleans-spare disk None is clean = empty-spare disk.drive disk.tables is.0 is.1.0
-cleans-spare disk (Some c) is clean = clean_spare disk c is.0 is.1 clean
+pub cleans-spare : (disk : MountedView) (clean : Option CleanView) → AgreesWithClean disk clean → HasSpare disk.drive.geometry.block disk.tables.given (drive_logs disk.drive)
+cleans-spare disk None is = empty-spare disk.drive disk.tables is.0 is.1.0
+cleans-spare disk (Some c) is = clean_spare disk c is.0 is.1
 
 -- so it can be mounted
-pub cleans_mountable : (disk : MountedView) (clean : Option CleanView) → AgreesWithClean disk clean → IsTrue disk.drive.clean → IsMountable disk.drive disk.tables.given
-cleans_mountable disk clean is trusted = agrees_mountable disk.drive disk.tables is.0 (cleans-spare disk clean is trusted)
+pub cleans_mountable : (disk : MountedView) (clean : Option CleanView) → AgreesWithClean disk clean → IsMountable disk.drive disk.tables.given
+cleans_mountable disk clean is = agrees_mountable disk.drive disk.tables is.0 (cleans-spare disk clean is)
 
 -- ---- one step
 
@@ -75,15 +75,15 @@ step_forward : (before after : MountedView) (c : CleanView) (new : Option CleanV
 step_forward before after c new (Gather block place) is due done =
     let most = batch_most before.drive.geometry in
     let g = gather-due before most c block place due in
-    let was = clean_kept before after c is.0 done.kept done.trusted is.1 in
-    let gives = gather_gives before after c block place done.content done.kept done.read was (rw done.tables g.found) (rw done.kept.geometry g.few) in
-    let kept = turns_kept before after c most is.0 done.kept is.1 in
-    rw done.clean_is (record { cleaned = (done.kept.agrees, gives.clean); fewer = omega (arith, kept, gives.fewer) })
+    let gives = gather_gives before c block place is.1 g.found g.few in
+    let next = with_record c block (live_content (mounted_array before) block place) in
+    let kept = turns_kept before after next most is.0 done.0 gives.clean in
+    rw done.2 (record { cleaned = (done.0.agrees, clean_kept before after next is.0 done.0 gives.clean); fewer = omega (arith, kept, gives.fewer) })
 step_forward before after c new Move is due done =
     let most = batch_most before.drive.geometry in
     let same = destination-is done.0.destination is.1.destination (sym done.0.second ∙ is.1.second) in
     let placed : Places before after is.1.destination.zone (gathered_move (size_of before.tables) before.tables.next c.victim c.gathered) = rw (← same) done.0.places in
-    let gives = move_gives before after c is.0 is.1 (move-due before most c due (positive-most before.drive.geometry is.0.geometry) is.1.gathers.few) placed done.0.trusted in
+    let gives = move_gives before after c is.0 is.1 (move-due before most c due (positive-most before.drive.geometry is.0.geometry) is.1.gathers.few) placed in
     rw done.1 (record { cleaned = (placed.agrees, gives.clean); fewer = gives.fewer })
 step_forward before after c new Reset is due done =
     let was = sealed-parts before.tables.roles c.victim is.1.victim in
@@ -93,11 +93,10 @@ step_forward before after c new Reset is due done =
     })
 
 -- what keeps the array is kept by cleaning
-pub array_keeps : (before after : MountedView) (new : Option CleanView) → AgreesWithClean after new → KeepsArray before after → (IsTrue after.drive.clean → IsTrue before.drive.clean) → KeepsByCleaning before after
-array_keeps before after new cleaned kept trusted = record {
-  trusted = trusted;
+pub array_keeps : (before after : MountedView) (new : Option CleanView) → AgreesWithClean after new → KeepsArray before after → KeepsByCleaning before after
+array_keeps before after new cleaned kept = record {
   mountable = cleans_mountable after new cleaned;
-  array = λ clean. kept.array;
+  array = kept.array;
   moves = only-same (drive_logs before.drive) (drive_logs after.drive) kept.logs;
   size = ap length kept.places;
   trimmed = ap (map trims) kept.places;
@@ -111,9 +110,8 @@ array_keeps before after new cleaned kept trusted = record {
 
 -- what a step keeps that is done
 step-keeps : (before after : MountedView) (c : CleanView) (new : Option CleanView) (step : Step) → AgreesWithClean before (Some c) → AgreesWithClean after new → StepDone step before c after new → KeepsByCleaning before after
-step-keeps before after c new (Gather block place) is cleaned done = array_keeps before after new cleaned done.kept done.trusted
+step-keeps before after c new (Gather block place) is cleaned done = array_keeps before after new cleaned done.0
 step-keeps before after c new Move is cleaned done = let moved = move-trims before after c is.0 is.1 done.0 in record {
-  trusted = done.0.trusted;
   mountable = cleans_mountable after new cleaned;
   array = done.0.array;
   moves = only-more (drive_logs before.drive) (drive_logs after.drive) done.0.destination.zone (gathered_move (size_of before.tables) before.tables.next c.victim c.gathered) (omega (arith, filling-in_range before.drive before.tables done.0.destination.zone is.0 (second-filling before.tables.roles (Destination done.0.destination) done.0.second), zone-logs before.drive)) refl done.0.places.logs;
@@ -127,9 +125,8 @@ step-keeps before after c new Move is cleaned done = let moved = move-trims befo
   appended = omega (arith, done.0.places.appended);
 }
 step-keeps before after c new Reset is cleaned done = record {
-  trusted = done.0.trusted;
   mountable = cleans_mountable after new cleaned;
-  array = λ clean. done.0.array;
+  array = done.0.array;
   moves = only-without (drive_logs before.drive) (drive_logs after.drive) c.victim (omega (arith, sealed-in_range before c.victim is.0 is.1.victim, zone-logs before.drive)) done.0.logs;
   size = ap length done.0.places;
   trimmed = ap (map trims) done.0.places;
@@ -143,10 +140,10 @@ step-keeps before after c new Reset is cleaned done = record {
 
 -- ---- a step that is not done
 
-keeps-kept : (before after : MountedView) (c : CleanView) → AgreesWithClean before (Some c) → KeepsArray before after → (IsTrue after.drive.clean → IsTrue before.drive.clean) → AgreesWithClean after (Some c) × KeepsByCleaning before after
-keeps-kept before after c is kept trusted =
-    let cleaned : AgreesWithClean after (Some c) = (kept.agrees, clean_kept before after c is.0 kept trusted is.1) in
-    (cleaned, array_keeps before after (Some c) cleaned kept trusted)
+keeps-kept : (before after : MountedView) (c : CleanView) → AgreesWithClean before (Some c) → KeepsArray before after → AgreesWithClean after (Some c) × KeepsByCleaning before after
+keeps-kept before after c is kept =
+    let cleaned : AgreesWithClean after (Some c) = (kept.agrees, clean_kept before after c is.0 kept is.1) in
+    (cleaned, array_keeps before after (Some c) cleaned kept)
 
 -- only a Move lacks a sequence
 spent-move : (before after : MountedView) (step : Step) → StepFails step faults.Spent before after → (after ≡ before) × (sequence_end before.drive.geometry ≤ before.tables.next)
@@ -155,13 +152,12 @@ spent-move before after Move fails = fails
 spent-move before after Reset fails = absurd fails
 
 fails_give : (before after : MountedView) (c : CleanView) (new : Option CleanView) (step : Step) (fault : CleanFault) → AgreesWithClean before (Some c) → StepFails step fault before after → new ≡ Some c → CleaningLeaves before (Err fault) after new
-fails_give before after c new step faults.OutOfMemory is fails same = let kept = keeps-kept before after c is fails.0 fails.2 in rw same (record { goes_on = kept.0; keeps = kept.1; cause = tt })
+fails_give before after c new step faults.OutOfMemory is fails same = let kept = keeps-kept before after c is fails.0 in rw same (record { goes_on = kept.0; keeps = kept.1; cause = tt })
 fails_give before after c new step faults.Stopped is fails same =
     let but = close-keeps before after.tables fails.tables in
     record {
       goes_on = tt;
       keeps = record {
-        trusted = fails.trusted;
         mountable = fails.mountable;
         array = fails.array;
         moves = fails.moves;
@@ -178,7 +174,7 @@ fails_give before after c new step faults.Stopped is fails same =
     }
 fails_give before after c new step faults.Spent is fails same = let spent = spent-move before after step fails in rw (same, spent.0) (record {
   goes_on = is;
-  keeps = record { trusted = λ clean. clean; mountable = cleans_mountable before (Some c) is; array = λ clean. refl; moves = only-same (drive_logs before.drive) (drive_logs before.drive) refl; size = refl; trimmed = refl; given = refl; geometry = refl; refused = refl; durable = refl; next = refl; appended = omega arith };
+  keeps = record { mountable = cleans_mountable before (Some c) is; array = refl; moves = only-same (drive_logs before.drive) (drive_logs before.drive) refl; size = refl; trimmed = refl; given = refl; geometry = refl; refused = refl; durable = refl; next = refl; appended = omega arith };
   cause = spent.1;
 })
 
@@ -219,9 +215,8 @@ turn_gives before after None new (Ok done) is leaves =
     record {
       goes_on = cleaned;
       keeps = record {
-        trusted = λ clean. rw leaves.0 at clean;
         mountable = cleans_mountable after new cleaned;
-        array = λ clean. rw (leaves.0, started.1) refl;
+        array = rw (leaves.0, started.1) refl;
         moves = only-same (drive_logs before.drive) (drive_logs after.drive) (ap drive_logs leaves.0);
         size = started.2;
         trimmed = started.4;
@@ -249,14 +244,13 @@ turns_fewer before after None new is leaves = record { fewer = λ some. absurd (
 
 -- the same before any turn
 pub keeps-none : (disk : MountedView) (clean : Option CleanView) → AgreesWithClean disk clean → KeepsByCleaning disk disk
-keeps-none disk clean is = record { trusted = λ trusts. trusts; mountable = cleans_mountable disk clean is; array = λ trusts. refl; moves = only-same (drive_logs disk.drive) (drive_logs disk.drive) refl; size = refl; trimmed = refl; given = refl; geometry = refl; refused = refl; durable = refl; next = refl; appended = omega arith }
+keeps-none disk clean is = record { mountable = cleans_mountable disk clean is; array = refl; moves = only-same (drive_logs disk.drive) (drive_logs disk.drive) refl; size = refl; trimmed = refl; given = refl; geometry = refl; refused = refl; durable = refl; next = refl; appended = omega arith }
 
 -- what two turns keep
 pub keeps-more : (a b c : MountedView) → KeepsByCleaning a b → KeepsByCleaning b c → KeepsByCleaning a c
 keeps-more a b c p q = record {
-  trusted = λ clean. p.trusted (q.trusted clean);
   mountable = q.mountable;
-  array = λ clean. q.array clean ∙ p.array (q.trusted clean);
+  array = q.array ∙ p.array;
   moves = only-join (drive_logs a.drive) (drive_logs b.drive) (drive_logs c.drive) p.moves q.moves;
   size = q.size ∙ p.size;
   trimmed = q.trimmed ∙ p.trimmed;

@@ -1,21 +1,20 @@
 -- What the calls of the cleaner promise, whatever they answer.
-use Rattle.std.specs.Prelude.{ℕ, ◌≡◌, ◌+◌, ◌*◌, ◌++◌, ◌≤◌, List, [], ◌∷◌, Option, Result, IfErr, OnErr, OnOk}
-use Rattle.logical_map.specs.declared.place.Place.{Place}
+use Rattle.std.specs.Prelude.{◌≡◌, ◌+◌, ◌*◌, ◌++◌, ◌≤◌, List, [], ◌∷◌, Option, Result, IfErr, OnErr, OnOk}
 use Rattle.zone_choice.specs.Agreement.{MountedView}
 use Rattle.zone_cleaner.specs.declared.fault.CleanFault.{CleanFault}
 use Rattle.zone_cleaner.specs.Clean.{CleanView, turns_of}
 use Rattle.zone_cleaner.specs.LiveRecords.{LiveRecord}
-use Rattle.zone_cleaner.specs.Reading.{GathersRecord, IsGatherFault, OnlyReads}
+use Rattle.zone_cleaner.specs.Reading.{IsGatherFault, OnlyReads}
 use Rattle.zone_cleaner.specs.Start.{CleanDone, CleanLeaves, CleaningLeaves, EndLeaves}
 use Rattle.zone_cleaner.specs.Start.{HasNextZone, KeepsTurns, TurnDone, TurnLeaves}
 
 -- The record of a block is read: one Read was sent at most, and nothing else.
-pub record GatherAnswers (before : MountedView) (gathered : List LiveRecord) (block : ℕ) (at : Place)
+pub record GatherAnswers (before : MountedView) (gathered : List LiveRecord) (more : LiveRecord)
     (result : Result (Unit {0}) CleanFault)
     (after : MountedView) (now : List LiveRecord) : Type 0 where
   pub reads : OnlyReads before after
   -- it is after those that were gathered before
-  pub ok : OnOk result (GathersRecord before after block at gathered now)
+  pub ok : OnOk result (now ≡ gathered ++ more ∷ [])
   -- or these are the same
   pub failed : OnErr result (now ≡ gathered)
   pub err : IfErr result (IsGatherFault after.drive)

@@ -1,5 +1,5 @@
 -- A clean: the live records of one zone, the victim, are moved to another, the destination; then the victim is emptied.
-use Rattle.std.specs.Prelude.{◌≡◌, ℕ, zero, suc, ◌+◌, ◌≤◌, max, true, IsTrue, List, [], ◌∷◌, count_by, drop, length, take, Option, Some, None}
+use Rattle.std.specs.Prelude.{◌≡◌, ℕ, zero, suc, ◌+◌, ◌≤◌, max, true, List, [], ◌∷◌, count_by, drop, length, take, Option, Some, None}
 use Rattle.std.specs.Int.{div_ceil}
 use Rattle.std.specs.List.{AllByRecursion}
 use Rattle.batch_log.specs.declared.header.Entry.{Entry}
@@ -15,8 +15,7 @@ use Rattle.zone_choice.specs.Roles.{empty_count}
 use Rattle.drive_array.specs.Sizes.{larger, log_greatest}
 use Rattle.drive_array.specs.Spare.{IsBefore, IsMoveFrom, IsSpare, first_sequence}
 use Rattle.zone_choice.specs.Tables.{TablesView, size_of}
-use Rattle.zone_cleaner.specs.LiveRecords.{LiveRecord, gathered_data, records_in, without_all}
-use Rattle.zone_cleaner.specs.Gathered.{AreOfLength}
+use Rattle.zone_cleaner.specs.LiveRecords.{LiveRecord, records_in, without_all}
 use Rattle.zone_choice.specs.Roles.{is_sealed_at}
 
 -- What a running clean knows: its victim; the first block that it has not looked at yet; and the records gathered for the next Move, of blocks before that one.
@@ -56,16 +55,11 @@ turns_of disk clean = turns_left (batch_most disk.drive.geometry) disk.tables cl
 
 -- ---- what holds between two turns
 
--- The gathered records are those of the live blocks of the victim, of all before the cursor: no more than one Move takes.
--- They say what the drive was believed to hold, and what the array has while the drive is clean.
+-- The gathered records are the live records of the victim, of all blocks before the cursor: no more than one Move takes.
 pub record Gathers (disk : MountedView) (clean : CleanView) : Type 0 where
   pub within : clean.cursor ≤ size_of disk.tables
   pub few : length clean.gathered ≤ batch_most disk.drive.geometry
-  pub believed : List (List ℕ)
-  pub gathered : clean.gathered ≡ records_in believed disk.tables.map.zone_size clean.victim 0 (take clean.cursor disk.tables.map.places)
-  pub whole : AreOfLength disk.drive.geometry.block (gathered_data clean.gathered)
-  pub right : IsTrue disk.drive.clean
-      → clean.gathered ≡ records_in (mounted_array disk) disk.tables.map.zone_size clean.victim 0 (take clean.cursor disk.tables.map.places)
+  pub gathered : clean.gathered ≡ records_in (mounted_array disk) disk.tables.map.zone_size clean.victim 0 (take clean.cursor disk.tables.map.places)
 
 -- a zone's first batch is older than another's, whose batches say no smaller size; a zone without a batch says nothing yet
 abbrev pub Follows : List Batch → List Batch → Type 0
@@ -73,10 +67,12 @@ Follows old [] = Unit {0}
 Follows old (batch ∷ log) =
     IsBefore (first_sequence old) (first_sequence (batch ∷ log)) × (larger (log_greatest old) (log_greatest (batch ∷ log)) ≡ log_greatest (batch ∷ log))
 
--- All batches of the destination are Moves from the victim, and come after its batches.
-pub record AreMoves (logs : List (List Batch)) (victim destination : ℕ) : Type 0 where
+-- All batches of the destination are Moves from the victim, and come after its batches. Without them the array is the
+-- same: so a mount can empty the destination at any moment of a clean.
+pub record AreMoves (block_bytes n : ℕ) (logs : List (List Batch)) (victim destination : ℕ) : Type 0 where
   pub moves : AllByRecursion (IsMoveFrom victim) (log_at logs destination)
   pub follows : Follows (log_at logs victim) (log_at logs destination)
+  pub spare : IsSpare block_bytes n logs destination
 
 -- with all records that are left, and a header for each Move, two blocks of the destination stay free
 abbrev pub HasRoomFor : ℕ → ℕ → ℕ → ℕ → Type 0
@@ -89,9 +85,7 @@ pub record IsClean (disk : MountedView) (clean : CleanView) : Type 0 where
   pub victim : is_sealed_at disk.tables.roles clean.victim ≡ true
   pub gathers : Gathers disk clean
   pub room : HasRoomFor disk.drive.geometry.capacity (batch_most disk.drive.geometry) destination.written (live disk.tables.map clean.victim)
-  pub moves : AreMoves (drive_logs disk.drive) clean.victim destination.zone
-  -- without them the array is the same, while the drive is clean: so a mount can empty the destination at any moment of a clean
-  pub spare : IsTrue disk.drive.clean → IsSpare disk.drive.geometry.block disk.tables.given (drive_logs disk.drive) destination.zone
+  pub moves : AreMoves disk.drive.geometry.block disk.tables.given (drive_logs disk.drive) clean.victim destination.zone
 
 -- there is no destination, and the next zone, if any, has two free blocks
 abbrev pub HasNoDestination : ℕ → Option Second → Type 0

@@ -1,5 +1,5 @@
 -- What a batch of the host leaves, of a drive that is cleaned in turns.
-use Rattle.std.specs.Prelude.{◌≡◌, ℕ, ◌≤◌, IsTrue, Option, Result, Ok, Err}
+use Rattle.std.specs.Prelude.{◌≡◌, ℕ, ◌≤◌, Option, Result, Ok, Err}
 use Rattle.std.specs.Option.{option_map}
 use Rattle.drive_port.specs.declared.device.Halt.{Halt}
 use Rattle.drive_port.specs.declared.device.Halt.TheVariants as halt
@@ -24,5 +24,4 @@ HostLeaves before old zone batch (Ok done) after new =
     Places before after zone batch × (new ≡ option_map (forgotten batch.heading.entries) old) × GoesOnBeside before old after new
 HostLeaves before old zone batch (Err halt.Memory) after new =
     KeepsArray before after × (new ≡ old) × GoesOnBeside before old after new × MayClose before after.tables
-HostLeaves before old zone batch (Err halt.Stopped) after new = StopsInside before after zone batch × (new ≡ old)
-    × (IsTrue after.drive.clean → IsMountable after.drive after.tables.given)
+HostLeaves before old zone batch (Err halt.Stopped) after new = StopsInside before after zone batch × (new ≡ old) × IsMountable after.drive after.tables.given

@@ -1,5 +1,5 @@
 -- How the record of a block is read from the drive, and gathered.
-use Rattle.std.specs.Prelude.{◌≡◌, ℕ, ◌+◌, ◌<◌, ◌≤◌, ◌++◌, true, IsTrue, length, List, [], ◌∷◌, Some, None, slice_index_or}
+use Rattle.std.specs.Prelude.{◌≡◌, ℕ, ◌+◌, ◌<◌, ◌≤◌, true, List, [], Some, slice_index_or}
 use Rattle.std.specs.List.{AllByRecursion}
 use Rattle.drive_port.specs.Contents.{SameContents}
 use Rattle.drive_port.specs.Drive.{DriveState}
@@ -33,31 +33,11 @@ live_record disk block at = record { block = block; content = live_content (moun
 abbrev pub data_record : MountedView → ℕ → LiveRecord
 data_record disk block = record { block = block; content = Some (slice_index_or (mounted_array disk) block []) }
 
--- The bytes that a Read put after those that were there: as long as a block, and that block's of the array while the drive is clean.
-pub record Fetched (before after : MountedView) (block : ℕ) (old new : List ℕ) : Type 0 where
-  pub got : List ℕ
-  pub joined : new ≡ old ++ got
-  pub long : length got ≡ before.drive.geometry.block
-  pub right : IsTrue after.drive.clean → got ≡ slice_index_or (mounted_array before) block []
-
--- The record of a block with data was gathered: it is as long as a block, and the array's while the drive is clean.
-pub record GathersData (before after : MountedView) (block : ℕ) (old new : List LiveRecord) : Type 0 where
-  pub got : List ℕ
-  pub records : new ≡ old ++ record { block = block; content = Some got } ∷ []
-  pub long : length got ≡ before.drive.geometry.block
-  pub right : IsTrue after.drive.clean → got ≡ slice_index_or (mounted_array before) block []
-
--- the record of a block that is at a place was gathered: that of a trim has no data
-abbrev pub GathersRecord : MountedView → MountedView → ℕ → Place → List LiveRecord → List LiveRecord → Type 0
-GathersRecord before after block (places.At address) old new = GathersData before after block old new
-GathersRecord before after block place old new = new ≡ old ++ record { block = block; content = None } ∷ []
-
 -- One Read was sent, or none: the tables, the contents and the array are the same.
 pub record OnlyReads (before after : MountedView) : Type 0 where
   pub kept : KeepsArray before after
   pub tables : after.tables ≡ before.tables
   pub same : SameContents before.drive after.drive
-  pub trusted : IsTrue after.drive.clean → IsTrue before.drive.clean
   pub completed : after.drive.completed ≤ before.drive.completed + 1
 
 -- why a record is not read

@@ -1,5 +1,5 @@
 -- When a clean starts, and what a turn and a whole clean leave.
-use Rattle.std.specs.Prelude.{◌≡◌, ℕ, zero, suc, ◌+◌, ◌≤◌, ◌<◌, Bool, true, false, IsTrue, map, Option, Some, None, is_some, Result, Ok, Err, IfErr}
+use Rattle.std.specs.Prelude.{◌≡◌, ℕ, zero, suc, ◌+◌, ◌≤◌, ◌<◌, Bool, true, false, map, Option, Some, None, is_some, Result, Ok, Err, IfErr}
 use Rattle.zone_states.specs.declared.geometry.Geometry.{Geometry}
 use Rattle.drive_port.specs.Drive.{DriveState}
 use Rattle.logical_map.specs.Live.{live}
@@ -105,9 +105,8 @@ trims (places.At address) = Some false
 -- trimmed stays so. Only Moves are written; no command is refused, and the next sequence rises by one with each batch
 -- that is appended.
 pub record KeepsByCleaning (before after : MountedView) : Type 0 where
-  pub trusted : IsTrue after.drive.clean → IsTrue before.drive.clean
-  pub mountable : IsTrue after.drive.clean → IsMountable after.drive after.tables.given
-  pub array : IsTrue after.drive.clean → mounted_array after ≡ mounted_array before
+  pub mountable : IsMountable after.drive after.tables.given
+  pub array : mounted_array after ≡ mounted_array before
   pub moves : OnlyMoves (drive_logs before.drive) (drive_logs after.drive)
   pub size : size_of after.tables ≡ size_of before.tables
   pub trimmed : map trims after.tables.map.places ≡ map trims before.tables.map.places

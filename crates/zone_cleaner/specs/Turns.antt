@@ -1,13 +1,12 @@
 -- What each turn of a clean does.
 use Rattle.std.specs.List.{AllByRecursion}
-use Rattle.std.specs.Prelude.{◌≡◌, ◌⊎◌, ℕ, suc, ◌+◌, ◌<◌, ◌≤◌, nat_lt, if◌then◌else◌, true, IsTrue, List, [], ◌∷◌, ◌++◌, length, slice_index_or, Option, Some, None, Result, Ok, Err}
+use Rattle.std.specs.Prelude.{◌≡◌, ◌⊎◌, ℕ, suc, ◌+◌, ◌<◌, ◌≤◌, nat_lt, if◌then◌else◌, true, List, [], ◌∷◌, ◌++◌, length, Option, Some, None, Result, Ok, Err}
 use Rattle.drive_port.specs.declared.device.Halt.{Halt}
 use Rattle.drive_port.specs.declared.device.Halt.TheVariants as halt
 use Rattle.batch_log.specs.declared.header.Kind.TheVariants as kinds
 use Rattle.batch_log.specs.Log.{Batch}
 use Rattle.logical_map.specs.Live.{first_record}
 use Rattle.logical_map.specs.declared.place.Place.{Place}
-use Rattle.logical_map.specs.declared.place.Place.TheVariants as places
 use Rattle.zone_choice.specs.declared.roles.Filling.{Filling}
 use Rattle.zone_choice.specs.declared.roles.Second.TheVariants.{Destination}
 use Rattle.zone_choice.specs.Agreement.{Agrees, MountedView, mounted_array}
@@ -23,7 +22,7 @@ use Rattle.zone_cleaner.specs.declared.step.Step.TheVariants.{Gather, Move, Rese
 use Rattle.zone_cleaner.specs.declared.fault.CleanFault.{CleanFault}
 use Rattle.zone_cleaner.specs.declared.fault.CleanFault.TheVariants as faults
 use Rattle.zone_cleaner.specs.Clean.{CleanView, IsClean, destination_written}
-use Rattle.zone_cleaner.specs.LiveRecords.{LiveRecord, gathered_move}
+use Rattle.zone_cleaner.specs.LiveRecords.{LiveRecord, live_content, gathered_move}
 
 -- ---- which step is next
 
@@ -66,8 +65,7 @@ pub record MovesRecords (before : MountedView) (clean : CleanView) (after : Moun
   pub destination : Filling
   pub second : before.tables.roles.second ≡ Some (Destination destination)
   pub places : Places before after destination.zone (gathered_move (size_of before.tables) before.tables.next clean.victim clean.gathered)
-  pub trusted : IsTrue after.drive.clean → IsTrue before.drive.clean
-  pub array : IsTrue after.drive.clean → mounted_array after ≡ mounted_array before
+  pub array : mounted_array after ≡ mounted_array before
 
 -- the victim is empty, the destination is the next host zone, and the array is the same
 pub record EmptiesVictim (before after : MountedView) (victim : ℕ) : Type 0 where
@@ -82,27 +80,10 @@ pub record EmptiesVictim (before after : MountedView) (victim : ℕ) : Type 0 wh
   pub refused : after.drive.refused ≡ before.drive.refused
   pub durable : after.drive.durable ≡ before.drive.durable
   pub appended : after.drive.appended ≡ before.drive.appended
-  pub trusted : IsTrue after.drive.clean → IsTrue before.drive.clean
-
--- What was read of a block at a place: nothing of a trim; else as many bytes as a block has, and those of the array while the drive is clean.
-abbrev pub IsRead : MountedView → MountedView → ℕ → Place → Option (List ℕ) → Type 0
-IsRead before after block (places.At address) None = ⊥
-IsRead before after block (places.At address) (Some got) =
-    (length got ≡ before.drive.geometry.block) × (IsTrue after.drive.clean → got ≡ slice_index_or (mounted_array before) block [])
-IsRead before after block place content = content ≡ None
-
--- one Read was sent at most, and the record that it tells was gathered
-pub record GathersOne (before : MountedView) (clean : CleanView) (block : ℕ) (place : Place) (after : MountedView) (new : Option CleanView) : Type 0 where
-  pub kept : KeepsArray before after
-  pub tables : after.tables ≡ before.tables
-  pub trusted : IsTrue after.drive.clean → IsTrue before.drive.clean
-  pub content : Option (List ℕ)
-  pub read : IsRead before after block place content
-  pub clean_is : new ≡ Some (with_record clean block content)
 
 abbrev pub StepDone : Step → MountedView → CleanView → MountedView → Option CleanView → Type 0
 StepDone (Gather block place) before clean after new =
-    GathersOne before clean block place after new
+    KeepsArray before after × (after.tables ≡ before.tables) × (new ≡ Some (with_record clean block (live_content (mounted_array before) block place)))
 StepDone Move before clean after new = MovesRecords before clean after × (new ≡ Some (after_move clean))
 StepDone Reset before clean after new = EmptiesVictim before after clean.victim × (new ≡ None)
 
@@ -125,9 +106,8 @@ MayClose before after = (after ≡ before.tables) ⊎ ((before.drive.geometry.op
 pub record StopsClean (before after : MountedView) : Type 0 where
   pub stopped : after.drive.stopped ≡ true
   pub moves : OnlyMoves (drive_logs before.drive) (drive_logs after.drive)
-  pub trusted : IsTrue after.drive.clean → IsTrue before.drive.clean
-  pub mountable : IsTrue after.drive.clean → IsMountable after.drive after.tables.given
-  pub array : IsTrue after.drive.clean → mounted_array after ≡ mounted_array before
+  pub mountable : IsMountable after.drive after.tables.given
+  pub array : mounted_array after ≡ mounted_array before
   pub tables : MayClose before after.tables
   pub geometry : after.drive.geometry ≡ before.drive.geometry
   pub refused : after.drive.refused ≡ before.drive.refused
@@ -137,8 +117,7 @@ pub record StopsClean (before after : MountedView) : Type 0 where
 -- What a step leaves that was not done, by its fault. Out of memory, the array is the same. Only a Move needs a
 -- sequence; if none is left for it, nothing was sent.
 abbrev pub StepFails : Step → CleanFault → MountedView → MountedView → Type 0
-StepFails step faults.OutOfMemory before after =
-    KeepsArray before after × MayClose before after.tables × (IsTrue after.drive.clean → IsTrue before.drive.clean)
+StepFails step faults.OutOfMemory before after = KeepsArray before after × MayClose before after.tables
 StepFails step faults.Stopped before after = StopsClean before after
 StepFails Move faults.Spent before after = (after ≡ before) × (sequence_end before.drive.geometry ≤ before.tables.next)
 StepFails step faults.Spent before after = ⊥

@@ -9,12 +9,12 @@ ghost use Rattle.zone_cleaner.specs.Answering.{GatherAnswers};
 ghost use Rattle.zone_cleaner.specs.Gathered.{AreOfLength, AreWithin, stored_bytes, data_bytes, entries_for, entry_for};
 ghost use Rattle.zone_cleaner.specs.Moving.{HoldsMove, headed_bytes, heading_for, move_with};
 ghost use Rattle.zone_cleaner.specs.LiveRecords.{gathered_data, trim_record, without_all, without_block};
-ghost use Rattle.zone_cleaner.specs.Reading.{CanGather, IsGatherFault, IsStoredAt, OnlyReads, Fetched, GathersData};
+ghost use Rattle.zone_cleaner.specs.Reading.{CanGather, IsGatherFault, IsStoredAt, OnlyReads, data_record, live_record};
 ghost use Rattle.zone_cleaner.specs.Turns.{clean_fault};
 
 use crate::fault::CleanFault;
 use batch_log::{Entry, Kind};
-use drive_port::{Device, Halt};
+use drive_port::{Device, Halt, Honest};
 use indexmap::IndexMap;
 use logical_map::Place;
 use std::alloc::{AllocError, Global};
@@ -79,7 +79,7 @@ pub fn fault_of(halt: Halt) -> CleanFault
 }
 
 /// Reads the data of a block from its address, and adds it to a batch.
-fn fetch<D: Device>(
+fn fetch<D: Device + Honest>(
     batch: &mut BatchBuilder,
     disk: &mut Mounted<D>,
     block: u32,
@@ -90,7 +90,10 @@ fn fetch<D: Device>(
     ensures reads { OnlyReads disk.old disk.new }
     ensures heading { batch.new.heading ≡ batch.old.heading }
     // Done, the block's bytes follow the bytes that the batch had.
-    ensures ok { OnOk result (Fetched disk.old disk.new block batch.old.bytes batch.new.bytes) }
+    ensures ok { OnOk result
+        (batch.new.bytes ≡ batch.old.bytes ++ slice_index_or (mounted_array disk.old) block []) }
+    ensures length { OnOk result
+        (length batch.new.bytes ≡ length batch.old.bytes + disk.old.drive.geometry.block) }
     // Refused, the bytes are the same. It is out of memory, or the drive has stopped.
     ensures failed { OnErr result (batch.new.bytes ≡ batch.old.bytes) }
     ensures err { IfErr result (IsGatherFault disk.new.drive) }
@@ -98,6 +101,7 @@ fn fetch<D: Device>(
     if let Err(fault) = batch.read(&mut disk.device, address) {
         return Err(fault_of(halt_of(fault)));
     }
+    disk.device.vouch();
     Ok(())
 }
 
@@ -148,7 +152,7 @@ impl Gathered {
 
     /// Adds a record with data, which is read from an address. Its block is greater than those
     /// that are gathered. If it runs out of memory, the drive may have completed a Read.
-    fn read<D: Device>(
+    fn read<D: Device + Honest>(
         &mut self,
         disk: &mut Mounted<D>,
         block: u32,
@@ -159,7 +163,7 @@ impl Gathered {
         ensures reads { OnlyReads disk.old disk.new }
         // Done, the record is the last one. Refused, the records are the same, and the fault has its cause.
         ensures ok { OnOk result
-            (GathersData disk.old disk.new block self.old.records self.new.records) }
+            (self.new.records ≡ self.old.records ++ data_record disk.old block ∷ []) }
         ensures failed { OnErr result (self.new.records ≡ self.old.records) }
         ensures err { IfErr result (IsGatherFault disk.new.drive) }
     {
@@ -175,14 +179,14 @@ impl Gathered {
 
     /// Gathers the record of a block, which is at this place. The block is greater than those that
     /// are gathered.
-    pub fn gather<D: Device>(
+    pub fn gather<D: Device + Honest>(
         &mut self,
         disk: &mut Mounted<D>,
         block: u32,
         place: Place,
     ) -> Result<(), CleanFault>
         requires { CanGather disk.old block place self.old.records }
-        ensures { GatherAnswers disk.old self.old.records block place result
+        ensures { GatherAnswers disk.old self.old.records (live_record disk.old block place) result
             disk.new self.new.records }
     {
         if let Place::At(address) = place {

@@ -18,7 +18,7 @@ use disk_jobs::{
     Counted, Explained, Gate, Habit, JobInput, LineCount, ProgramFault, Stop, Watched, run_told,
 };
 use disk_runs::{RunFault, Taking};
-use drive_port::{Device, Geometry};
+use drive_port::{Device, Geometry, Honest};
 use nbd_jobs::NbdJob;
 use nbd_session::{Medium, WriteThrough};
 use nvme_wire::ZoneState;
@@ -158,7 +158,7 @@ fn run_end(ran: Result<(), RunFault>, geometry: &Geometry) -> Result<(), Program
 }
 
 /// Answers a trace over a drive. Its lines are on standard input. The drive is given back.
-fn answer_lines<R: Eprint + Input, D: Device + Drop, W: Write>(
+fn answer_lines<R: Eprint + Input, D: Device + Honest + Drop, W: Write>(
     rt: &R,
     alloc: Global,
     drive: D,
@@ -332,7 +332,7 @@ fn do_nvme<R: Eprint + Input, D: Devices, W: Write>(
 }
 
 /// Serves a drive on the standard streams.
-fn serve<R: Input + Print, D: Device + Drop, M: Medium + Drop>(
+fn serve<R: Input + Print, D: Device + Honest + Drop, M: Medium + Drop>(
     rt: &R,
     alloc: Global,
     job: &NbdJob,
@@ -453,7 +453,7 @@ fn do_plan<R: Eprint, D: Devices, W: Write>(
 }
 
 /// Writes blocks of a drive to standard output.
-fn export<R: Eprint + Print, D: Device + Drop>(
+fn export<R: Eprint + Print, D: Device + Honest + Drop>(
     rt: &R,
     alloc: Global,
     drive: D,
@@ -466,7 +466,7 @@ fn export<R: Eprint + Print, D: Device + Drop>(
 }
 
 /// Writes blocks of standard input to a drive, which is given back.
-fn import<R: Eprint + Input, D: Device + Drop>(
+fn import<R: Eprint + Input, D: Device + Honest + Drop>(
     rt: &R,
     alloc: Global,
     drive: D,

@@ -1,5 +1,5 @@
 use Rattle.std.proofs.Common.{◌∙◌, ◌++◌, List, ℕ, ap}
-use Rattle.zone_cleaner.proofs.FetchLaws.{fetch_halts, fetch_reads, fetch_shown, fetched}
+use Rattle.zone_cleaner.proofs.FetchLaws.{fetch_halts, fetch_reads, fetch_shown}
 use Rattle.zone_cleaner.proofs.gathered.fetch.Goals as goal
 
 pub halt_of-requires : goal.halt_of-requires
@@ -18,11 +18,9 @@ pub returns-clause-reads : goal.returns-clause-reads
 returns-clause-reads g c =
     let stored = rw (← c.disk.view_is) at c.requires in
     let e = c.in_default.ensures.read in
-    rw (← c.disk.view_is) (fetch_reads _ _ c.disk.inside.tables _ _ stored e.kept.contents e.kept.closing e.obeys.lawful e.obeys.durable e.shown.counts e.obeys.trusted)
+    rw (← c.disk.view_is) (fetch_reads _ _ c.disk.inside.tables _ _ stored e.kept.contents e.kept.closing e.obeys.lawful e.obeys.durable e.shown.counts)
 
 pub returns-clause-ok : goal.returns-clause-ok
 returns-clause-ok g c =
     let stored = rw (← c.disk.view_is) at c.requires in
-    let read = c.in_default.ensures.read in
-    let shown = fetch_shown (g.D.Device.drive c.disk.inside.device) c.disk.inside.tables c.args.block c.args.address stored in
-    rw (← c.disk.view_is) (fetched (g.D.Device.drive c.disk.inside.device) _ c.disk.inside.tables c.args.block c.args.address c.args.batch.now.bytes _ read.gives.returned read.gives.joined read.shown shown)
+    rw (← c.disk.view_is) (c.in_default.ensures.read.shown.bytes ∙ ap (λ (bytes : List ℕ). c.args.batch.now.bytes ++ bytes) (fetch_shown (g.D.Device.drive c.disk.inside.device) c.disk.inside.tables c.args.block c.args.address stored))

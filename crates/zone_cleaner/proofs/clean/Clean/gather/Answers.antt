@@ -1,6 +1,6 @@
 use Rattle.std.proofs.Common.{ap, arith, refl}
 use Rattle.zone_cleaner.proofs.BuildLaws.{data-whole}
-use Rattle.zone_cleaner.proofs.FailLaws.{gathers-one, next_record, read_fails}
+use Rattle.zone_cleaner.proofs.FailLaws.{next_record, read_fails}
 use Rattle.zone_cleaner.proofs.clean.Clean.gather.Goals as goal
 
 pub gather-requires : goal.gather-requires
@@ -16,12 +16,7 @@ gather-requires g c =
 pub returns-in-Err-clause-leaves : goal.returns-in-Err-clause-leaves
 returns-in-Err-clause-leaves g c =
     let reads = c.in-Err.ensures.reads in
-    (read_fails c.args.disk.now c.gather.new.disk c.args.self.now c.args.block c.args.place c.in-Err.fault c.requires.agrees c.requires.clean_is reads.kept reads.trusted reads.tables c.in-Err.ensures.err, rw (c.in-Err.ensures.failed, ← c.self.view_is) refl)
+    (read_fails c.args.disk.now c.gather.new.disk c.args.self.now c.args.block c.args.place c.in-Err.fault c.requires.agrees c.requires.clean_is reads.kept reads.tables c.in-Err.ensures.err, rw (c.in-Err.ensures.failed, ← c.self.view_is) refl)
 
 pub overflow_add-self : goal.overflow_add-self
 overflow_add-self g c = omega (arith, (next_record c.args.disk.now c.args.self.now c.args.block c.args.place c.requires.agrees c.requires.clean_is c.requires.due).few)
-
-pub returns-clause-leaves : goal.returns-clause-leaves
-returns-clause-leaves g c =
-    let reads = c.in_default.ensures.reads in
-    rw (← c.self.view_is) (gathers-one c.args.disk.now c.gather.new.disk _ c.args.block c.args.place c.gather.new.self.records reads.kept reads.tables reads.trusted c.in_default.ensures.ok)
