@@ -103,6 +103,6 @@ impl<D: Device + Drop> Device for Tally<D> {
 
 impl<D: Device + Honest + Drop> Honest for Tally<D> {
     fn vouch(&self) {
-        self.device.vouch();
+        self.counter.vouch();
     }
 }

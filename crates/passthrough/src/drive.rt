@@ -1,6 +1,6 @@
 // The device.
 
-ghost use Rattle.std.specs.Prelude.{◌≡◌, [], Some, false, IfErr, IfOk, OnErr, OnOk};
+ghost use Rattle.std.specs.Prelude.{◌≡◌, [], Some, false, true, IfErr, IfOk, OnErr, OnOk};
 ghost use Rattle.nvme_wire.specs.Entry.{decode_of};
 ghost use Rattle.zone_states.specs.Checks.{first_failing};
 ghost use Rattle.zone_states.specs.Geometry.{geometry_checks};
