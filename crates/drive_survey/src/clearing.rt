@@ -75,10 +75,12 @@ fn examine_by<D: Device>(
 ) -> Result<Finding, MountFault>
     // The report is true of all zones, and the candidates fit the survey.
     requires zones { AreKnown (D.drive device.old) survey.now.zones.items }
-    requires sizes { IsTrue (D.drive device.old).clean → candidates.now.sizes ≡ size_counts survey.now.size (heads_in survey.now.scanned.items) }
+    requires sizes { IsTrue (D.drive device.old).clean
+        → candidates.now.sizes ≡ size_counts survey.now.size (heads_in survey.now.scanned.items) }
     requires few { AreFew survey.now.scanned.items candidates.now.records }
     // Done, the finding is right, if the table holds the records of all blocks that the zone names.
-    ensures ok { IsTrue (D.drive device.new).clean → IfOk result (TellsFinding (D.drive device.old) survey.now.given survey.now
+    ensures ok { IsTrue (D.drive device.new).clean
+        → IfOk result (TellsFinding (D.drive device.old) survey.now.given survey.now
         candidates.now.records zone) }
     // A zone that is found half clean has a header.
     ensures some { IfOk result (λ finding. finding ≡ HalfClean → HasHeads survey.now.scanned.items zone) }
@@ -111,7 +113,8 @@ pub fn examine_zone<D: Device>(
 ) -> Result<Finding, MountFault>
     requires zones { AreKnown (D.drive device.old) survey.now.zones.items }
     // Done, the finding is right for the batches whose headers the survey keeps.
-    ensures ok { IsTrue (D.drive device.new).clean → IfOk result (FindsOf (D.drive device.old) survey.now.given survey.now zone) }
+    ensures ok { IsTrue (D.drive device.new).clean
+        → IfOk result (FindsOf (D.drive device.old) survey.now.given survey.now zone) }
     // It fails only if the drive stops or memory runs out.
     ensures err { IfErr result (IsInterruption (D.drive device.new)) }
     // Whatever it answers, no command was refused, and the zones hold what they held.
@@ -194,11 +197,13 @@ fn next_half_clean<D: Device>(
 ) -> Result<Option<u32>, MountFault>
     // The report is true of all zones, and the candidates fit the survey.
     requires zones { AreKnown (D.drive device.old) survey.now.zones.items }
-    requires sizes { IsTrue (D.drive device.old).clean → candidates.old.sizes ≡ size_counts survey.now.size (heads_in survey.now.scanned.items) }
+    requires sizes { IsTrue (D.drive device.old).clean
+        → candidates.old.sizes ≡ size_counts survey.now.size (heads_in survey.now.scanned.items) }
     requires few { AreFew survey.now.scanned.items candidates.old.records }
     // Done, it is the lowest half clean zone or none, provided that each of them waited. The others wait still.
     ensures some { IfOk result (λ found. IfSome found (HasHeads survey.now.scanned.items)) }
-    ensures ok { IsTrue (D.drive device.new).clean → IfOk result (FindsLowestWaiting (D.drive device.old) survey.now.given survey.now candidates.old) }
+    ensures ok { IsTrue (D.drive device.new).clean
+        → IfOk result (FindsLowestWaiting (D.drive device.old) survey.now.given survey.now candidates.old) }
     ensures others { IsTrue (D.drive device.new).clean → IfOk result (λ found. IfSome found
         (LeavesWaiting (D.drive device.old) survey.now.given survey.now candidates.old candidates.new)) }
     // It fails only if the drive stops or memory runs out. Records and counts stay, and zones hold what they held.
@@ -339,12 +344,15 @@ fn clear_moved<D: Device>(
     requires zones { AreKnown (D.drive device.old) survey.old.zones.items }
     requires scanned { length survey.old.scanned.items ≡ length survey.old.zones.items }
     // Whatever the Reads returned, these are zones, and the survey has as many as before.
-    ensures inside { IfOk result (λ resets. AllByRecursion (λ zone. zone < length survey.old.zones.items) resets.items) }
+    ensures inside { IfOk result (λ resets.
+        AllByRecursion (λ zone. zone < length survey.old.zones.items) resets.items) }
     ensures scanned { OnOk result (length survey.new.scanned.items ≡ length survey.old.scanned.items) }
     // Done, no zone is half clean once these are emptied, and the survey knows the drive without their batches.
-    ensures clearing { IsTrue (D.drive device.new).clean → IfOk result (λ resets. IsClearing (D.drive device.old).geometry.block survey.old.given
+    ensures clearing { IsTrue (D.drive device.new).clean
+        → IfOk result (λ resets. IsClearing (D.drive device.old).geometry.block survey.old.given
         (drive_logs (D.drive device.old)) resets.items) }
-    ensures known { IsTrue (D.drive device.new).clean → IfOk result (λ resets. Knows (D.drive device.new) survey.old.given
+    ensures known { IsTrue (D.drive device.new).clean
+        → IfOk result (λ resets. Knows (D.drive device.new) survey.old.given
         (cleared (drive_logs (D.drive device.old)) resets.items) survey.new) }
     // It fails only if the drive stops or memory runs out. The report is the same, and zones hold what they held.
     ensures err { IfErr result (IsInterruption (D.drive device.new)) }
@@ -382,15 +390,19 @@ pub fn clear_zones<D: Device>(
     requires zones { AreKnown (D.drive device.old) survey.old.zones.items }
     requires scanned { length survey.old.scanned.items ≡ length survey.old.zones.items }
     // Whatever the Reads returned, these are zones, and the survey has as many as before.
-    ensures inside { IfOk result (λ resets. AllByRecursion (λ zone. zone < length survey.old.zones.items) resets.items) }
+    ensures inside { IfOk result (λ resets.
+        AllByRecursion (λ zone. zone < length survey.old.zones.items) resets.items) }
     ensures scanned { OnOk result (length survey.new.scanned.items ≡ length survey.old.scanned.items) }
     // Done, no zone is half clean once these are emptied, and the survey knows the drive without their batches.
-    ensures clearing { IsTrue (D.drive device.new).clean → IfOk result (λ resets. IsClearing (D.drive device.old).geometry.block survey.old.given
+    ensures clearing { IsTrue (D.drive device.new).clean
+        → IfOk result (λ resets. IsClearing (D.drive device.old).geometry.block survey.old.given
         (drive_logs (D.drive device.old)) resets.items) }
-    ensures known { IsTrue (D.drive device.new).clean → IfOk result (λ resets. Knows (D.drive device.new) survey.old.given
+    ensures known { IsTrue (D.drive device.new).clean
+        → IfOk result (λ resets. Knows (D.drive device.new) survey.old.given
         (cleared (drive_logs (D.drive device.old)) resets.items) survey.new) }
     // It fails if no zone is vacant or half clean. Else it fails only if the drive stops or memory runs out.
-    ensures spare { IsTrue (D.drive device.new).clean → OnOk result (HasSpare (D.drive device.old).geometry.block survey.old.given
+    ensures spare { IsTrue (D.drive device.new).clean
+        → OnOk result (HasSpare (D.drive device.old).geometry.block survey.old.given
         (drive_logs (D.drive device.old))) }
     ensures err { IsTrue (D.drive device.new).clean → IfErr result (FailsBy (λ fault. (fault ≡ NoSpare)
         × (HasSpare (D.drive device.old).geometry.block survey.old.given (drive_logs (D.drive device.old)) → ⊥))

@@ -1,4 +1,4 @@
-//! The same calls of a device that is always clean: what they promise while the drive is clean, they always promise here.
+//! The same calls of a device that is always clean: what is promised while the drive is clean, is always promised here.
 
 ghost use Rattle.std.specs.Prelude.{◌≡◌, ◌+◌, ◌≤◌, IfErr, IfOk};
 ghost use Rattle.drive_port.specs.Contents.{content_at, contents};

@@ -150,7 +150,8 @@ pub fn survey_drive<D: Device>(
     // Whatever the Reads returned, the report is true of all zones, and the zones were looked at.
     ensures reported { IfOk result (Reports (D.drive device.old) (D.drive device.new) given) }
     // A fault is the first that a survey meets, unless the drive stops or memory runs out.
-    ensures err { IsTrue (D.drive device.new).clean → IfErr result (FailsBy (SurveyFails (D.drive device.old) given) (D.drive device.new)) }
+    ensures err { IsTrue (D.drive device.new).clean
+        → IfErr result (FailsBy (SurveyFails (D.drive device.old) given) (D.drive device.new)) }
     // Whatever it answers, zones hold what they held. Nothing is sent if the geometry or the number is out of range.
     ensures kept { KeepsZones (D.drive device.old) (D.drive device.new) }
     ensures unsent { (MayAsk (D.drive device.old) given → ⊥) → D.drive device.new ≡ D.drive device.old }

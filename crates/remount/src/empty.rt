@@ -60,7 +60,8 @@ fn reset_zones<D: Device>(
     // It fails only if the drive stops or memory runs out. A drive that can be mounted stays so, with the same array.
     ensures err { IfErr result (IsInterruption (D.drive device.new)) }
     ensures stays { Stays (D.drive device.old) (D.drive device.new) }
-    ensures kept { IsTrue (D.drive device.new).clean → KeepsMountable survey.old.given (D.drive device.old) (D.drive device.new) }
+    ensures kept { IsTrue (D.drive device.new).clean
+        → KeepsMountable survey.old.given (D.drive device.old) (D.drive device.new) }
 {
     for zone in zones {
         reset_zone(alloc, device, survey, *zone)?;
@@ -79,18 +80,22 @@ pub(crate) fn empty_zones<D: Device>(
     requires fits { Fits (D.drive device.old) survey.old }
     requires vacant { AllByRecursion (λ zone. zone < length survey.old.zones.items) plan.now.vacant.items }
     requires half_clean { AllByRecursion (λ zone. zone < length survey.old.zones.items) plan.now.half_clean.items }
-    requires planned { IsTrue (D.drive device.old).clean → IsPlanned (D.drive device.old) survey.old.given survey.old plan.now }
+    requires planned { IsTrue (D.drive device.old).clean
+        → IsPlanned (D.drive device.old) survey.old.given survey.old plan.now }
     // Done, no zone is half clean any more, and each zone without a batch is Empty.
     ensures fits { OnOk result (Fits (D.drive device.new) survey.new) }
-    ensures cleared { IsTrue (D.drive device.new).clean → OnOk result (IsCleared (D.drive device.new) survey.old.given survey.new) }
+    ensures cleared { IsTrue (D.drive device.new).clean
+        → OnOk result (IsCleared (D.drive device.new) survey.old.given survey.new) }
     // Each zone that has a batch holds what it held. No zone was opened, or is newly noted as open.
-    ensures left { IsTrue (D.drive device.new).clean → OnOk result (LeavesEmptied (D.drive device.old) (D.drive device.new) plan.now.half_clean.items) }
+    ensures left { IsTrue (D.drive device.new).clean
+        → OnOk result (LeavesEmptied (D.drive device.old) (D.drive device.new) plan.now.half_clean.items) }
     ensures noted { OnOk result (NotesNoneOpen survey.old.zones.items survey.new.zones.items) }
     // It fails only if the drive stops or memory runs out.
     ensures err { IfErr result (IsInterruption (D.drive device.new)) }
     ensures stays { Stays (D.drive device.old) (D.drive device.new) }
-    // Whatever it answers, no command was refused. The drive can still be mounted, with the same array.
-    ensures kept { IsTrue (D.drive device.new).clean → KeepsMountable survey.old.given (D.drive device.old) (D.drive device.new) }
+    // Whatever it answers, while the drive is clean no command was refused, and it can be mounted, with the same array.
+    ensures kept { IsTrue (D.drive device.new).clean
+        → KeepsMountable survey.old.given (D.drive device.old) (D.drive device.new) }
 {
     reset_zones(alloc, device, survey, &plan.vacant)?;
     reset_zones(alloc, device, survey, &plan.half_clean)

@@ -26,8 +26,9 @@ pub(crate) fn finish_zone<D: Device>(
     // Done, if the report is true of all zones, the zone is Full, and the survey says so. Nothing else has changed.
     ensures ok { AreKnown (D.drive device.old) survey.old.zones.items
         → OnOk result (FinishesOne (D.drive device.old) (D.drive device.new) survey.old survey.new zone) }
-    // Then it fails only if the drive stops or memory runs out. At most this zone was finished, and nothing was refused.
-    ensures err { AreKnown (D.drive device.old) survey.old.zones.items → IfErr result (IsInterruption (D.drive device.new)) }
+    // Then it fails only if the drive stops or memory runs out. At most this zone was finished, nothing was refused.
+    ensures err { AreKnown (D.drive device.old) survey.old.zones.items
+        → IfErr result (IsInterruption (D.drive device.new)) }
     ensures kept { AreKnown (D.drive device.old) survey.old.zones.items
         → MayChange (λ old new. Finishes old new zone) (D.drive device.old) (D.drive device.new) }
     ensures stays { Stays (D.drive device.old) (D.drive device.new) }
@@ -67,7 +68,8 @@ fn finish_if_due<D: Device>(
     ensures ok { AreKnown (D.drive device.old) survey.old.zones.items
         → OnOk result (FinishesIf (D.drive device.old) (D.drive device.new) survey.old survey.new zone) }
     // Then it fails only if the drive stops or memory runs out. At most this zone was finished, and only if due.
-    ensures err { AreKnown (D.drive device.old) survey.old.zones.items → IfErr result (IsInterruption (D.drive device.new)) }
+    ensures err { AreKnown (D.drive device.old) survey.old.zones.items
+        → IfErr result (IsInterruption (D.drive device.new)) }
     ensures kept { AreKnown (D.drive device.old) survey.old.zones.items → MayChange (λ old new. Finishes old new zone
         × IsTested (D.drive device.old).geometry.capacity
         (batch_most (D.drive device.old).geometry) survey.old zone true) (D.drive device.old) (D.drive device.new) }
@@ -95,17 +97,22 @@ pub(crate) fn finish_zones<D: Device>(
     requires scanned { length survey.old.scanned.items ≡ length survey.old.zones.items }
     requires untorn { IsTrue (D.drive device.old).clean → IsUntorn (D.drive device.old) survey.old.given survey.old }
     // Done, a disk can serve the drive, and continue with each zone that is partly written.
-    ensures repaired { IsTrue (D.drive device.new).clean → OnOk result (IsRepaired (D.drive device.new) survey.old.given survey.new) }
+    ensures repaired { IsTrue (D.drive device.new).clean
+        → OnOk result (IsRepaired (D.drive device.new) survey.old.given survey.new) }
     // No batch has changed. Zones that a disk continues with hold what they held, and no zone was opened.
-    ensures logs { IsTrue (D.drive device.new).clean → OnOk result (drive_logs (D.drive device.new) ≡ drive_logs (D.drive device.old)) }
-    ensures needed { IsTrue (D.drive device.new).clean → OnOk result (FinishesNeeded (D.drive device.old) (D.drive device.new)) }
-    ensures noted { IsTrue (D.drive device.new).clean → OnOk result (NotesNoneOpen survey.old.zones.items survey.new.zones.items) }
+    ensures logs { IsTrue (D.drive device.new).clean
+        → OnOk result (drive_logs (D.drive device.new) ≡ drive_logs (D.drive device.old)) }
+    ensures needed { IsTrue (D.drive device.new).clean
+        → OnOk result (FinishesNeeded (D.drive device.old) (D.drive device.new)) }
+    ensures noted { IsTrue (D.drive device.new).clean
+        → OnOk result (NotesNoneOpen survey.old.zones.items survey.new.zones.items) }
     // While the drive is clean it fails only if the drive stops or memory runs out.
     ensures err { IsTrue (D.drive device.new).clean → IfErr result (IsInterruption (D.drive device.new)) }
-    // Whatever it answers, no command was refused. The drive can still be mounted, with the same array.
+    // Whatever it answers, while the drive is clean no command was refused, and it can be mounted, with the same array.
     ensures stays { Stays (D.drive device.old) (D.drive device.new) }
     ensures count { SameLengths survey.old survey.new }
-    ensures kept { IsTrue (D.drive device.new).clean → KeepsMountable survey.old.given (D.drive device.old) (D.drive device.new) }
+    ensures kept { IsTrue (D.drive device.new).clean
+        → KeepsMountable survey.old.given (D.drive device.old) (D.drive device.new) }
 {
     let _size = device.geometry().size;
     for zone in 0..survey.zones.len() {

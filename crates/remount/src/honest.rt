@@ -1,4 +1,4 @@
-//! The same calls of a device that is always clean: what they promise while the drive is clean, they always promise here.
+//! The same calls of a device that is always clean: what is promised while the drive is clean, is always promised here.
 
 ghost use Rattle.std.specs.Prelude.{◌≡◌, ◌≢◌, ◌⊎◌, IfErr, IfOk, OnOk};
 ghost use Rattle.drive_array.specs.ZoneLogs.{drive_logs};

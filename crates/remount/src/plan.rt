@@ -78,13 +78,16 @@ pub fn plan_mount<D: Device>(
     requires can { CanScan (D.drive device.old) survey.old.given }
     // Done, the drive can be mounted, and the plan says what is to be done to it. The report is the same.
     ensures fits { OnOk result (Fits (D.drive device.new) survey.new) }
-    ensures inside { IfOk result (λ plan. AllByRecursion (λ zone. zone < length survey.old.zones.items) plan.vacant.items
+    ensures inside { IfOk result (λ plan.
+        AllByRecursion (λ zone. zone < length survey.old.zones.items) plan.vacant.items
         × AllByRecursion (λ zone. zone < length survey.old.zones.items) plan.half_clean.items) }
     ensures listed { IfOk result (λ plan. IfSome plan.repair (IsListed (length survey.new.zones.items))) }
-    ensures ok { IsTrue (D.drive device.new).clean → IfOk result (IsPlanned (D.drive device.new) survey.old.given survey.new) }
+    ensures ok { IsTrue (D.drive device.new).clean
+        → IfOk result (IsPlanned (D.drive device.new) survey.old.given survey.new) }
     ensures zones { OnOk result (survey.new.zones ≡ survey.old.zones) }
     // A fault says why the drive cannot be cleared or repaired, unless it stops or memory runs out.
-    ensures err { IsTrue (D.drive device.new).clean → IfErr result (FailsBy (PlanFails (D.drive device.old) survey.old.given) (D.drive device.new)) }
+    ensures err { IsTrue (D.drive device.new).clean
+        → IfErr result (FailsBy (PlanFails (D.drive device.old) survey.old.given) (D.drive device.new)) }
     // Whatever it answers, no command was refused, and the zones hold what they held.
     ensures kept { KeepsZones (D.drive device.old) (D.drive device.new) }
 {

@@ -48,20 +48,24 @@ pub fn repair_zone<D: Device>(
         → IsRepairPlan (D.drive device.old).geometry survey.old.given (drive_logs (D.drive device.old))
         (zone_tails (contents (D.drive device.old).zones)) repair.now }
     // Done, no zone is torn. What was live in the torn zone is in the Moves, and the zone has no batch.
-    ensures untorn { IsTrue (D.drive device.new).clean → OnOk result (IsUntorn (D.drive device.new) survey.old.given survey.new) }
-    ensures repaired { IsTrue (D.drive device.new).clean → OnOk result (RepairsTorn (D.drive device.old).geometry survey.old.given
+    ensures untorn { IsTrue (D.drive device.new).clean
+        → OnOk result (IsUntorn (D.drive device.new) survey.old.given survey.new) }
+    ensures repaired { IsTrue (D.drive device.new).clean
+        → OnOk result (RepairsTorn (D.drive device.old).geometry survey.old.given
         (drive_logs (D.drive device.old)) repair.now.zone (drive_logs (D.drive device.new))) }
     // At most the zone of the Moves is opened or Closed now, and only it is newly noted as open.
     ensures beside { IsTrue (D.drive device.new).clean
         → OnOk result (RepairsBeside (D.drive device.old) (D.drive device.new) repair.now.zone) }
     ensures noted { IsTrue (D.drive device.new).clean
-        → OnOk result (NotesFilledOpen (D.drive device.old) (D.drive device.new) survey.old.zones.items survey.new.zones.items) }
+        → OnOk result (NotesFilledOpen (D.drive device.old) (D.drive device.new) survey.old.zones.items
+        survey.new.zones.items) }
     ensures count { OnOk result ((length survey.new.scanned.items ≡ length survey.new.zones.items)
         × (length survey.new.zones.items ≡ length survey.old.zones.items)) }
     // While the drive is clean it fails only if the drive stops or memory runs out.
     ensures err { IsTrue (D.drive device.new).clean → IfErr result (IsInterruption (D.drive device.new)) }
-    // Whatever it answers, no command was refused. The drive can still be mounted, with the same array.
-    ensures kept { IsTrue (D.drive device.new).clean → KeepsMountable survey.old.given (D.drive device.old) (D.drive device.new) }
+    // Whatever it answers, while the drive is clean no command was refused, and it can be mounted, with the same array.
+    ensures kept { IsTrue (D.drive device.new).clean
+        → KeepsMountable survey.old.given (D.drive device.old) (D.drive device.new) }
     ensures stays { Stays (D.drive device.old) (D.drive device.new) }
 {
     finish_beside(alloc, device, survey, repair.zone)?;

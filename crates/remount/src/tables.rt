@@ -43,7 +43,8 @@ pub fn mounted_tables(
     ensures next { IfOk result (λ tables. tables.next ≡ next) }
     ensures given { IfOk result (λ tables. tables.given ≡ survey.now.given) }
     // Whatever the Reads returned, its numbers are those of a disk.
-    ensures sane { IfOk result (λ tables. AreShort geometry.now.capacity survey.now.zones.items → next ≤ 2 ^ 63 → AreSane geometry.now tables) }
+    ensures sane { IfOk result (λ tables. AreShort geometry.now.capacity survey.now.zones.items → next ≤ 2 ^ 63
+        → AreSane geometry.now tables) }
 {
     let mut tables = place_records(alloc, survey, geometry)?;
     let roles = mounted_roles(alloc, &survey.zones, geometry.zones)?;

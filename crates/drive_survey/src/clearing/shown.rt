@@ -87,7 +87,8 @@ fn read_shown<D: Device>(
     into: &mut Vec<u8>,
 ) -> Result<(), MountFault>
     requires zones { AreKnown (D.drive device.old) zones.now }
-    ensures ok { IsTrue (D.drive device.new).clean → OnOk result ((found : Option Record) → kept ≡ option_map kept_record found
+    ensures ok { IsTrue (D.drive device.new).clean
+        → OnOk result ((found : Option Record) → kept ≡ option_map kept_record found
         → IfStands (D.drive device.old) found → into.new.items ≡ shown (D.drive device.old).geometry.block found) }
     // It fails only if the drive stops or memory runs out. One command at most is sent. Zones hold what they held.
     ensures err { IfErr result (IsInterruption (D.drive device.new)) }

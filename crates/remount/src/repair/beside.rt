@@ -31,8 +31,10 @@ fn finish_other<D: Device>(
     requires fits { Fits (D.drive device.old) survey.old }
     requires in_range { zone < length survey.old.zones.items }
     // While the drive is clean, the survey knows it, its vacant zones are Empty, and its only torn zone is `torn`.
-    requires known { IsTrue (D.drive device.old).clean → (n : ℕ) × Knows (D.drive device.old) n (drive_logs (D.drive device.old)) survey.old }
-    requires vacant { IsTrue (D.drive device.old).clean → AreVacantEmpty survey.old.zones.items (drive_logs (D.drive device.old)) }
+    requires known { IsTrue (D.drive device.old).clean
+        → (n : ℕ) × Knows (D.drive device.old) n (drive_logs (D.drive device.old)) survey.old }
+    requires vacant { IsTrue (D.drive device.old).clean
+        → AreVacantEmpty survey.old.zones.items (drive_logs (D.drive device.old)) }
     requires torn { IsTrue (D.drive device.old).clean → IsOnlyTorn (drive_logs (D.drive device.old))
         (zone_tails (contents (D.drive device.old).zones)) torn }
     // Done, this zone is finished if that was due. No batch has changed, and no zone was opened.
@@ -43,7 +45,8 @@ fn finish_other<D: Device>(
     ensures noted { OnOk result (NotesNoneOpen survey.old.zones.items survey.new.zones.items) }
     // It fails only if the drive stops or memory runs out. A drive that can be mounted stays so, with the same array.
     ensures err { IfErr result (IsInterruption (D.drive device.new)) }
-    ensures kept { IsTrue (D.drive device.new).clean → (n : ℕ) → KeepsMountable n (D.drive device.old) (D.drive device.new) }
+    ensures kept { IsTrue (D.drive device.new).clean
+        → (n : ℕ) → KeepsMountable n (D.drive device.old) (D.drive device.new) }
     ensures stays { Stays (D.drive device.old) (D.drive device.new) }
 {
     if zone == torn {
@@ -69,13 +72,16 @@ pub(crate) fn finish_beside<D: Device>(
         (zone_tails (contents (D.drive device.old).zones)) torn }
     // Done, it is still cleared, with the same batches. Only the torn zone may be opened or Closed.
     ensures fits { OnOk result (FitsStill (D.drive device.new) survey.old survey.new) }
-    ensures cleared { IsTrue (D.drive device.new).clean → OnOk result (IsCleared (D.drive device.new) survey.old.given survey.new) }
-    ensures left { IsTrue (D.drive device.new).clean → OnOk result (SettlesOthers (D.drive device.old) (D.drive device.new) torn) }
+    ensures cleared { IsTrue (D.drive device.new).clean
+        → OnOk result (IsCleared (D.drive device.new) survey.old.given survey.new) }
+    ensures left { IsTrue (D.drive device.new).clean
+        → OnOk result (SettlesOthers (D.drive device.old) (D.drive device.new) torn) }
     ensures noted { OnOk result (NotesNoneOpen survey.old.zones.items survey.new.zones.items) }
     // It fails only if the drive stops or memory runs out.
     ensures err { IfErr result (IsInterruption (D.drive device.new)) }
-    // Whatever it answers, no command was refused. The drive can still be mounted, with the same array.
-    ensures kept { IsTrue (D.drive device.new).clean → KeepsMountable survey.old.given (D.drive device.old) (D.drive device.new) }
+    // Whatever it answers, while the drive is clean no command was refused, and it can be mounted, with the same array.
+    ensures kept { IsTrue (D.drive device.new).clean
+        → KeepsMountable survey.old.given (D.drive device.old) (D.drive device.new) }
     ensures stays { Stays (D.drive device.old) (D.drive device.new) }
 {
     for zone in 0..survey.zones.len() as u32 {

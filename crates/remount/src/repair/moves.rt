@@ -142,14 +142,16 @@ fn copy_records<D: Device>(
     requires named { AllByRecursion (IsNamed tables.now) blocks.now }
     // Done, as many bytes are added as they have, and while the drive is clean their data, if their places can be read.
     ensures bytes { IsTrue (D.drive device.new).clean → IsKnown (D.drive device.old) zone.number zone.reported
-        → AllByRecursion (IsReadableAt tables.now (zone.number * (D.drive device.old).geometry.size) zone.reported.blocks) blocks.now
+        → AllByRecursion (IsReadableAt tables.now (zone.number * (D.drive device.old).geometry.size)
+        zone.reported.blocks) blocks.now
         → OnOk result (Adds next.old.batch.bytes (D.drive device.old).geometry.block
         (moved_data (source_of (D.drive device.old) tables.now zone.number) blocks.now) next.new.batch.bytes) }
     ensures grown { OnOk result (Extends next.old.batch.bytes next.new.batch.bytes
         (data_count (moved_entries tables.now.map.places blocks.now) * (D.drive device.old).geometry.block)) }
     // If their places can be read, it fails only if the drive stops or memory runs out, and zones hold what they held.
     ensures err { IsKnown (D.drive device.old) zone.number zone.reported
-        → AllByRecursion (IsReadableAt tables.now (zone.number * (D.drive device.old).geometry.size) zone.reported.blocks) blocks.now
+        → AllByRecursion (IsReadableAt tables.now (zone.number * (D.drive device.old).geometry.size)
+        zone.reported.blocks) blocks.now
         → IfErr result (IsInterruption (D.drive device.new)) }
     ensures heading { next.new.batch.heading ≡ next.old.batch.heading }
     ensures kept { IsKnown (D.drive device.old) zone.number zone.reported
@@ -230,8 +232,10 @@ fn build_move<D: Device>(
         → OnOk result (IsBuiltAs (D.drive device.old).geometry.block
         (move_by (source_of (D.drive device.old) tables.now plan.now.torn) plan.now number) next.new.batch) }
     // If its data can be read, it fails only if the drive stops or memory runs out, and zones hold what they held.
-    ensures err { CanCopy (D.drive device.old) tables.now plan.now number → IfErr result (IsInterruption (D.drive device.new)) }
-    ensures kept { CanCopy (D.drive device.old) tables.now plan.now number → KeepsZones (D.drive device.old) (D.drive device.new) }
+    ensures err { CanCopy (D.drive device.old) tables.now plan.now number
+        → IfErr result (IsInterruption (D.drive device.new)) }
+    ensures kept { CanCopy (D.drive device.old) tables.now plan.now number
+        → KeepsZones (D.drive device.old) (D.drive device.new) }
     ensures stays { Stays (D.drive device.old) (D.drive device.new) }
 {
     let block_bytes = device.geometry().block;
@@ -268,7 +272,7 @@ fn push_built(
     }
 }
 
-/// Whether the header of a batch can be added to those of its zone: its entries and blocks can still be counted in 32 bits.
+/// Whether the header of a batch can be added to those of its zone: its entries and blocks still fit 32 bits.
 #[tactic(auto, using(crate::proofs::MoveBuildLaws::few_data))]
 fn can_push(heads: &ZoneHeads, batch: &BatchBuilder) -> bool
     ensures yes { IsTrue result → (length heads.now.entries + length batch.now.heading.entries < 2 ^ 32)
@@ -296,11 +300,13 @@ fn append_move<D: Device>(
     requires takeable { IsTakeable (D.drive device.old).geometry batch.now }
     requires can { IsTrue (D.drive device.old).clean → CanTake (D.drive device.old) zone batch.now }
     // Done, the zone has the whole batch.
-    ensures ok { IsTrue (D.drive device.new).clean → OnOk result (TakesFirst (D.drive device.old) (D.drive device.new) zone
+    ensures ok { IsTrue (D.drive device.new).clean
+        → OnOk result (TakesFirst (D.drive device.old) (D.drive device.new) zone
         (built (D.drive device.old).geometry.block batch.now)
         (batch_size (built (D.drive device.old).geometry.block batch.now))) }
     // Else the zone has a front of it, or the drive can be mounted as before, with the same array.
-    ensures left { IsTrue (D.drive device.new).clean → IfErr result (λ _. TakesSome (D.drive device.old) (D.drive device.new) zone
+    ensures left { IsTrue (D.drive device.new).clean
+        → IfErr result (λ _. TakesSome (D.drive device.old) (D.drive device.new) zone
         (built (D.drive device.old).geometry.block batch.now)) }
     // While the drive is clean it fails only if the drive stops or memory runs out.
     ensures err { IsTrue (D.drive device.new).clean → IfErr result (IsInterruption (D.drive device.new)) }
@@ -357,14 +363,15 @@ pub(crate) fn make_moves<D: Device>(
     plan: &MovePlan,
     tables: &Tables,
 ) -> Result<ZoneHeads, MountFault>
-    // The plan is safe, whatever the Reads returned. While the drive is clean, it repairs the drive, and no Move is made yet.
+    // The plan is safe, whatever the Reads returned. While the drive is clean, it is a repair, and no Move is made yet.
     requires safe { IsSafe (D.drive device.old).geometry tables.now plan.now }
     requires at { IsTrue (D.drive device.old).clean → (n : ℕ)
         × IsAtMove n (D.drive device.old) (D.drive device.old) tables.now plan.now 0 no_heads }
     // Done, the zone of the Moves holds all of them, and no torn tail.
     ensures ok { (n : ℕ) → IsTrue (D.drive device.new).clean
         → IsAtMove n (D.drive device.old) (D.drive device.old) tables.now plan.now 0 no_heads
-        → IfOk result (λ heads. IsAtMove n (D.drive device.old) (D.drive device.new) tables.now plan.now (move_count plan.now) heads) }
+        → IfOk result (λ heads. IsAtMove n (D.drive device.old) (D.drive device.new) tables.now plan.now
+        (move_count plan.now) heads) }
     // It fails only if the drive stops or memory runs out. A drive that can be mounted stays so, with the same array.
     ensures err { (n : ℕ) → IsTrue (D.drive device.new).clean
         → IsAtMove n (D.drive device.old) (D.drive device.old) tables.now plan.now 0 no_heads

@@ -36,13 +36,14 @@ fn why_needed<D: Device>(
     survey: &Survey,
     zone: u32,
 ) -> Result<Finding, MountFault>
-    // The report is true of all zones, and this is one of them. While the drive is clean, the survey knows all its batches.
+    // The report is true of all zones, and this is one of them. While the drive is clean, the survey knows all batches.
     requires zones { AreKnown (D.drive device.old) survey.now.zones.items }
     requires in_range { zone < length survey.now.scanned.items }
     requires known { IsTrue (D.drive device.old).clean
         → Knows (D.drive device.old) survey.now.given (drive_logs (D.drive device.old)) survey.now }
     // Done, the finding is right for the batches of the drive.
-    ensures ok { IsTrue (D.drive device.new).clean → IfOk result (Finds (D.drive device.old).geometry.block survey.now.given
+    ensures ok { IsTrue (D.drive device.new).clean
+        → IfOk result (Finds (D.drive device.old).geometry.block survey.now.given
         (drive_logs (D.drive device.old)) zone) }
     // It fails only if the drive stops or memory runs out. Whatever it answers, zones hold what they held.
     ensures err { IfErr result (IsInterruption (D.drive device.new)) }
@@ -146,7 +147,7 @@ pub(crate) fn plan_moves<D: Device>(
     requires plan { IsTrue (D.drive device.old).clean
         → IsRepairPlan (D.drive device.old).geometry survey.now.given (drive_logs (D.drive device.old))
         (zone_tails (contents (D.drive device.old).zones)) repair.now }
-    // Done, these Moves can be built and sent; and while the drive is clean, they have all that is live in that zone. It
+    // Done, these Moves can be built and sent. While the drive is clean, they have all that is live in that zone. It
     // is not half clean until the last is made.
     ensures safe { IfOk result (IsSafe (D.drive device.old).geometry repair.now.tables) }
     ensures torn { IfOk result (λ plan. (plan.torn ≡ repair.now.zone) × (plan.into ≡ into)) }

@@ -24,16 +24,19 @@ pub(crate) fn empty_torn<D: Device>(
     device: &mut D,
     plan: &MovePlan,
 ) -> Result<(), MountFault>
-    requires done { IsTrue (D.drive device.old).clean → (n : ℕ) × (start : DriveState) × (tables : TablesView) × (heads : HeadsView)
+    requires done { IsTrue (D.drive device.old).clean
+        → (n : ℕ) × (start : DriveState) × (tables : TablesView) × (heads : HeadsView)
         × IsAtMove n start (D.drive device.old) tables plan.now (move_count plan.now) heads }
     // Done, the zone of the Moves has the records, and the drive can be mounted, with the same array.
-    ensures ok { (n : ℕ) (start : DriveState) (tables : TablesView) (heads : HeadsView) → IsTrue (D.drive device.new).clean
+    ensures ok { (n : ℕ) (start : DriveState) (tables : TablesView) (heads : HeadsView)
+        → IsTrue (D.drive device.new).clean
         → IsAtMove n start (D.drive device.old) tables plan.now (move_count plan.now) heads
         → OnOk result (EmptiesTorn n start (D.drive device.new) plan.now
         (moves_before (source_of start tables plan.now.torn) plan.now (move_count plan.now))) }
     // It fails only if the drive stops or memory runs out. A drive that can be mounted stays so, with the same array.
     ensures err { IsTrue (D.drive device.new).clean → IfErr result (IsInterruption (D.drive device.new)) }
-    ensures kept { (n : ℕ) (start : DriveState) (tables : TablesView) (heads : HeadsView) → IsTrue (D.drive device.new).clean
+    ensures kept { (n : ℕ) (start : DriveState) (tables : TablesView) (heads : HeadsView)
+        → IsTrue (D.drive device.new).clean
         → IsAtMove n start (D.drive device.old) tables plan.now (move_count plan.now) heads
         → KeepsMountable n start (D.drive device.new) }
     ensures stays { Stays (D.drive device.old) (D.drive device.new) }
@@ -77,7 +80,8 @@ pub(crate) fn note_repair(
     requires into { plan.now.into < length survey.old.zones.items }
     requires count { length survey.old.scanned.items ≡ length survey.old.zones.items }
     // It knows the repaired drive then, and all vacant zones are noted as Empty.
-    ensures known { (n : ℕ) (start new : DriveState) (made : List Batch) → 1 ≤ heads.blocks → start.geometry.capacity ≡ capacity
+    ensures known { (n : ℕ) (start new : DriveState) (made : List Batch)
+        → 1 ≤ heads.blocks → start.geometry.capacity ≡ capacity
         → heads ≡ heads_of made → Knows start n (drive_logs start) survey.old
         → EmptiesTorn n start new plan.now made → Knows new n (drive_logs new) survey.new }
     ensures vacant { (n : ℕ) (start new : DriveState) (made : List Batch)
