@@ -16,7 +16,11 @@ use write_plan::Aim;
 use zone_states::Geometry;
 
 /// All faults of a drive.
-fn find_faults<D: Device + Honest>(alloc: Global, blocks: u64, device: &mut D) -> Result<Findings, ToolFault>
+fn find_faults<D: Device + Honest>(
+    alloc: Global,
+    blocks: u64,
+    device: &mut D,
+) -> Result<Findings, ToolFault>
     ensures ok { IfOk result (AreFindings (D.drive device.old) blocks) }
     ensures err { IfErr result (IsUnasked (D.drive device.new)) }
     ensures kept { KeepsZones (D.drive device.old) (D.drive device.new) }
@@ -49,7 +53,10 @@ pub fn check_device<D: Device + Honest, F: Form<Findings>, W: Write>(
 }
 
 /// What a drive holds. If it does not say how many logical blocks it has, it is taken to have as many as it can serve.
-pub(crate) fn look<D: Device + Honest>(alloc: Global, device: &mut D) -> Result<DriveInfo, ToolFault>
+pub(crate) fn look<D: Device + Honest>(
+    alloc: Global,
+    device: &mut D,
+) -> Result<DriveInfo, ToolFault>
     ensures ok { IfOk result (HoldsInfo (D.drive device.old)) }
     ensures err { IfErr result (IsUnasked (D.drive device.new)) }
     ensures kept { KeepsZones (D.drive device.old) (D.drive device.new) }

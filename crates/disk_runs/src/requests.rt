@@ -70,7 +70,10 @@ fn clean<D: Device + Honest + Drop>(disk: &mut Disk<D>, turns: u32) -> Result<()
 }
 
 /// Mounts the drive again, and puts the reply into `reply`, which is empty and has room for it.
-fn mount_again<D: Device + Honest + Drop>(disk: &mut Disk<D>, reply: &mut Vec<u8>) -> Result<(), RunFault>
+fn mount_again<D: Device + Honest + Drop>(
+    disk: &mut Disk<D>,
+    reply: &mut Vec<u8>,
+) -> Result<(), RunFault>
     requires empty { reply.old.items ≡ [] }
     requires room { SHORT_REPLY ≤ vec_capacity reply.old }
     // Done, the reply is a flat disk's.
@@ -142,7 +145,10 @@ pub(crate) fn answer_request<D: Device + Honest + Drop>(
 }
 
 /// Flushes a disk, if that is asked for.
-pub(crate) fn flush_if<D: Device + Honest + Drop>(disk: &mut Disk<D>, flushes: bool) -> Result<(), DiskFault>
+pub(crate) fn flush_if<D: Device + Honest + Drop>(
+    disk: &mut Disk<D>,
+    flushes: bool,
+) -> Result<(), DiskFault>
     ensures { FlushesIf flushes disk.old result disk.new }
 {
     if !flushes {

@@ -18,7 +18,11 @@ use remount::honest::plan_mount;
 use std::alloc::Global;
 
 /// What a drive holds that can be mounted, and what a mount does to it.
-fn find_info<D: Device + Honest>(alloc: Global, device: &mut D, given: u64) -> Result<Info, MountFault>
+fn find_info<D: Device + Honest>(
+    alloc: Global,
+    device: &mut D,
+    given: u64,
+) -> Result<Info, MountFault>
     ensures ok { IfOk result (IsInfo (D.drive device.old) given) }
     ensures err { IfErr result (FailsBy (MountFails (D.drive device.old) given) (D.drive device.new)) }
     ensures kept { KeepsZones (D.drive device.old) (D.drive device.new) }

@@ -35,7 +35,11 @@ fn have_no_batch(scanned: &[ScannedZone]) -> bool
 }
 
 /// Reads the headers of a drive. `given` is how many logical blocks it has if none says how many.
-pub fn look<D: Device + Honest>(alloc: Global, device: &mut D, given: u64) -> Result<Said, MountFault>
+pub fn look<D: Device + Honest>(
+    alloc: Global,
+    device: &mut D,
+    given: u64,
+) -> Result<Said, MountFault>
     // Done, the headers of all batches are known.
     ensures ok { IfOk result (AreSaid (D.drive device.new)) }
     // A fault is the first that a survey meets, unless the drive stops or memory runs out.

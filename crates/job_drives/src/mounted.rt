@@ -77,7 +77,10 @@ fn out_of_range<D: Device + Honest + Drop>(alloc: Global, mut device: D) -> (NoD
 }
 
 /// Mounts a drive with the size that its headers say.
-fn mount_said<D: Device + Honest + Drop>(alloc: Global, device: D) -> Result<Disk<D>, (NoDiskFault, D)>
+fn mount_said<D: Device + Honest + Drop>(
+    alloc: Global,
+    device: D,
+) -> Result<Disk<D>, (NoDiskFault, D)>
     ensures disk { IfOk result (IsServed (D.drive device) None) }
     ensures err { IfErr result (λ refusal. IsNotServed (D.drive device) None refusal.0 (D.drive refusal.1)) }
 {

@@ -8,8 +8,8 @@ ghost use Rattle.remount.specs.Kept.{KeepsMountable, NotesNoneOpen, SameLengths,
 ghost use Rattle.remount.specs.Mount.{IsRepaired, IsUntorn};
 ghost use Rattle.remount.specs.Resets.{FinishesIf, FinishesNeeded, FinishesOne, IsTested, MayChange, is_to_finish};
 
-use drive_port::{Device, finish};
 use crate::refused::fault_or_damaged;
+use drive_port::{Device, finish};
 use drive_survey::{MountFault, ReportedZone, Survey, ZoneHeads, is_partly_written};
 use nvme_wire::ZoneState;
 use std::alloc::Global;

@@ -40,7 +40,11 @@ pub fn plan_mount<D: Device + Honest>(
 }
 
 /// Mounts a drive.
-pub fn mount<D: Device + Honest>(alloc: Global, device: &mut D, given: u64) -> Result<Tables, MountFault>
+pub fn mount<D: Device + Honest>(
+    alloc: Global,
+    device: &mut D,
+    given: u64,
+) -> Result<Tables, MountFault>
     // Done, the drive is cleared and repaired, with the same array, and the tables agree with it.
     ensures ok { IfOk result (Mounts (D.drive device.old) (D.drive device.new) given) }
     // A fault is the first that is met, and changes no zone, unless the drive stops or memory runs out.

@@ -8,7 +8,9 @@ use crate::show::{show_answer_bytes, show_line, show_sent};
 use crate::words::{meant, number, part};
 use crate::world::World;
 use disk_files::{ParseFault, TraceLine};
-use drive_port::{Device, Honest, PortFault, append, close, count_zones, finish, read, report, reset};
+use drive_port::{
+    Device, Honest, PortFault, append, close, count_zones, finish, read, report, reset,
+};
 use nvme_wire::{Action, Command};
 use std::alloc::{AllocError, Global};
 use zone_translator::{Disk, DiskFault, MountFault, Place};

@@ -190,7 +190,10 @@ impl Cleaner {
 
     /// Takes turns until the clean that runs has ended. Each completes two commands at most. Then the destination is
     /// the next zone, and has two free blocks.
-    pub fn run_to_end<D: Device + Honest>(&mut self, disk: &mut Mounted<D>) -> Result<(), CleanFault>
+    pub fn run_to_end<D: Device + Honest>(
+        &mut self,
+        disk: &mut Mounted<D>,
+    ) -> Result<(), CleanFault>
         requires cleaned { AgreesWithClean disk.old self.old }
         ensures { EndAnswers disk.old self.old result disk.new self.new }
     {
@@ -205,7 +208,10 @@ impl Cleaner {
     /// Makes room at once, for a disk that has no host zone, no next zone, and at most one empty
     /// zone. The clean that runs is run to its end. If none runs, one is started before.
     /// Afterwards there is a next zone with two free blocks.
-    pub fn clean_zone<D: Device + Honest>(&mut self, disk: &mut Mounted<D>) -> Result<(), CleanFault>
+    pub fn clean_zone<D: Device + Honest>(
+        &mut self,
+        disk: &mut Mounted<D>,
+    ) -> Result<(), CleanFault>
         requires cleaned { AgreesWithClean disk.old self.old }
         requires lacks { LacksZones disk.old.tables.roles }
         ensures { CleanAnswers disk.old self.old result disk.new self.new }

@@ -71,7 +71,10 @@ fn take<D: Device>(disk: &mut Mounted<D>) -> Option<Filling>
 }
 
 /// A host zone for a disk that has none: the next zone, or an empty one, or the zone that a clean leaves.
-fn find_host<D: Device + Honest>(disk: &mut Mounted<D>, cleaner: &mut Cleaner) -> Result<Filling, DiskFault>
+fn find_host<D: Device + Honest>(
+    disk: &mut Mounted<D>,
+    cleaner: &mut Cleaner,
+) -> Result<Filling, DiskFault>
     // Tables, drive and clean agree, and there is no host zone.
     requires agrees { AgreesWithClean disk.old cleaner.old }
     requires host { disk.old.tables.roles.host ≡ None }

@@ -17,9 +17,9 @@ ghost use Rattle.zone_states.specs.Geometry.{IsInRange};
 ghost use Rattle.drive_survey.specs.Reported.{IsKnown, KeepsZones};
 ghost use Rattle.drive_survey.specs.Scan.{IsInterruption, readable_at};
 
+use crate::refused::fault_or_damaged;
 use batch_log::{Kind, read_header};
 use drive_port::{Device, append, read};
-use crate::refused::fault_or_damaged;
 use drive_survey::{MountFault, ReadableZone, ReportedZone, ZoneHeads};
 use logical_map::Place;
 use std::alloc::{AllocError, Global};

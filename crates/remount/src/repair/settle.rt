@@ -11,9 +11,9 @@ ghost use Rattle.drive_survey.specs.Known.{Knows};
 ghost use Rattle.remount.specs.Moving.{EmptiesTorn, IsAtMove, move_count, moves_before, source_of, usage_with};
 ghost use Rattle.drive_survey.specs.Scan.{IsInterruption};
 
+use crate::refused::fault_or_damaged;
 use crate::repair::moves::MovePlan;
 use drive_port::{Device, reset};
-use crate::refused::fault_or_damaged;
 use drive_survey::{MountFault, ReportedZone, ScannedZone, Survey, ZoneHeads};
 use nvme_wire::ZoneState;
 use std::alloc::Global;

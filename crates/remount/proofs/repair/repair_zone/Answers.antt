@@ -26,7 +26,7 @@ returns-in_default-clause-err g c = λ clean.
     absurd (has-empty _ _ c.finish_beside.new.survey finished.mountable finished.none_left finished.known finished.vacant (subst (λ (zs : List ReportedZone). (zone : ℕ) (r : ReportedZone) → slice_get zs zone ≡ Some r → r.state ≢ states.Empty) c.deref.ensures.value c.in_default.ensures.none))
 
 pub plan_moves-requires : goal.plan_moves-requires
-plan_moves-requires g c = 
+plan_moves-requires g c =
     let still = c.in_ok-finish_beside.ensures.fits in
     record {
       fits = still.fits;
@@ -71,13 +71,13 @@ pub make_moves-requires : goal.make_moves-requires
 make_moves-requires g c = record {
   safe = rw (c.close_alone.ensures.kept.geometry, c.plan_moves.ensures.kept.geometry) c.in_ok-plan.ensures.safe;
   at = λ clean.
-    let w2 = c.close_alone.ensures.kept.trusted clean in
-    let w1 = c.plan_moves.ensures.kept.trusted w2 in
-    let w0 = c.finish_beside.ensures.stays.trusted w1 in
-    let finished = is-finished _ _ c.args.survey.now _ c.args.repair.now (c.requires.cleared w0) (c.requires.plan w0) (c.finish_beside.ensures.kept w1) (c.in_ok-finish_beside.ensures.left w1) (c.in_ok-finish_beside.ensures.cleared w1) in
-    let prepared = is-prepared _ _ _ _ c.in-Some.into c.deref.result.now finished c.deref.ensures.value c.in-Some.ensures.some in
-    let started = is-started _ _ _ _ _ c.args.repair.now _ c.in_ok-plan.plan prepared c.plan_moves.ensures.kept (c.in_ok-plan.ensures.ok w2) c.close_alone.ensures.kept c.in_ok-close_alone.ensures.shut in
-    (c.args.survey.now.given, started.at);
+      let w2 = c.close_alone.ensures.kept.trusted clean in
+      let w1 = c.plan_moves.ensures.kept.trusted w2 in
+      let w0 = c.finish_beside.ensures.stays.trusted w1 in
+      let finished = is-finished _ _ c.args.survey.now _ c.args.repair.now (c.requires.cleared w0) (c.requires.plan w0) (c.finish_beside.ensures.kept w1) (c.in_ok-finish_beside.ensures.left w1) (c.in_ok-finish_beside.ensures.cleared w1) in
+      let prepared = is-prepared _ _ _ _ c.in-Some.into c.deref.result.now finished c.deref.ensures.value c.in-Some.ensures.some in
+      let started = is-started _ _ _ _ _ c.args.repair.now _ c.in_ok-plan.plan prepared c.plan_moves.ensures.kept (c.in_ok-plan.ensures.ok w2) c.close_alone.ensures.kept c.in_ok-close_alone.ensures.shut in
+      (c.args.survey.now.given, started.at);
 }
 
 pub returns-in_err-heads-clause-err : goal.returns-in_err-heads-clause-err
@@ -108,15 +108,15 @@ returns-in_err-heads-clause-stays g c = stays-both _ _ _ (stays-both _ _ _ c.fin
 pub empty_torn-requires : goal.empty_torn-requires
 empty_torn-requires g c = record {
   done = λ clean.
-    let w3 = c.make_moves.ensures.stays.trusted clean in
-    let w2 = c.close_alone.ensures.kept.trusted w3 in
-    let w1 = c.plan_moves.ensures.kept.trusted w2 in
-    let w0 = c.finish_beside.ensures.stays.trusted w1 in
-    let finished = is-finished _ _ c.args.survey.now _ c.args.repair.now (c.requires.cleared w0) (c.requires.plan w0) (c.finish_beside.ensures.kept w1) (c.in_ok-finish_beside.ensures.left w1) (c.in_ok-finish_beside.ensures.cleared w1) in
-    let prepared = is-prepared _ _ _ _ c.in-Some.into c.deref.result.now finished c.deref.ensures.value c.in-Some.ensures.some in
-    let started = is-started _ _ _ _ _ c.args.repair.now _ c.in_ok-plan.plan prepared c.plan_moves.ensures.kept (c.in_ok-plan.ensures.ok w2) c.close_alone.ensures.kept c.in_ok-close_alone.ensures.shut in
-    let at = c.in_ok-heads.ensures.ok _ clean started.at in
-    (c.args.survey.now.given, g.D.Device.drive c.close_alone.new.device, c.args.repair.now.tables, c.in_ok-heads.heads, at);
+      let w3 = c.make_moves.ensures.stays.trusted clean in
+      let w2 = c.close_alone.ensures.kept.trusted w3 in
+      let w1 = c.plan_moves.ensures.kept.trusted w2 in
+      let w0 = c.finish_beside.ensures.stays.trusted w1 in
+      let finished = is-finished _ _ c.args.survey.now _ c.args.repair.now (c.requires.cleared w0) (c.requires.plan w0) (c.finish_beside.ensures.kept w1) (c.in_ok-finish_beside.ensures.left w1) (c.in_ok-finish_beside.ensures.cleared w1) in
+      let prepared = is-prepared _ _ _ _ c.in-Some.into c.deref.result.now finished c.deref.ensures.value c.in-Some.ensures.some in
+      let started = is-started _ _ _ _ _ c.args.repair.now _ c.in_ok-plan.plan prepared c.plan_moves.ensures.kept (c.in_ok-plan.ensures.ok w2) c.close_alone.ensures.kept c.in_ok-close_alone.ensures.shut in
+      let at = c.in_ok-heads.ensures.ok _ clean started.at in
+      (c.args.survey.now.given, g.D.Device.drive c.close_alone.new.device, c.args.repair.now.tables, c.in_ok-heads.heads, at);
 }
 
 pub returns-in_err-empty_torn-clause-err : goal.returns-in_err-empty_torn-clause-err
@@ -139,7 +139,7 @@ pub returns-in_err-empty_torn-clause-stays : goal.returns-in_err-empty_torn-clau
 returns-in_err-empty_torn-clause-stays g c = stays-both _ _ _ (stays-both _ _ _ (stays-both _ _ _ c.finish_beside.ensures.stays (shut-stays _ _ (shut-both _ _ _ (zones-shut _ _ c.plan_moves.ensures.kept) c.close_alone.ensures.kept))) c.make_moves.ensures.stays) c.empty_torn.ensures.stays
 
 pub note_repair-requires : goal.note_repair-requires
-note_repair-requires g c = 
+note_repair-requires g c =
     let still = c.in_ok-finish_beside.ensures.fits in
     let torn = c.in_ok-plan.ensures.torn in
     let into : c.in-Some.into < length c.finish_beside.new.survey.zones.items = omega (arith, c.in-Some.ensures.some.0, ap length c.deref.ensures.value) in
