@@ -4,7 +4,7 @@ ghost use Rattle.std.specs.Prelude.{◌≡◌, IfSome, true};
 ghost use Rattle.zone_states.specs.Geometry.{IsInRange};
 ghost use Rattle.passthrough.specs.Seen.{AreSeen};
 
-use drive_port::{Device, report};
+use drive_port::{Device, Honest, report};
 use nvme_wire::ReportingOptions;
 use passthrough::{PassthroughDrive, ReadAhead, SeenZone, Through, zones_shown};
 use std::alloc::Global;
@@ -44,14 +44,14 @@ pub fn first_seen<D: Device>(alloc: Global, drive: &mut D) -> Option<Vec<SeenZon
 pub type Ahead<D> = PassthroughDrive<ReadAhead<Through<D>>>;
 
 /// A device above a drive, that reads ahead.
-pub fn ahead<D: Device + Drop>(alloc: Global, mut drive: D) -> Option<Ahead<D>> {
+pub fn ahead<D: Device + Honest + Drop>(alloc: Global, mut drive: D) -> Option<Ahead<D>> {
     let seen = first_seen(alloc, &mut drive)?;
     let way = ReadAhead::new(alloc, Through::new(alloc, drive));
     PassthroughDrive::new(alloc, way, seen).ok()
 }
 
 /// A device above a drive, that sends each Read as it is.
-pub fn plain<D: Device + Drop>(
+pub fn plain<D: Device + Honest + Drop>(
     alloc: Global,
     mut drive: D,
 ) -> Option<PassthroughDrive<Through<D>>> {

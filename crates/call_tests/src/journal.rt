@@ -8,7 +8,7 @@ use disk_files::{FailAfter, LineReader};
 use disk_runs::run_trace;
 use drive_images::write_image;
 use drive_journal::{ChangeStore, Held, Journaling, ReadFault, START, Unknown, open_drive};
-use drive_port::{Device, read_extending};
+use drive_port::{Device, Honest, read_extending};
 use nvme_wire::{Action, Command, Completion, Status};
 use std::alloc::Global;
 use std::test::Fail;
@@ -305,7 +305,7 @@ const ARRAYS: [&[u8]; 6] = [
 ];
 
 /// Runs these lines over a device with 5 logical blocks, and shows the replies.
-fn run_lines<D: Device + Drop>(alloc: Global, device: D, lines: &[u8]) -> (D, Vec<u8>) {
+fn run_lines<D: Device + Honest + Drop>(alloc: Global, device: D, lines: &[u8]) -> (D, Vec<u8>) {
     let mut reader = LineReader::new(alloc, lines);
     let mut replies = Vec::new(alloc);
     let (device, _) = run_trace(alloc, &mut reader, &mut replies, device, 5);

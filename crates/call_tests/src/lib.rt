@@ -1,6 +1,6 @@
 //! Tests of what only a call can show: readers and writers that fail, files that stop and lose power, devices above a
-//! way, command lines and the files that they leave, counts and places. The rows of `worked_runs`, `nbd_rows` and
-//! `tool_rows` show the rest.
+//! way, drives that lie, command lines and the files that they leave, counts and places. The rows of `worked_runs`,
+//! `nbd_rows` and `tool_rows` show the rest.
 //!
 //! They are in a crate of their own, since a crate with tests is proved twice: each library is proved once, and its
 //! tests load it. Here is nothing but tests, and what they need.
@@ -38,6 +38,8 @@ mod images;
 mod jobs;
 #[cfg(test)]
 mod journal;
+#[cfg(test)]
+mod lies;
 #[cfg(test)]
 mod places;
 #[cfg(test)]

@@ -11,7 +11,7 @@ use Rattle.nvme_wire.specs.declared.command.DecodeFault.{DecodeFault}
 use Rattle.batch_log.specs.declared.header.Kind.{Kind}
 use Rattle.batch_log.specs.declared.header.Kind.TheVariants.{Host, Move}
 use Rattle.drive_port.specs.Drive.{DriveState, IsLawful}
-use Rattle.drive_port.specs.Durable.{Hardens, MayHarden}
+use Rattle.drive_port.proofs.StopLaws.{hardens-by, may_harden-by}
 use Rattle.drive_port.specs.Halting.{SubmitGives}
 use Rattle.drive_port.specs.declared.device.Halt.{Halt}
 use Rattle.drive_port.specs.declared.device.Halt.TheVariants.{Memory, Stopped}
@@ -80,25 +80,6 @@ still-in-step before old new counts after entry bytes (Ok completion) returned s
 still-in-step before old new counts after entry bytes (Err Memory) returned step lawful gives counted halted = rw (halted, gives.1.1) step
 still-in-step before old new counts after entry bytes (Err Stopped) returned step lawful gives counted halted = rw halted (omega (arith, gives.1.counts.completed))
 
--- what is durable of the tally is what is of the drive within
-tally-hardens : (command : Result Command DecodeFault) (old new : DriveState) (counts after : Counts) → Hardens command old new → Hardens command (tallied (tally_of old counts)) (tallied (tally_of new after))
-tally-hardens (Err fault) old new counts after hardens = hardens
-tally-hardens (Ok Flush) old new counts after hardens = hardens
-tally-hardens (Ok (Read slba blocks)) old new counts after hardens = hardens
-tally-hardens (Ok (Write slba blocks)) old new counts after hardens = hardens
-tally-hardens (Ok (Append zslba blocks)) old new counts after hardens = hardens
-tally-hardens (Ok (Send slba action all)) old new counts after hardens = hardens
-tally-hardens (Ok (Receive slba dwords options partial)) old new counts after hardens = hardens
-
-tally-may_harden : (command : Result Command DecodeFault) (old new : DriveState) (counts after : Counts) → MayHarden command old new → MayHarden command (tallied (tally_of old counts)) (tallied (tally_of new after))
-tally-may_harden (Err fault) old new counts after hardens = hardens
-tally-may_harden (Ok Flush) old new counts after hardens = hardens
-tally-may_harden (Ok (Read slba blocks)) old new counts after hardens = hardens
-tally-may_harden (Ok (Write slba blocks)) old new counts after hardens = hardens
-tally-may_harden (Ok (Append zslba blocks)) old new counts after hardens = hardens
-tally-may_harden (Ok (Send slba action all)) old new counts after hardens = hardens
-tally-may_harden (Ok (Receive slba dwords options partial)) old new counts after hardens = hardens
-
 -- and the tally gives what the drive within gives
 pub tally-gives : (before : ℕ) (old new : DriveState) (counts after : Counts) (entry bytes : List ℕ) (result : Result (List ℕ) Halt) (returned : List ℕ)
     → IsInStep before old counts → IsInStep before new after → OnErr result (after ≡ counts) → SubmitGives old entry bytes result returned new
@@ -122,7 +103,7 @@ tally-gives before old new counts after entry bytes (Ok completion) returned was
           completed = omega (arith, p.completed);
           refused = p.refused;
           appended = p.appended;
-          hardens = tally-hardens (decode_of entry) old new counts after p.hardens;
+          hardens = hardens-by (decode_of entry) old new (tallied (tally_of old counts)) (tallied (tally_of new after)) refl refl refl p.hardens;
         };
       },
     )
@@ -138,7 +119,7 @@ tally-gives before old new counts after entry bytes (Err Stopped) returned was i
         fair = s.fair;
         counts = record { completed = ap commands_of halted; refused = s.counts.refused; appended = s.counts.appended };
         left = s.left;
-        hardens = tally-may_harden (decode_of entry) old new counts after s.hardens;
+        hardens = may_harden-by (decode_of entry) old new (tallied (tally_of old counts)) (tallied (tally_of new after)) refl refl refl s.hardens;
       },
     )
 

@@ -109,12 +109,12 @@ pub stored-completed : (old new : DriveState) (sum : Sum) (entry bytes completio
 stored-completed old new sum entry bytes completion returned held long done stored =
     rw (code-of old new entry bytes completion returned done) (elim (success_or done.status) [
       | inl good ↦ by_change (rw good at done.performs.effect) (rw good refl) (changes (decode_of entry)) refl
-      | inr bad ↦ rw (bad.1, append-nil held) (stored-same held old sum stored new done.performs.geometry (rest-refused old.geometry old.zones new.zones (decode_of entry) bytes returned done.status done.value bad.0 done.performs.effect))
+      | inr bad ↦ rw (bad.1, append-nil held) (stored-same held old sum stored new done.performs.geometry (rest-refused old.geometry old.zones new.zones (decode_of entry) bytes done.performs.held done.status done.value bad.0 done.performs.effect))
     ])
   where
-    by_change : Effect old.geometry old.zones (decode_of entry) bytes Success done.value returned new.zones → is_success done.status ≡ true → (b : Bool) → changes (decode_of entry) ≡ b
+    by_change : Effect old.geometry old.zones (decode_of entry) bytes Success done.value done.performs.held new.zones → is_success done.status ≡ true → (b : Bool) → changes (decode_of entry) ≡ b
         → IsStoredWhole (held ++ (if is_success done.status then written_for sum entry bytes else [])) new (if is_success done.status then sum_for sum entry bytes else sum)
-    by_change effect good true e = rw good (stored-effect old new sum entry bytes returned held done.value long e done.performs.geometry effect stored)
+    by_change effect good true e = rw good (stored-effect old new sum entry bytes done.performs.held held done.value long e done.performs.geometry effect stored)
     by_change effect good false e =
         rw (good, written-no sum entry bytes e, sum-no sum entry bytes e, append-nil held) (stored-same held old sum stored new done.performs.geometry
-        (rest-succeeded old.geometry old.zones new.zones (decode_of entry) bytes returned done.value effect ∙ ap (λ (zs : List Zone). at_rest zs) (changed-not old.geometry old.zones (decode_of entry) bytes e)))
+        (rest-succeeded old.geometry old.zones new.zones (decode_of entry) bytes done.performs.held done.value effect ∙ ap (λ (zs : List Zone). at_rest zs) (changed-not old.geometry old.zones (decode_of entry) bytes e)))

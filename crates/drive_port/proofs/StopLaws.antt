@@ -40,7 +40,7 @@ may_harden-same old new (Ok (Send slba action all)) same = same
 may_harden-same old new (Ok (Receive slba dwords options partial)) same = same
 
 -- a drive with the same zones, of which the same is durable, was hardened as the other
-hardens-by : (command : Result Command DecodeFault) (old new old_in new_in : DriveState) → old_in.durable ≡ old.durable → new_in.durable ≡ new.durable → new_in.zones ≡ new.zones
+pub hardens-by : (command : Result Command DecodeFault) (old new old_in new_in : DriveState) → old_in.durable ≡ old.durable → new_in.durable ≡ new.durable → new_in.zones ≡ new.zones
     → Hardens command old new → Hardens command old_in new_in
 hardens-by (Err fault) old new old_in new_in was is zones hardens = is ∙ hardens ∙ sym was
 hardens-by (Ok Flush) old new old_in new_in was is zones hardens = λ found left. rw zones (hardens found (rw is at left))
@@ -50,7 +50,7 @@ hardens-by (Ok (Append zslba blocks)) old new old_in new_in was is zones hardens
 hardens-by (Ok (Send slba action all)) old new old_in new_in was is zones hardens = is ∙ hardens ∙ sym was
 hardens-by (Ok (Receive slba dwords options partial)) old new old_in new_in was is zones hardens = is ∙ hardens ∙ sym was
 
-may_harden-by : (command : Result Command DecodeFault) (old new old_in new_in : DriveState) → old_in.durable ≡ old.durable → new_in.durable ≡ new.durable → new_in.zones ≡ new.zones
+pub may_harden-by : (command : Result Command DecodeFault) (old new old_in new_in : DriveState) → old_in.durable ≡ old.durable → new_in.durable ≡ new.durable → new_in.zones ≡ new.zones
     → MayHarden command old new → MayHarden command old_in new_in
 may_harden-by (Err fault) old new old_in new_in was is zones hardens = is ∙ hardens ∙ sym was
 may_harden-by (Ok Flush) old new old_in new_in was is zones hardens = λ found left. rw (was, zones) (hardens found (rw is at left))

@@ -14,7 +14,7 @@ pub struct DeviceSource<D: Device + Drop> {
     device: D,
 }
 
-impl<D: Device + Drop> DeviceSource<D> {
+impl<D: Device + Honest + Drop> DeviceSource<D> {
     /// The device is only read.
     pub fn new(device: D) -> Self
         ensures { ⟦<DeviceSource<D> as Source>⟧.view result ≡ undamaged (D.drive device) }

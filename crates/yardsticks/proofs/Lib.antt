@@ -9,3 +9,4 @@ pub mod SequenceLaws
 pub mod SpareLaws
 pub mod RepairLaws
 pub mod MountableLaws
+pub mod LyingLaws

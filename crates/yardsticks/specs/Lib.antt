@@ -1,2 +1,3 @@
 pub mod Batches
 pub mod Zones
+pub mod Lying

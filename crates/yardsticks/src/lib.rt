@@ -12,6 +12,9 @@
 //! They compute what `batch_log` and `drive_array` define, so that tests and worked runs can compare what a host does
 //! with what is defined. They are slow and copy all data. No host calls them.
 //!
+//! A `LyingDevice` returns other bytes at one Read than are held. It is a device, but not an honest one: its drive is
+//! clean until then (`specs/Lying.antt`).
+//!
 //! Tests: the rows of `worked_runs`, which compare it with what the disk does.
 #![tactic(auto)]
 
@@ -19,6 +22,7 @@ mod array;
 mod batches;
 mod live;
 mod logs;
+mod lying;
 mod mountable;
 mod repair;
 mod reserve;
@@ -29,5 +33,6 @@ mod spare;
 pub use array::encoded_array;
 pub use batches::{Batch, ZoneLog, is_heading, log};
 pub use logs::ZoneImage;
+pub use lying::LyingDevice;
 pub use mountable::is_mountable;
 pub use reserve::quota;

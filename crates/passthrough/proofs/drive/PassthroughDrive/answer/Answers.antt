@@ -19,5 +19,5 @@ returns-clause-gives g c =
     let is = ap (λ (d : DriveState). d.durable) c.count.ensures.counted ∙ ap (λ (d : DriveState). d.durable) c.in_ok-reply.ensures.others ∙ was in
     let hardens = hardens-silent (decode_of c.args.entry.now) old new was is in
     let clean : old.clean ≡ true = sym (ap (λ (d : DriveState). d.clean) c.self.view_is) in
-    let performs = performs-counted old _ new (decode_of c.args.entry.now) c.args.bytes.now c.in_ok-reply.ensures.ok.returned c.in_ok-reply.reply.status c.in_ok-reply.reply.value clean c.in_ok-reply.ensures.others c.count.ensures.counted hardens c.in_ok-reply.ensures.ok.given in
+    let performs = performs-counted old _ new (decode_of c.args.entry.now) c.args.bytes.now c.in_ok-reply.ensures.ok.returned c.in_ok-reply.reply.status c.in_ok-reply.reply.value clean c.in_ok-reply.ensures.others (rw c.decode.ensures.value at c.count.ensures.counted) hardens c.in_ok-reply.ensures.ok.given in
     search (rules, performs)

@@ -1,4 +1,4 @@
-use Rattle.std.proofs.Common.{◌≡◌, ◌∙◌, ◌<◌, ◌^◌, length, ap, arith, inl}
+use Rattle.std.proofs.Common.{◌≡◌, ◌∙◌, ◌<◌, ◌^◌, length, ap, arith, inl, inr}
 use Rattle.nvme_wire.specs.Entry.{id_of}
 use Rattle.drive_port.proofs.ClosingLaws.{IsClosing-refl}
 use Rattle.passthrough.proofs.ThroughLaws.{halted-left, silent-answers, success-answers, told-effect}
@@ -21,3 +21,9 @@ returns-clause-answers g c =
 
 pub returns-then-stopped-clause-answers : goal.returns-then-stopped-clause-answers
 returns-then-stopped-clause-answers g c = silent-answers _ _ _ _ _ _ _ _ (omega arith) (inl (IsClosing-refl _))
+
+pub returns-in_default-status-clause-answers : goal.returns-in_default-status-clause-answers
+returns-in_default-status-clause-answers g c =
+    let done = c.in-Ok.ensures.gives.1 in
+    rw (← c.self.view_is)
+    (silent-answers _ _ _ _ _ _ _ _ (omega arith) (inr (inl (record { status = done.status; value = done.value; returned = done.performs.held; effect = rw c.encode-entry.ensures.again at done.performs.effect }))))

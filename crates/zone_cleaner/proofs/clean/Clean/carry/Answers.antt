@@ -1,9 +1,10 @@
-use Rattle.std.proofs.Common.{◌≡◌, ◌<◌, refl, ap, sym, subst, ◌∙◌, Some, Err, arith}
+use Rattle.std.proofs.Common.{◌≡◌, ◌<◌, ◌≤◌, ◌+◌, refl, ap, sym, subst, ◌∙◌, Some, Err, arith}
 use Rattle.zone_choice.specs.Agreement.{MountedView, mounted}
 use Rattle.zone_choice.specs.Builder.{IsBuilt}
-use Rattle.zone_choice.specs.Changes.{BatchLeaves, CanPlace, Places, built_for, sequence_end}
+use Rattle.zone_choice.specs.Changes.{BatchLeaves, CanPlace, Places, built_for, closes_before, sequence_end}
 use Rattle.zone_cleaner.proofs.BuildLaws.{data-whole, gathered-few, move-heading}
 use Rattle.zone_cleaner.proofs.EndLaws.{Carries, carry_done, carry_failed, carry_ready}
+use Rattle.zone_cleaner.proofs.BesideLaws.{few-closes}
 use Rattle.zone_cleaner.proofs.clean.Clean.carry.Goals as goal
 
 pub build-requires-clause-heading : goal.build-requires-clause-heading
@@ -78,3 +79,9 @@ returns-in-Err-clause-leaves g c =
     let same : mounted (g.D.Device.drive c.disk.inside.device) c.reserve_moves.new.self ≡ c.args.disk.now = ap (mounted (g.D.Device.drive c.disk.inside.device)) c.in_ok-reserve_moves.ensures.kept ∙ c.disk.view_is in
     let left = subst (λ (m : MountedView). BatchLeaves m c.append_batch.new.disk f.zone (built_for m batch) (Err c.in-Err.halt)) same c.in-Err.ensures.leaves in
     (rw c.fault_of.ensures (carry_failed c.args.disk.now c.append_batch.new.disk c.args.self.now f batch c.in-Err.halt k left), rw (c.in_ok-build.ensures.records, ← c.self.view_is) refl)
+
+pub returns-in-Ok-clause-completed : goal.returns-in-Ok-clause-completed
+returns-in-Ok-clause-completed g c =
+    let same : mounted (g.D.Device.drive c.disk.inside.device) c.reserve_moves.new.self ≡ c.args.disk.now = ap (mounted (g.D.Device.drive c.disk.inside.device)) c.in_ok-reserve_moves.ensures.kept ∙ c.disk.view_is in
+    let done = subst (λ (m : MountedView). c.append_batch.new.disk.drive.completed ≤ m.drive.completed + closes_before m c.in-Some-Destination.destination.zone + 1) same c.append_batch.ensures.completed in
+    omega (arith, done, few-closes c.args.disk.now c.in-Some-Destination.destination.zone)
