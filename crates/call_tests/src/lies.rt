@@ -75,7 +75,13 @@ struct Counts {
 }
 
 /// Mounts a copy of a drive that lies at a Read, and counts what comes of it.
-fn mount_lied(alloc: Global, drive: &Drive, read: u64, number: usize, counts: &mut Counts) -> Option<()> {
+fn mount_lied(
+    alloc: Global,
+    drive: &Drive,
+    read: u64,
+    number: usize,
+    counts: &mut Counts,
+) -> Option<()> {
     let Some(instead) = lie(alloc, drive, number) else {
         return Some(());
     };
@@ -98,7 +104,7 @@ fn mount_lied(alloc: Global, drive: &Drive, read: u64, number: usize, counts: &m
 /// Mounts copies of a drive that lie at each Read, by each lie.
 fn mount_all(alloc: Global, drive: &Drive, counts: &mut Counts) -> Option<()> {
     for number in 0..LIES {
-        for read in 0..30 {
+        for read in 0..20 {
             mount_lied(alloc, drive, read, number, counts)?;
         }
     }
@@ -114,13 +120,13 @@ fn a_mount_ends_whatever_a_read_returns(rt: HostRuntime) -> Result<(), Fail> {
         refused: 0,
         wrong: 0,
     };
-    for commands in 0..40 {
+    for commands in [0, 3, 9, 15, 21, 27, 33, 39] {
         let drive = stopped_after(alloc, commands).expect(&rt, "a drive");
         mount_all(alloc, &drive, &mut counts).expect(&rt, "mounts");
     }
     assert_eq!(rt; counts.wrong, 0);
-    assert_eq!(rt; counts.told, 0);
-    assert_eq!(rt; counts.served, 0);
-    assert_eq!(rt; counts.refused, 0);
+    assert!(rt; counts.served > 0);
+    assert!(rt; counts.refused > 0);
+    assert_eq!(rt; counts.told, counts.served.saturating_add(counts.refused));
     Ok(())
 }

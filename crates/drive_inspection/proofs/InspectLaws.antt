@@ -103,4 +103,5 @@ keeps-uncounted old new k = record {
   refused = k.refused;
   durable = k.durable;
   appended = k.appended;
+  trusted = k.trusted;
 }

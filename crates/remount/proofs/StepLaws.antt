@@ -26,8 +26,9 @@ use Rattle.remount.specs.declared.repair.Repair.{Repair}
 use Rattle.drive_survey.specs.declared.reported.ReportedZone.{ReportedZone}
 use Rattle.remount.specs.declared.plan.Plan.{Plan}
 use Rattle.drive_survey.specs.declared.survey.Survey.{Survey}
+use Rattle.drive_survey.specs.declared.scan.ScannedZone.{ScannedZone}
 use Rattle.drive_survey.specs.Heads.{HeadsView, greatest_sequence, heads_of, sequences_in}
-use Rattle.remount.specs.Kept.{AreVacantEmpty, IsNotedOpen, KeepsMountable}
+use Rattle.remount.specs.Kept.{AreVacantEmpty, Fits, IsNotedOpen, KeepsMountable}
 use Rattle.drive_survey.specs.Known.{HasVacant, Knows}
 use Rattle.remount.specs.Mount.{AreMountedRoles, AreToEmpty, AreWhole, CannotRepair, IsCleared, IsRepairPlan, IsPlanned, IsRepaired, IsToMount, IsUntorn, FinishesByNeed, KeepsOthers, LeavesCleared, LeavesEmptied, LeavesPlanned, LeavesRepaired, MountFails, Mounts, NoneIsTorn, PlanFails, PlansRepair, WasOpenOrTook}
 use Rattle.drive_survey.specs.Reported.{KeepsZones}
@@ -60,6 +61,13 @@ closing-keeps old new n k = record {
 }
 
 -- ---- a survey
+
+-- what knows a drive has looked at each of its zones
+pub knows-fits : (drive : DriveState) (n : ℕ) (logs : List (List Batch)) (survey : Survey) → Knows drive n logs survey → Fits drive survey
+knows-fits drive n logs survey is = record {
+  zones = is.zones;
+  scanned = omega (arith, length-map survey.scanned.items (λ (zone : ScannedZone). zone.heads), ap length is.heads, length-map logs heads_of, is.count, is.zones.count);
+}
 
 -- after a survey the drive is known by all of its logs
 pub survey-knows : (old new : DriveState) (n : ℕ) (survey : Survey) → KeepsZones old new → Surveys old new n survey → Knows new n (drive_logs new) survey

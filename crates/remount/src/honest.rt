@@ -7,7 +7,7 @@ ghost use Rattle.drive_survey.specs.Known.{Knows};
 ghost use Rattle.drive_survey.specs.Reported.{KeepsZones};
 ghost use Rattle.drive_survey.specs.Scan.{FailsBy};
 ghost use Rattle.drive_survey.specs.Survey.{CanScan, MayAsk};
-ghost use Rattle.remount.specs.Kept.{Fits, KeepsMountable};
+ghost use Rattle.remount.specs.Kept.{KeepsMountable};
 ghost use Rattle.remount.specs.Mount.{IsPlanned, IsToMount, MountFails, Mounts, PlanFails};
 
 use crate::plan::Plan;
@@ -26,7 +26,6 @@ pub fn plan_mount<D: Device + Honest>(
     // The survey knows the drive with all its batches, and has found no fault.
     requires known { Knows (D.drive device.old) survey.old.given (drive_logs (D.drive device.old)) survey.old }
     requires can { CanScan (D.drive device.old) survey.old.given }
-    requires fits { Fits (D.drive device.old) survey.old }
     // Done, the drive can be mounted, and the plan says what is to be done to it. The report is the same.
     ensures ok { IfOk result (IsPlanned (D.drive device.new) survey.old.given survey.new) }
     ensures zones { OnOk result (survey.new.zones ≡ survey.old.zones) }

@@ -1,4 +1,4 @@
-use Rattle.std.proofs.Common.{refl, sym, ap, subst, ◌∙◌, List}
+use Rattle.std.proofs.Common.{refl, sym, ap, subst, ◌∙◌, List, length, arith}
 use Rattle.zone_states.specs.declared.geometry.Geometry.{Geometry}
 use Rattle.drive_array.specs.Reserve.{most_size}
 use Rattle.drive_array.specs.ZoneLogs.{drive_logs}
@@ -7,6 +7,7 @@ use Rattle.drive_survey.specs.Heads.{greatest_sequence, sequences_in}
 use Rattle.drive_survey.specs.Scan.{heads_in}
 use Rattle.drive_survey.specs.Survey.{greatest_in}
 use Rattle.remount.specs.Mount.{IsPlaced}
+use Rattle.remount.proofs.StepLaws.{knows-fits}
 use Rattle.remount.proofs.TornPlanLaws.{can-count}
 use Rattle.drive_inspection.specs.Found.{TellZones}
 use Rattle.drive_inspection.proofs.HoldLaws.{holds-drive}
@@ -17,6 +18,13 @@ all_live-requires c = record { few = (can-count c.args.geometry.now c.args.surve
 
 pub zone_infos-requires-clause-few : goal.zone_infos-requires-clause-few
 zone_infos-requires-clause-few c = (can-count c.args.geometry.now c.args.survey.now.given c.args.survey.now c.in_ok-tables.tables c.requires.surveyed c.in_ok-tables.ensures.placed).few
+
+pub zone_infos-requires-clause-zones : goal.zone_infos-requires-clause-zones
+zone_infos-requires-clause-zones c =
+    let was = c.requires.surveyed in
+    let fits = knows-fits was.drive c.args.survey.now.given was.logs c.args.survey.now was.knows in
+    let scanned = ap (λ (zs : List ScannedZone). length zs) c.deref-3.ensures.value in
+    omega (arith, c.in_ok-tables.ensures.zones, scanned, fits.scanned, was.knows.zones.count, was.knows.zones.lawful.count, ap (λ (g : Geometry). g.zones) was.geometry_is)
 
 pub returns : goal.returns
 returns c = λ drive same known.
