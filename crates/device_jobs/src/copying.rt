@@ -4,13 +4,13 @@ ghost use Rattle.std.specs.Prelude.{◌≡◌};
 ghost use Rattle.device_jobs.specs.Copies.{ExportsDevice};
 
 use disk_copies::{CopyFault, ExportJob, blocks_asked, export_blocks};
-use drive_port::Device;
+use drive_port::{Device, Honest};
 use job_drives::mount_served;
 use std::alloc::Global;
 use std::io::Write;
 
 /// Mounts a drive, and writes blocks of it. The mount repairs the drive. It is given back, also after a fault.
-pub fn export_device<D: Device + Drop, W: Write>(
+pub fn export_device<D: Device + Honest + Drop, W: Write>(
     alloc: Global,
     job: &ExportJob,
     device: D,

@@ -4,7 +4,7 @@ ghost use Rattle.std.specs.Prelude.{◌≡◌, Bool, false};
 ghost use Rattle.device_jobs.specs.Ways.{HasNoWay};
 
 use crate::fault::DeviceFault;
-use drive_port::Device;
+use drive_port::{Device, Honest};
 use nbd_session::Medium;
 use std::alloc::Global;
 use thiserror::Error;
@@ -64,13 +64,13 @@ pub trait RawDrive {
 /// is opened, nor that one is: a way to real drives has its premise elsewhere.
 pub trait Devices {
     /// The drive of an open device.
-    type Drive: Device + Drop;
+    type Drive: Device + Honest + Drop;
 
     /// What makes durable what that drive has completed.
     type Medium: Medium + Drop;
 
     /// The drive of a device that is only read.
-    type Reader: Device + Drop;
+    type Reader: Device + Honest + Drop;
 
     /// The drive of a device to which entries are sent as they are.
     type Raw: RawDrive + Drop;

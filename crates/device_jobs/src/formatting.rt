@@ -16,7 +16,7 @@ use crate::format_fault::{FormatFault, NamedDrive};
 use crate::looking::look;
 use disk_files::{ok_reply, write_out};
 use drive_inspection::{Holding, Written, count_written, holding_of, is_written};
-use drive_port::{Device, reset};
+use drive_port::{Device, Honest, reset};
 use drive_survey::{MountFault, ReportedZone, report_zones};
 use nvme_wire::ZoneState;
 use std::alloc::Global;
@@ -55,7 +55,7 @@ fn unlooked(fault: ToolFault) -> FormatFault
 }
 
 /// What is in the zones of a drive.
-fn find_holding<D: Device>(alloc: Global, device: &mut D) -> Result<Holding, FormatFault>
+fn find_holding<D: Device + Honest>(alloc: Global, device: &mut D) -> Result<Holding, FormatFault>
     ensures ok { IfOk result (IsHolding (D.drive device.old)) }
     ensures err { IfErr result (IsUnlooked (D.drive device.new)) }
     ensures kept { KeepsZones (D.drive device.old) (D.drive device.new) }
@@ -128,7 +128,7 @@ fn zones_of<D: Device>(alloc: Global, device: &mut D) -> Result<Vec<ReportedZone
 }
 
 /// Resets the zones of a drive that are not Empty, if they may be destroyed, and tells before what they hold.
-fn empty_zones<D: Device, E: Eprint>(
+fn empty_zones<D: Device + Honest, E: Eprint>(
     errors: &E,
     alloc: Global,
     named: NamedDrive<'_>,
@@ -160,7 +160,7 @@ fn empty_zones<D: Device, E: Eprint>(
 }
 
 /// The same, but a drive with a zone that is Read Only or Offline is left as it is.
-fn empty_usable<D: Device, E: Eprint>(
+fn empty_usable<D: Device + Honest, E: Eprint>(
     errors: &E,
     alloc: Global,
     named: NamedDrive<'_>,
@@ -200,7 +200,7 @@ fn say_ok<W: Write>(alloc: Global, output: &mut W) -> Result<(), FormatFault>
 /// Makes a drive in which nothing is written, and says `ok`. A drive whose zones are all Empty is left as it is.
 /// Without `force` any other is refused. With it people are told which drive it is and what it holds. Then each zone
 /// that is not Empty is reset. A drive with a zone that is Read Only or Offline is refused, and no zone of it is reset.
-pub fn format_device<D: Device, E: Eprint, W: Write>(
+pub fn format_device<D: Device + Honest, E: Eprint, W: Write>(
     errors: &E,
     alloc: Global,
     named: NamedDrive<'_>,

@@ -9,7 +9,7 @@ ghost use Rattle.drive_inspection.specs.Written.{HoldsInfo};
 ghost use Rattle.device_jobs.specs.Looks.{AreFindingsOf, IsUnasked};
 
 use drive_inspection::{DriveInfo, Findings, blocks_taken, check_drive, inspect_drive};
-use drive_port::Device;
+use drive_port::{Device, Honest};
 use std::alloc::Global;
 use std::io::Write;
 use tool_jobs::{Form, PlanRows, ToolFault, interrupted, plan_of, tell};
@@ -17,7 +17,7 @@ use write_plan::Aim;
 use zone_states::Geometry;
 
 /// All faults of a drive.
-fn find_faults<D: Device>(alloc: Global, blocks: u64, device: &mut D) -> Result<Findings, ToolFault>
+fn find_faults<D: Device + Honest>(alloc: Global, blocks: u64, device: &mut D) -> Result<Findings, ToolFault>
     ensures ok { IfOk result (AreFindings (D.drive device.old) blocks) }
     ensures err { IfErr result (IsUnasked (D.drive device.new)) }
     ensures kept { KeepsZones (D.drive device.old) (D.drive device.new) }
@@ -30,7 +30,7 @@ fn find_faults<D: Device>(alloc: Global, blocks: u64, device: &mut D) -> Result<
 
 /// Tells all faults of a drive, and whether a mount as `blocks` logical blocks would be done. The drive is not
 /// restarted before. No zone is changed, but that the controller may close some.
-pub fn check_device<D: Device, F: Form<Findings>, W: Write>(
+pub fn check_device<D: Device + Honest, F: Form<Findings>, W: Write>(
     alloc: Global,
     blocks: u64,
     device: &mut D,
@@ -50,7 +50,7 @@ pub fn check_device<D: Device, F: Form<Findings>, W: Write>(
 }
 
 /// What a drive holds. If it does not say how many logical blocks it has, it is taken to have as many as it can serve.
-pub(crate) fn look<D: Device>(alloc: Global, device: &mut D) -> Result<DriveInfo, ToolFault>
+pub(crate) fn look<D: Device + Honest>(alloc: Global, device: &mut D) -> Result<DriveInfo, ToolFault>
     ensures ok { IfOk result (HoldsInfo (D.drive device.old)) }
     ensures err { IfErr result (IsUnasked (D.drive device.new)) }
     ensures kept { KeepsZones (D.drive device.old) (D.drive device.new) }
@@ -64,7 +64,7 @@ pub(crate) fn look<D: Device>(alloc: Global, device: &mut D) -> Result<DriveInfo
 
 /// Tells what a drive holds, and what a mount would do. The drive is not restarted before, and it is not mounted: no
 /// zone is changed, but that the controller may close some.
-pub fn inform_device<D: Device, F: Form<DriveInfo>, W: Write>(
+pub fn inform_device<D: Device + Honest, F: Form<DriveInfo>, W: Write>(
     alloc: Global,
     device: &mut D,
     form: &F,

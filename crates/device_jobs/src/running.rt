@@ -11,14 +11,14 @@ use crate::reporting::answer_report;
 use disk_files::LineReader;
 use disk_jobs::{Mounting, TraceRun, run_counted, run_stopping};
 use disk_runs::RunFault;
-use drive_port::Device;
+use drive_port::{Device, Honest};
 use std::alloc::Global;
 use std::io::{Read, Write};
 use tool_jobs::ToolFault;
 use zone_translator::DiskFault;
 
 /// Answers a trace over a device that stops, and then shows what was counted if it is asked for.
-fn answer_asked<D: Device + Drop, R: Read + Drop, W: Write>(
+fn answer_asked<D: Device + Honest + Drop, R: Read + Drop, W: Write>(
     alloc: Global,
     device: D,
     job: &DeviceRun,
@@ -53,7 +53,7 @@ pub fn run_fault(fault: ToolFault) -> RunFault
 }
 
 /// Shows the zones of a drive after a run that was done, if they are asked for.
-fn show_after<D: Device, W: Write>(
+fn show_after<D: Device + Honest, W: Write>(
     alloc: Global,
     zones: bool,
     device: &mut D,
@@ -74,7 +74,7 @@ fn show_after<D: Device, W: Write>(
 
 /// Mounts a drive, answers the lines of a trace, and then shows the zones if they are asked for. The drive is not
 /// restarted before, so that it continues where the last program left it. It is given back, also after a fault.
-pub fn run_device<D: Device + Drop, R: Read + Drop, W: Write>(
+pub fn run_device<D: Device + Honest + Drop, R: Read + Drop, W: Write>(
     alloc: Global,
     device: D,
     job: &DeviceRun,

@@ -8,7 +8,7 @@ ghost use Rattle.nbd_jobs.specs.Serving.{ServesStopping, TellsSession, sent_end}
 ghost use Rattle.device_jobs.specs.Durable.{ServesAndHardens};
 
 use crate::hardening::{HardenFault, harden};
-use drive_port::Device;
+use drive_port::{Device, Honest};
 use job_drives::KeepFault;
 use nbd_jobs::{
     BUFFER, Ended, Kept, NbdFault, NbdJob, SessionTold, are_sent, sent_end, serve_stopping,
@@ -30,7 +30,7 @@ pub struct Served {
 
 /// Mounts the drive behind a device, and serves it to a client, read only if the job says so. Each sync is one of the
 /// medium.
-pub fn serve_device<D: Device + Drop, M: Medium + Drop, R: Client, W: Write>(
+pub fn serve_device<D: Device + Honest + Drop, M: Medium + Drop, R: Client, W: Write>(
     alloc: Global,
     job: &NbdJob,
     device: D,
@@ -65,7 +65,7 @@ pub struct Hardened<D: Device + Drop, M: Medium + Drop> {
 }
 
 /// The same, and makes durable at the end what the drive has completed, also after a fault.
-pub fn serve_hardened<D: Device + Drop, M: Medium + Drop, R: Client, W: Write>(
+pub fn serve_hardened<D: Device + Honest + Drop, M: Medium + Drop, R: Client, W: Write>(
     alloc: Global,
     job: &NbdJob,
     device: D,
@@ -110,7 +110,7 @@ fn told_after<D: Device + Drop, M: Medium + Drop>(done: Hardened<D, M>, sent: bo
 }
 
 /// The same for a client that sends to `input` and gets what `output` takes, both through buffers.
-pub fn serve_client<D: Device + Drop, M: Medium + Drop, R: Read + Drop, W: Write>(
+pub fn serve_client<D: Device + Honest + Drop, M: Medium + Drop, R: Read + Drop, W: Write>(
     alloc: Global,
     job: &NbdJob,
     device: D,

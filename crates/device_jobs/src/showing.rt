@@ -6,7 +6,7 @@ ghost use Rattle.tool_jobs.specs.Pictures.{LooksNone};
 ghost use Rattle.tool_jobs.specs.Telling.{TellsFound, TellsNothing};
 ghost use Rattle.device_jobs.specs.Shown.{IsLiveFor, IsShownDrive, IsUnshown, ShowsDrive};
 
-use drive_port::{Device, Geometry};
+use drive_port::{Device, Geometry, Honest};
 use drive_survey::{ReportedZone, report_zones};
 use std::alloc::{AllocError, Global};
 use std::io::Write;
@@ -46,7 +46,7 @@ pub struct ShownDrive {
 }
 
 /// How many live blocks with data each zone has, if a form shows them.
-fn live_for<D: Device>(
+fn live_for<D: Device + Honest>(
     alloc: Global,
     form: ZonesForm,
     device: &mut D,
@@ -63,7 +63,7 @@ fn live_for<D: Device>(
 }
 
 /// The zones of a drive as a report shows them, with their live blocks if the form shows these.
-fn find_shown<D: Device>(
+fn find_shown<D: Device + Honest>(
     alloc: Global,
     form: ZonesForm,
     device: &mut D,
@@ -107,7 +107,7 @@ impl Form<ShownDrive> for ZonesForm {
 
 /// Shows the zones of a drive, in another form than the lines of its report. No zone is changed, but that the controller
 /// may close some.
-pub fn show_zones<D: Device, W: Write>(
+pub fn show_zones<D: Device + Honest, W: Write>(
     alloc: Global,
     form: ZonesForm,
     device: &mut D,

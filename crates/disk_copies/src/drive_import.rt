@@ -9,7 +9,7 @@ use crate::importing::import_blocks;
 use crate::job::ImportJob;
 use crate::stream_fault::ImportFault;
 use drive_journal::ChangeStore;
-use drive_port::Device;
+use drive_port::{Device, Honest};
 use job_drives::{DriveFile, KeepFault, Left, keep_restarted, leave, mount_served};
 use std::alloc::Global;
 use std::io::Read;
@@ -26,7 +26,7 @@ fn import_end(taken: Result<u64, ImportFault>) -> Result<u64, CopyFault>
 }
 
 /// Mounts a drive, and imports blocks into it.
-pub fn import_mounted<D: Device + Drop, R: Read>(
+pub fn import_mounted<D: Device + Honest + Drop, R: Read>(
     alloc: Global,
     job: &ImportJob,
     device: D,

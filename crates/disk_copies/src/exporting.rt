@@ -9,7 +9,7 @@ ghost use Rattle.disk_copies.specs.Copies.{Exports};
 use crate::piece::{block_of, piece_blocks};
 use crate::stream_fault::ExportFault;
 use disk_files::write_out;
-use drive_port::Device;
+use drive_port::{Device, Honest};
 use std::alloc::Global;
 use std::io::Write;
 use zone_translator::{Disk, DiskFault};
@@ -22,7 +22,7 @@ fn is_past_end(size: u64, first: u64, blocks: u64) -> bool
 }
 
 /// Writes one piece of an export.
-fn export_piece<D: Device + Drop, W: Write>(
+fn export_piece<D: Device + Honest + Drop, W: Write>(
     disk: &mut Disk<D>,
     writer: &mut W,
     first: u64,
@@ -41,7 +41,7 @@ fn export_piece<D: Device + Drop, W: Write>(
 ///
 /// A range past the end is refused before anything is written. After another fault the first blocks are written, and
 /// where the writer failed a beginning of the next ones.
-pub fn export_blocks<D: Device + Drop, W: Write>(
+pub fn export_blocks<D: Device + Honest + Drop, W: Write>(
     alloc: Global,
     disk: &mut Disk<D>,
     writer: &mut W,

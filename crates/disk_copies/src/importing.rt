@@ -8,7 +8,7 @@ use crate::piece::{block_of, piece_blocks};
 use crate::putting::put;
 use crate::stream_fault::ImportFault;
 use disk_files::fill;
-use drive_port::Device;
+use drive_port::{Device, Honest};
 use std::alloc::{AllocError, Global};
 use std::io::Read;
 use zone_translator::Disk;
@@ -25,7 +25,7 @@ fn piece_buffer(alloc: Global, block: u32) -> Result<Vec<u8>, AllocError>
 }
 
 /// Reads a piece, and writes its blocks from the block `first` on. It tells how many: none only at the end.
-fn import_piece<D: Device + Drop, R: Read>(
+fn import_piece<D: Device + Honest + Drop, R: Read>(
     disk: &mut Disk<D>,
     reader: &mut R,
     piece: &mut [u8],
@@ -58,7 +58,7 @@ fn import_piece<D: Device + Drop, R: Read>(
 ///
 /// After a fault the blocks before are written. If the reader failed, those are missing that were read with the last
 /// bytes, less than 1 MiB of them; if the disk refused, a front of the last ones is written.
-pub fn import_blocks<D: Device + Drop, R: Read>(
+pub fn import_blocks<D: Device + Honest + Drop, R: Read>(
     alloc: Global,
     disk: &mut Disk<D>,
     reader: &mut R,

@@ -6,7 +6,7 @@ ghost use Rattle.zone_translator.specs.Flat.{FlatCall, with_nothing};
 ghost use Rattle.zone_translator.specs.Keeping.{KeepsServed};
 ghost use Rattle.zone_translator.specs.View.{DiskCause, disk_size, flat_of};
 
-use drive_port::Device;
+use drive_port::{Device, Honest};
 use zone_translator::{Disk, DiskFault};
 
 /// Whether all bytes of a block are zeros.
@@ -44,7 +44,7 @@ fn first_run(bytes: &[u8], block: usize) -> Run
 }
 
 /// Writes a run of blocks, or trims it.
-fn put_run<D: Device + Drop>(
+fn put_run<D: Device + Honest + Drop>(
     disk: &mut Disk<D>,
     first: u64,
     bytes: &[u8],
@@ -66,7 +66,7 @@ fn put_run<D: Device + Drop>(
 
 /// Writes whole blocks from the block `first` on. If it is sparse, those of zeros are trimmed. After a refusal a front
 /// of the blocks is written.
-pub(crate) fn put<D: Device + Drop>(
+pub(crate) fn put<D: Device + Honest + Drop>(
     disk: &mut Disk<D>,
     first: u64,
     bytes: &[u8],

@@ -14,7 +14,7 @@ use crate::statistics::run_counted;
 use disk_files::LineReader;
 use disk_runs::{RunFault, Taking, answer_trace, run_raw};
 use drive_journal::ChangeStore;
-use drive_port::Device;
+use drive_port::{Device, Honest};
 use job_drives::{Begun, Left, Stop, Stored, leave, stopping};
 use std::alloc::Global;
 use std::io::{Read, Write};
@@ -46,7 +46,7 @@ pub struct TraceRun {
 }
 
 /// Answers a trace over a device that stops. It tells what is known of the mount.
-pub fn run_stopping<D: Device + Drop, R: Read + Drop, W: Write>(
+pub fn run_stopping<D: Device + Honest + Drop, R: Read + Drop, W: Write>(
     alloc: Global,
     device: D,
     how: TraceRun,
@@ -70,7 +70,7 @@ pub fn run_stopping<D: Device + Drop, R: Read + Drop, W: Write>(
 }
 
 /// Answers the lines of a job over a device. It tells what is known of the mount, if there was one.
-fn run_lines<D: Device + Drop, R: Read + Drop, W: Write>(
+fn run_lines<D: Device + Honest + Drop, R: Read + Drop, W: Write>(
     alloc: Global,
     job: &Job,
     device: D,

@@ -1,7 +1,7 @@
 ghost use Rattle.std.specs.Prelude.{◌≡◌, None, Some};
 ghost use Rattle.job_drives.specs.DiskSize.{size_of};
 
-use drive_port::Device;
+use drive_port::{Device, Honest};
 use job_drives::DiskSize;
 use zone_translator::Disk;
 
@@ -22,7 +22,7 @@ impl Mounting {
     };
 
     /// Of the disk that was just mounted.
-    pub(crate) fn done<D: Device + Drop>(disk: &Disk<D>) -> Mounting
+    pub(crate) fn done<D: Device + Honest + Drop>(disk: &Disk<D>) -> Mounting
         ensures commands { result.commands ≡ disk.now.drive.completed }
         ensures disk { result.disk ≡ Some (size_of disk.now) }
     {

@@ -9,14 +9,14 @@ use crate::mounting::Mounting;
 use disk_files::{LineReader, write_out};
 use disk_runs::{RunFault, answer_trace};
 use drive_counter::Counter;
-use drive_port::Device;
+use drive_port::{Device, Honest};
 use job_drives::{statistics_of, stopping};
 use std::alloc::Global;
 use std::io::{Read, Write};
 use zone_translator::Disk;
 
 /// Writes what was counted of a disk, without a command.
-fn write_statistics<W: Write, D: Device + Drop>(
+fn write_statistics<W: Write, D: Device + Honest + Drop>(
     alloc: Global,
     disk: &Disk<Counter<D>>,
     output: &mut W,
@@ -29,7 +29,7 @@ fn write_statistics<W: Write, D: Device + Drop>(
 }
 
 /// Writes what was counted of a disk after a run that was done.
-fn tell_after<W: Write, D: Device + Drop>(
+fn tell_after<W: Write, D: Device + Honest + Drop>(
     alloc: Global,
     disk: &Disk<Counter<D>>,
     ran: Result<(), RunFault>,
@@ -45,7 +45,7 @@ fn tell_after<W: Write, D: Device + Drop>(
 
 /// Answers a trace over a device that stops and whose commands are counted, and then shows what was counted. It tells
 /// what is known of the mount.
-pub fn run_counted<D: Device + Drop, R: Read + Drop, W: Write>(
+pub fn run_counted<D: Device + Honest + Drop, R: Read + Drop, W: Write>(
     alloc: Global,
     device: D,
     how: TraceRun,

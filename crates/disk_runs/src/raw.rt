@@ -6,7 +6,7 @@ ghost use Rattle.disk_runs.specs.Run.{Runs, exchange};
 use crate::fault::RunFault;
 use crate::lines::{Answerer, answer_lines};
 use disk_files::{LineReader, ParseFault, WriteFault, is_skipped, parse_raw_line, write_raw_reply};
-use drive_port::{Device, Halt};
+use drive_port::{Device, Halt, Honest};
 use std::alloc::Global;
 use std::io::{Read, Write};
 use zone_translator::DiskFault;
@@ -23,7 +23,7 @@ struct RawAnswerer<D: Device + Drop> {
     returned: Vec<u8>,
 }
 
-impl<D: Device + Drop> Answerer for RawAnswerer<D> {
+impl<D: Device + Honest + Drop> Answerer for RawAnswerer<D> {
     ghost State = { DriveState };
 
     ghost state = { λ r. D.drive r.device };
@@ -71,7 +71,7 @@ impl<D: Device + Drop> Answerer for RawAnswerer<D> {
 ///
 /// After a fault the replies of all lines before stand and, where the writer failed, a beginning of the
 /// next one. A device that halts is the fault `Disk`, with `OutOfMemory` or `Stopped`.
-pub fn run_raw<R: Read + Drop, W: Write, D: Device + Drop>(
+pub fn run_raw<R: Read + Drop, W: Write, D: Device + Honest + Drop>(
     alloc: Global,
     reader: &mut LineReader<R>,
     writer: &mut W,

@@ -12,7 +12,7 @@ ghost use Rattle.disk_runs.specs.Trace.{EndCause, HasCause, ReadsFew};
 use crate::fault::RunFault;
 use crate::requests::SHORT_REPLY;
 use disk_files::{block_line, ok_reply, out_of_range_reply};
-use drive_port::Device;
+use drive_port::{Device, Honest};
 use zone_translator::Disk;
 
 /// Whether a call of these blocks goes past the end of a disk. One of no block does not.
@@ -24,7 +24,7 @@ fn is_past_end(size: u64, first: u64, blocks: u64) -> bool
 
 /// Puts the lines of blocks after what `reply` holds. Each block is read when its line is made, so that no
 /// more than one is held.
-fn show_blocks<D: Device + Drop>(
+fn show_blocks<D: Device + Honest + Drop>(
     disk: &mut Disk<D>,
     first: u64,
     blocks: u64,
@@ -66,7 +66,7 @@ fn show_blocks<D: Device + Drop>(
 const OK_REPLY: usize = 3;
 
 /// Reads blocks, and puts the reply into `reply`, which is empty and has room for a short one.
-pub(crate) fn read_blocks<D: Device + Drop>(
+pub(crate) fn read_blocks<D: Device + Honest + Drop>(
     disk: &mut Disk<D>,
     first: u64,
     blocks: u64,

@@ -12,7 +12,7 @@ ghost use Rattle.disk_runs.specs.Trace.{MountsAgain, StopsBy, TurnsBy};
 use crate::fault::RunFault;
 use crate::reads::read_blocks;
 use disk_files::{TraceLine, ok_reply, out_of_range_reply, reserve_reply, smaller_reply};
-use drive_port::Device;
+use drive_port::{Device, Honest};
 use zone_translator::{Disk, DiskFault};
 
 /// The bytes of the longest reply but those of reads: `refused 1 OutOfRange`, and a line feed.
@@ -50,7 +50,7 @@ fn tell(done: Result<(), DiskFault>, reply: &mut Vec<u8>) -> Result<(), RunFault
 
 /// Gives the cleaner turns, up to one that is refused. Where no clean runs before a turn and none after it, none is
 /// due, and the turns that are left would do nothing.
-fn clean<D: Device + Drop>(disk: &mut Disk<D>, turns: u32) -> Result<(), DiskFault>
+fn clean<D: Device + Honest + Drop>(disk: &mut Disk<D>, turns: u32) -> Result<(), DiskFault>
     // Done, all turns count as taken. Refused, fewer were taken, and the fault has its cause.
     ensures flat { Turns turns (flat_of disk.old) result (flat_of disk.new) }
     ensures turns { TurnsBy result turns disk.old disk.new }
@@ -70,7 +70,7 @@ fn clean<D: Device + Drop>(disk: &mut Disk<D>, turns: u32) -> Result<(), DiskFau
 }
 
 /// Mounts the drive again, and puts the reply into `reply`, which is empty and has room for it.
-fn mount_again<D: Device + Drop>(disk: &mut Disk<D>, reply: &mut Vec<u8>) -> Result<(), RunFault>
+fn mount_again<D: Device + Honest + Drop>(disk: &mut Disk<D>, reply: &mut Vec<u8>) -> Result<(), RunFault>
     requires empty { reply.old.items ≡ [] }
     requires room { SHORT_REPLY ≤ vec_capacity reply.old }
     // Done, the reply is a flat disk's.
@@ -96,7 +96,7 @@ fn mount_again<D: Device + Drop>(disk: &mut Disk<D>, reply: &mut Vec<u8>) -> Res
 
 /// Does what a line asks for, and puts the reply into `reply`, which is empty and has room for a short one.
 /// A read leaves in `block` the block that it showed last.
-pub(crate) fn answer_request<D: Device + Drop>(
+pub(crate) fn answer_request<D: Device + Honest + Drop>(
     disk: &mut Disk<D>,
     line: TraceLine,
     bytes: &[u8],
@@ -142,7 +142,7 @@ pub(crate) fn answer_request<D: Device + Drop>(
 }
 
 /// Flushes a disk, if that is asked for.
-pub(crate) fn flush_if<D: Device + Drop>(disk: &mut Disk<D>, flushes: bool) -> Result<(), DiskFault>
+pub(crate) fn flush_if<D: Device + Honest + Drop>(disk: &mut Disk<D>, flushes: bool) -> Result<(), DiskFault>
     ensures { FlushesIf flushes disk.old result disk.new }
 {
     if !flushes {

@@ -11,7 +11,7 @@ use crate::lines::{Answerer, answer_lines};
 use crate::requests::{SHORT_REPLY, answer_request, flush_if};
 use crate::taking::Taking;
 use disk_files::{LineReader, ParseFault, TraceLine, WriteFault, is_skipped, write_out};
-use drive_port::Device;
+use drive_port::{Device, Honest};
 use std::alloc::Global;
 use std::io::{Read, Write};
 use zone_translator::Disk;
@@ -29,7 +29,7 @@ struct TraceAnswerer<D: Device + Drop> {
     reply: Vec<u8>,
 }
 
-impl<D: Device + Drop> Answerer for TraceAnswerer<D> {
+impl<D: Device + Honest + Drop> Answerer for TraceAnswerer<D> {
     ghost State = { DiskView };
 
     ghost state = { λ t. t.disk };
@@ -83,7 +83,7 @@ impl<D: Device + Drop> Answerer for TraceAnswerer<D> {
 ///
 /// After a fault the replies of all lines before stand and, where the writer failed, a beginning of the
 /// next one. A line whose flush was refused is done, and has no reply.
-pub fn answer_trace<R: Read + Drop, W: Write, D: Device + Drop>(
+pub fn answer_trace<R: Read + Drop, W: Write, D: Device + Honest + Drop>(
     alloc: Global,
     taking: Taking,
     reader: &mut LineReader<R>,
@@ -106,7 +106,7 @@ pub fn answer_trace<R: Read + Drop, W: Write, D: Device + Drop>(
 
 /// Mounts the drive as a disk of `blocks` logical blocks, and answers each line of the reader by its calls, as
 /// [`answer_trace`] does. The drive is given back.
-pub fn run_trace<R: Read + Drop, W: Write, D: Device + Drop>(
+pub fn run_trace<R: Read + Drop, W: Write, D: Device + Honest + Drop>(
     alloc: Global,
     reader: &mut LineReader<R>,
     writer: &mut W,

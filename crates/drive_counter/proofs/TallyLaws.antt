@@ -112,7 +112,12 @@ tally-gives before old new counts after entry bytes (Ok completion) returned was
         fits = gives.1.fits;
         encoded = gives.1.encoded;
         performs = record {
+          held = p.held;
           effect = p.effect;
+          told = p.told;
+          length_is = p.length_is;
+          trusted = p.trusted;
+          fair = p.fair;
           geometry = p.geometry;
           completed = omega (arith, p.completed);
           refused = p.refused;
@@ -129,6 +134,8 @@ tally-gives before old new counts after entry bytes (Err Stopped) returned was i
         already = λ e. rw (s.already e, halted) refl;
         stopped = s.stopped;
         geometry = s.geometry;
+        trusted = s.trusted;
+        fair = s.fair;
         counts = record { completed = ap commands_of halted; refused = s.counts.refused; appended = s.counts.appended };
         left = s.left;
         hardens = tally-may_harden (decode_of entry) old new counts after s.hardens;

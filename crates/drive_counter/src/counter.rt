@@ -6,7 +6,7 @@ ghost use Rattle.drive_counter.specs.Counting.{counts_after, no_counts};
 
 use crate::counts::Counts;
 use byteorder::{ByteOrder, LittleEndian};
-use drive_port::{Device, Geometry, Halt};
+use drive_port::{Device, Geometry, Halt, Honest};
 use nvme_wire::Command;
 use std::marker::Model;
 
@@ -118,5 +118,11 @@ impl<D: Device + Drop> Device for Counter<D> {
         let completion = self.device.submit_extending(entry, into)?;
         self.count(entry, &[], &completion);
         Ok(completion)
+    }
+}
+
+impl<D: Device + Honest + Drop> Honest for Counter<D> {
+    fn vouch(&self) {
+        self.device.vouch();
     }
 }

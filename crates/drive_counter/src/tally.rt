@@ -5,7 +5,7 @@ ghost use Rattle.drive_counter.specs.Counting.{counts_after, no_counts, tallied}
 
 use crate::counter::Counter;
 use crate::counts::Counts;
-use drive_port::{Device, Geometry, Halt};
+use drive_port::{Device, Geometry, Halt, Honest};
 use std::marker::Model;
 
 /// Counts the commands that a device completes, and has completed as many itself: those that the device within
@@ -98,5 +98,11 @@ impl<D: Device + Drop> Device for Tally<D> {
         ensures halted { OnErr result (self.new.counts ≡ self.old.counts) }
     {
         self.counter.submit_extending(entry, into)
+    }
+}
+
+impl<D: Device + Honest + Drop> Honest for Tally<D> {
+    fn vouch(&self) {
+        self.counter.vouch();
     }
 }

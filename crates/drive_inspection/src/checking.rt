@@ -16,7 +16,7 @@ use crate::lists::{
     batch_faults, repeated_sequences, size_read, torn_zones, unusable_zones, zones_past_end,
 };
 use crate::reading::{ZoneReading, read_zones};
-use drive_port::Device;
+use drive_port::{Device, Honest};
 use drive_survey::{MountFault, ReportedZone, count_partly_written, report_zones};
 use std::alloc::{AllocError, Global};
 
@@ -63,7 +63,7 @@ fn list_reads(
 }
 
 /// What is found of the zones of a drive, none of which is Read Only or Offline. The other findings stay.
-fn list_zones<D: Device>(
+fn list_zones<D: Device + Honest>(
     alloc: Global,
     device: &mut D,
     zones: &[ReportedZone],
@@ -90,7 +90,7 @@ fn list_zones<D: Device>(
 }
 
 /// All faults of a drive that a mount refuses, whose geometry is in range.
-fn list_faults<D: Device>(
+fn list_faults<D: Device + Honest>(
     alloc: Global,
     device: &mut D,
     given: u64,
@@ -139,7 +139,7 @@ fn is_limits(fault: MountFault) -> bool
 
 /// Finds all faults of a drive, taken as `given` logical blocks if no header says how many. Reports and Reads are sent.
 /// The fault is `Halted` (the drive has stopped) or `OutOfMemory`.
-pub fn check_drive<D: Device>(
+pub fn check_drive<D: Device + Honest>(
     alloc: Global,
     device: &mut D,
     given: u64,

@@ -4,9 +4,11 @@ ghost use Rattle.drive_survey.specs.Scan.{FailsBy};
 ghost use Rattle.remount.specs.Mount.{MountFails};
 ghost use Rattle.drive_inspection.specs.Findings.{ForeseesMount};
 
-use drive_port::Device;
-use drive_survey::{MountFault, Survey, survey_drive};
-use remount::{Plan, plan_mount};
+use drive_port::{Device, Honest};
+use drive_survey::honest::survey_drive;
+use drive_survey::{MountFault, Survey};
+use remount::Plan;
+use remount::honest::plan_mount;
 use std::alloc::Global;
 use zone_states::Geometry;
 
@@ -22,7 +24,7 @@ pub struct Foreseen {
 }
 
 /// Goes as far as a mount does before it changes the drive.
-pub fn foresee_mount<D: Device>(
+pub fn foresee_mount<D: Device + Honest>(
     alloc: Global,
     device: &mut D,
     given: u64,

@@ -11,13 +11,14 @@ ghost use Rattle.drive_inspection.specs.Info.{IsDriveInfo, IsInfo, WereReported}
 use crate::holding::holdings;
 use crate::info::{DriveInfo, Info};
 use crate::work::work_of;
-use drive_port::Device;
-use drive_survey::{MountFault, ReportedZone, report_zones, survey_drive};
-use remount::plan_mount;
+use drive_port::{Device, Honest};
+use drive_survey::honest::survey_drive;
+use drive_survey::{MountFault, ReportedZone, report_zones};
+use remount::honest::plan_mount;
 use std::alloc::Global;
 
 /// What a drive holds that can be mounted, and what a mount does to it.
-fn find_info<D: Device>(alloc: Global, device: &mut D, given: u64) -> Result<Info, MountFault>
+fn find_info<D: Device + Honest>(alloc: Global, device: &mut D, given: u64) -> Result<Info, MountFault>
     ensures ok { IfOk result (IsInfo (D.drive device.old) given) }
     ensures err { IfErr result (FailsBy (MountFails (D.drive device.old) given) (D.drive device.new)) }
     ensures kept { KeepsZones (D.drive device.old) (D.drive device.new) }
@@ -60,7 +61,7 @@ fn found_or_interrupted(
 
 /// Looks at a drive, taken as `given` logical blocks if no header says how many. Reports and Reads are sent.
 /// The fault is `Halted` (the drive has stopped) or `OutOfMemory`.
-pub fn inspect_drive<D: Device>(
+pub fn inspect_drive<D: Device + Honest>(
     alloc: Global,
     device: &mut D,
     given: u64,

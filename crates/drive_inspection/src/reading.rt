@@ -3,8 +3,9 @@ ghost use Rattle.drive_survey.specs.Reported.{IsKnown, KeepsZones};
 ghost use Rattle.drive_survey.specs.Scan.{AreKnown, IsInterruption};
 ghost use Rattle.drive_inspection.specs.Reads.{AreReads, ReadsAlone};
 
-use drive_port::Device;
-use drive_survey::{MountFault, ReadableZone, ReportedZone, ScannedZone, scan_zone};
+use drive_port::{Device, Honest};
+use drive_survey::honest::scan_zone;
+use drive_survey::{MountFault, ReadableZone, ReportedZone, ScannedZone};
 use std::alloc::Global;
 use std::collections::BTreeSet;
 
@@ -12,7 +13,7 @@ use std::collections::BTreeSet;
 pub type ZoneReading = Result<ScannedZone, MountFault>;
 
 /// Reads the batches of a zone by themselves.
-fn read_zone<D: Device>(
+fn read_zone<D: Device + Honest>(
     alloc: Global,
     device: &mut D,
     zone: ReadableZone,
@@ -35,7 +36,7 @@ fn read_zone<D: Device>(
 }
 
 /// Reads the batches of each zone by themselves. No zone is Read Only or Offline.
-pub fn read_zones<D: Device>(
+pub fn read_zones<D: Device + Honest>(
     alloc: Global,
     device: &mut D,
     zones: &[ReportedZone],

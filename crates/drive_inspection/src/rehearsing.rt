@@ -10,9 +10,9 @@ ghost use Rattle.drive_inspection.specs.Info.{IsInspected, IsGivenUp, Rehearses,
 use crate::info::{DriveInfo, InspectedDrive, Rehearsal};
 use crate::inspecting::inspect_drive;
 use drive_counter::Tally;
-use drive_port::Device;
+use drive_port::{Device, Honest};
 use drive_survey::MountFault;
-use remount::mount;
+use remount::honest::mount;
 use std::alloc::Global;
 use zone_states::Geometry;
 
@@ -26,7 +26,7 @@ fn batches_left(geometry: &Geometry, next: u64) -> u64
 
 /// Mounts a drive as `given` logical blocks if no header says how many, and forgets the tables. So it tells what a
 /// mount takes. The drive is for this use only.
-pub fn rehearse_mount<D: Device>(
+pub fn rehearse_mount<D: Device + Honest>(
     alloc: Global,
     device: &mut D,
     given: u64,
@@ -46,7 +46,7 @@ pub fn rehearse_mount<D: Device>(
 }
 
 /// Looks at a drive, and then rehearses a mount of it, whose commands are counted. The drive is dropped.
-pub fn inspect_and_rehearse<D: Device + Drop>(
+pub fn inspect_and_rehearse<D: Device + Honest + Drop>(
     alloc: Global,
     device: D,
     given: u64,

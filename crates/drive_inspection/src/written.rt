@@ -11,7 +11,7 @@ ghost use Rattle.drive_inspection.specs.Written.{ShowsWritten, is_written};
 use crate::info::{DriveInfo, Info};
 use crate::inspecting::inspect_drive;
 use drive_array::most_blocks;
-use drive_port::Device;
+use drive_port::{Device, Honest};
 use drive_survey::{MountFault, ReportedZone};
 use nvme_wire::ZoneState;
 use std::alloc::Global;
@@ -124,7 +124,10 @@ fn written_of(info: &DriveInfo) -> Option<Written>
 
 /// What a format of a drive destroys, if a zone of it is not Empty. The fault is `Limits` (the geometry is out of
 /// range), `Halted` (the drive has stopped) or `OutOfMemory`.
-pub fn find_written<D: Device>(alloc: Global, device: &mut D) -> Result<Option<Written>, MountFault>
+pub fn find_written<D: Device + Honest>(
+    alloc: Global,
+    device: &mut D,
+) -> Result<Option<Written>, MountFault>
     ensures some { IfOk result (λ found. IfSome found (IsWritten (D.drive device.old))) }
     ensures none { IfOk result (λ found. IfNone found (AreAllEmpty (D.drive device.old))) }
     ensures err { IfErr result (FailsBy (IsUnlookedAt (D.drive device.old)) (D.drive device.new)) }

@@ -210,6 +210,8 @@ module _ (inner : DriveState) (contents before : Option (List ℕ)) (sum from : 
         already = λ e. absurd (true-false (sym e ∙ runs));
         stopped = refl;
         geometry = refl;
+        trusted = λ clean. clean;
+        fair = λ clean. clean;
         counts = record { completed = refl; refused = refl; appended = refl };
         left = inl (IsClosing-refl inner.zones);
         hardens = may_harden-same inner (given_up inner inner.zones now from).drive (decode_of entry) refl;
@@ -252,6 +254,8 @@ module _ (inner : DriveState) (contents before : Option (List ℕ)) (sum from : 
           already = λ e. absurd (true-false (sym e ∙ runs));
           stopped = refl;
           geometry = refl;
+          trusted = λ clean. clean;
+          fair = λ clean. clean;
           counts = record { completed = refl; refused = refl; appended = refl };
           left = inr (inl (record { status = given.status; value = given.value; returned = given.returned; effect = can.effect }));
           hardens = may_harden-same inner (given_up inner given.zones now next).drive (decode_of entry) refl;

@@ -8,7 +8,7 @@ use crate::change::{Sum, keep, make_ready, sum_before, will_change, write_change
 use crate::foreseeing::Foreseeing;
 use crate::loss::Loss;
 use crate::store::ChangeStore;
-use drive_port::{Device, Geometry, Halt};
+use drive_port::{Device, Geometry, Halt, Honest};
 use std::alloc::Global;
 use std::marker::Model;
 
@@ -176,5 +176,11 @@ impl<D: Foreseeing + Drop, S: ChangeStore<D> + Drop> Device for Journaling<D, S>
         ensures kept { IsInStep self.new }
     {
         self.answer(entry, &[], into)
+    }
+}
+
+impl<D: Foreseeing + Honest + Drop, S: ChangeStore<D> + Drop> Honest for Journaling<D, S> {
+    fn vouch(&self) {
+        self.device.vouch();
     }
 }

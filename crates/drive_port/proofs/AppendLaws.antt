@@ -75,14 +75,14 @@ append-succeeded : (old new : DriveState) (start : ℕ) (bytes returned : List �
     → Performs old (Ok (Append start (block_count old.geometry bytes))) bytes Success value returned new → Appended old new start bytes value
 append-succeeded old new start bytes returned value lawful step =
     let blocks = block_count old.geometry bytes in
-    let s = succeeded old.geometry old.zones new.zones (Ok (Append start blocks)) bytes returned value step.effect in
+    let s = succeeded old.geometry old.zones new.zones (Ok (Append start blocks)) bytes step.held value step.effect in
     let index = start / old.geometry.size in
     let at : content_at (contents old.zones) index ≡ content_of (zone_at step.effect.middle index) = content_at-closing old.zones step.effect.middle index step.effect.before in
     record {
       geometry = step.geometry;
       counts = counts-success old new (Ok (Append start blocks)) bytes returned value step;
       address_is = s.value_is ∙ rw at refl;
-      contents = effect-appends old new.zones start blocks bytes returned value lawful step.effect;
+      contents = effect-appends old new.zones start blocks bytes step.held value lawful step.effect;
     }
 
 -- ---- the zones that an Append leaves
@@ -118,7 +118,7 @@ front-of old new start bytes whole left =
 pub append-leaves : (old new : DriveState) (start : ℕ) (bytes : List ℕ) (result : Result ℕ PortFault) → IsWholeBlocks old.geometry.block bytes
     → AppendGives old start bytes result new → AppendLeaves old start bytes result new
 append-leaves old new start bytes (Ok value) whole gives =
-    effect-written old.geometry old.zones new.zones start (block_count old.geometry bytes) bytes gives.0 value gives.1.1.effect
+    effect-written old.geometry old.zones new.zones start (block_count old.geometry bytes) bytes gives.1.1.held value gives.1.1.effect
 append-leaves old new start bytes (Err (Refused status)) whole gives = refused-closing old new (Append start (block_count old.geometry bytes)) bytes gives.0 status gives.1
 append-leaves old new start bytes (Err Memory) whole gives = gives.1.1.1
 append-leaves old new start bytes (Err Stopped) whole gives =
@@ -186,6 +186,6 @@ pub append-is_taken : (old new : DriveState) (start : ℕ) (bytes : List ℕ) (r
 append-is_taken old new start bytes (Ok value) lawful whole gives can = tt
 append-is_taken old new start bytes (Err (Refused status)) lawful whole gives can =
     let step = gives.1.3 in
-    gives.1.1 (succeeds old.geometry old.zones new.zones (Ok (Append start (block_count old.geometry bytes))) bytes gives.0 status gives.1.2 step.effect (append-passes old start bytes step.effect.middle lawful step.effect.before whole can))
+    gives.1.1 (succeeds old.geometry old.zones new.zones (Ok (Append start (block_count old.geometry bytes))) bytes step.held status gives.1.2 step.effect (append-passes old start bytes step.effect.middle lawful step.effect.before whole can))
 append-is_taken old new start bytes (Err Memory) lawful whole gives can = tt
 append-is_taken old new start bytes (Err Stopped) lawful whole gives can = tt

@@ -85,6 +85,7 @@ call-obeys old new command bytes returned (Ok value) other was lawful gives = re
   stops = λ e. absurd (cc e);
   counts = λ e. absurd (cc e);
   completed = omega (arith, gives.1.completed);
+  trusted = gives.1.trusted;
 }
 call-obeys old new command bytes returned (Err (Refused status)) other was lawful gives = record {
   was_lawful = was;
@@ -95,6 +96,7 @@ call-obeys old new command bytes returned (Err (Refused status)) other was lawfu
   stops = λ e. absurd (cc e);
   counts = λ e. absurd (cc e);
   completed = omega (arith, gives.3.completed);
+  trusted = gives.3.trusted;
 }
 call-obeys old new command bytes returned (Err Memory) other was lawful gives = record {
   was_lawful = was;
@@ -105,6 +107,7 @@ call-obeys old new command bytes returned (Err Memory) other was lawful gives = 
   stops = λ e. absurd (cc e);
   counts = λ e. absurd (cc e);
   completed = rw gives.1.1 (omega arith);
+  trusted = rw gives.1.1 (λ clean. clean);
 }
 call-obeys old new command bytes returned (Err Stopped) other was lawful gives = record {
   was_lawful = was;
@@ -115,4 +118,5 @@ call-obeys old new command bytes returned (Err Stopped) other was lawful gives =
   stops = λ e. gives.1.stopped;
   counts = λ e. gives.1.counts;
   completed = omega (arith, gives.1.counts.completed);
+  trusted = gives.1.trusted;
 }

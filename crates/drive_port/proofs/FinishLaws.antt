@@ -76,7 +76,7 @@ finish-if_ok old new start (Ok value) lawful gives =
     record {
       geometry = step.geometry;
       counts = counts-success old new (Ok (Send start actions.Finish false)) [] gives.0 0 step;
-      contents = effect-finishes old new.zones start [] gives.0 0 lawful step.effect;
+      contents = effect-finishes old new.zones start [] step.held 0 lawful step.effect;
     }
 finish-if_ok old new start (Err fault) lawful gives = tt
 
@@ -115,6 +115,6 @@ pub finish-is_taken : {V : Type 0} (old new : DriveState) (start : ℕ) (result 
 finish-is_taken old new start (Ok value) gives can = tt
 finish-is_taken old new start (Err (Refused status)) gives can =
     let step = gives.1.3 in
-    gives.1.1 (succeeds old.geometry old.zones new.zones (Ok (Send start actions.Finish false)) [] gives.0 status gives.1.2 step.effect (finish-passes old start step.effect.middle step.effect.before can))
+    gives.1.1 (succeeds old.geometry old.zones new.zones (Ok (Send start actions.Finish false)) [] step.held status gives.1.2 step.effect (finish-passes old start step.effect.middle step.effect.before can))
 finish-is_taken old new start (Err Memory) gives can = tt
 finish-is_taken old new start (Err Stopped) gives can = tt

@@ -1,6 +1,6 @@
 -- What a Flush leaves, and that no drive refuses it.
 use Rattle.std.proofs.Common.{◌≡◌, ◌+◌, ◌≤◌, true, [], Result, Ok, Err, refl, ap, arith}
-use Rattle.std.specs.Prelude.{OnOk}
+use Rattle.std.specs.Prelude.{IsTrue, OnOk}
 use Rattle.nvme_wire.specs.declared.command.Command.TheVariants.{Flush}
 use Rattle.drive_port.specs.declared.calls.PortFault.{PortFault}
 use Rattle.drive_port.specs.declared.calls.PortFault.TheVariants.{Refused, Memory, Stopped}
@@ -52,6 +52,13 @@ flush-completed old new (Ok value) gives = omega (arith, gives.1.1.completed)
 flush-completed old new (Err (Refused status)) gives = omega (arith, gives.1.3.completed)
 flush-completed old new (Err Memory) gives = rw gives.1.1.1 (omega arith)
 flush-completed old new (Err Stopped) gives = omega (arith, gives.1.1.counts.completed)
+
+-- it is not clean where it was not
+pub flush-trusted : {V : Type 0} (old new : DriveState) (result : Result V PortFault) → FlushGives old result new → IsTrue new.clean → IsTrue old.clean
+flush-trusted old new (Ok value) gives = gives.1.1.trusted
+flush-trusted old new (Err (Refused status)) gives = gives.1.3.trusted
+flush-trusted old new (Err Memory) gives = rw gives.1.1.1 (λ clean. clean)
+flush-trusted old new (Err Stopped) gives = gives.1.1.trusted
 
 -- the geometry is the same
 flush-geometry : {V : Type 0} (old new : DriveState) (result : Result V PortFault) → FlushGives old result new → new.geometry ≡ old.geometry

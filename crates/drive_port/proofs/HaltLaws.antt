@@ -114,7 +114,7 @@ done_closing geometry old new command bytes returned value query effect =
 -- whatever its call answers, it does no more to the zones than the controller may by itself
 query-closing : (old new : DriveState) (command : Command) (bytes returned : List ℕ) (result : Result ℕ PortFault) → is_query command ≡ true
     → CallGives old command bytes result returned new → IsClosing old.zones new.zones
-query-closing old new command bytes returned (Ok value) query gives = done_closing old.geometry old.zones new.zones command bytes returned value query gives.1.effect
+query-closing old new command bytes returned (Ok value) query gives = done_closing old.geometry old.zones new.zones command bytes gives.1.held value query gives.1.effect
 query-closing old new command bytes returned (Err (Refused status)) query gives = refused-closing old new command bytes returned status gives
 query-closing old new command bytes returned (Err Memory) query gives = rw gives.1.1 (IsClosing-refl old.zones)
 query-closing old new command bytes returned (Err Stopped) query gives =

@@ -49,12 +49,12 @@ length-bytes_at drive address count lawful =
 pub read-shows : (old new : DriveState) (address blocks : ℕ) (bytes returned held items : List ℕ) (value : ℕ) → IsLawful old
     → Performs old (Ok (Read address blocks)) bytes Success value returned new → items ≡ held ++ returned → ReadShows old new address blocks held items
 read-shows old new address blocks bytes returned held items value lawful step joined =
-    let s = succeeded old.geometry old.zones new.zones (Ok (Read address blocks)) bytes returned value step.effect in
+    let s = succeeded old.geometry old.zones new.zones (Ok (Read address blocks)) bytes step.held value step.effect in
     let shown = s.returned_is ∙ rw (content_at-closing old.zones step.effect.middle (address / old.geometry.size) step.effect.before) refl in
     let whole = length-bytes_at old address blocks lawful in
     record {
-      bytes = joined ∙ ap (λ (bytes : List ℕ). held ++ bytes) shown;
-      length_is = rw (joined, length-append held returned, shown, whole) refl;
+      bytes = λ clean. joined ∙ ap (λ (bytes : List ℕ). held ++ bytes) (step.told clean ∙ shown);
+      length_is = rw (joined, length-append held returned, step.length_is, shown, whole) refl;
       counts = counts-success old new (Ok (Read address blocks)) bytes returned value step;
     }
 
@@ -80,6 +80,6 @@ pub read-is_taken : {V : Type 0} (old new : DriveState) (address blocks : ℕ) (
 read-is_taken old new address blocks returned (Ok value) gives can = tt
 read-is_taken old new address blocks returned (Err (Refused status)) gives can =
     let step = gives.3 in
-    gives.1 (succeeds old.geometry old.zones new.zones (Ok (Read address blocks)) [] returned status gives.2 step.effect (read-passes old address blocks step.effect.middle step.effect.before can))
+    gives.1 (succeeds old.geometry old.zones new.zones (Ok (Read address blocks)) [] step.held status gives.2 step.effect (read-passes old address blocks step.effect.middle step.effect.before can))
 read-is_taken old new address blocks returned (Err Memory) gives can = tt
 read-is_taken old new address blocks returned (Err Stopped) gives can = tt

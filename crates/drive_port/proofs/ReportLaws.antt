@@ -43,7 +43,7 @@ length-report geometry zones address options partial dwords low =
 pub report-succeeded : (old new : DriveState) (address : ℕ) (options : ReportingOptions) (partial : Bool) (dwords : ℕ) (bytes returned : List ℕ) (value : ℕ) → 16 ≤ dwords
     → Performs old (Ok (Receive address dwords options partial)) bytes Success value returned new → Reported old new address options partial dwords returned
 report-succeeded old new address options partial dwords bytes returned value low step =
-    let s = succeeded old.geometry old.zones new.zones (Ok (Receive address dwords options partial)) bytes returned value step.effect in
+    let s = succeeded old.geometry old.zones new.zones (Ok (Receive address dwords options partial)) bytes step.held value step.effect in
     let gives = outcome-passes old.geometry step.effect.middle (Ok (Receive address dwords options partial)) bytes s.passed in
     record {
       geometry = step.geometry;
@@ -51,8 +51,8 @@ report-succeeded old new address options partial dwords bytes returned value low
       in_range = leb-false _ _ s.passed.0;
       zones = step.effect.middle;
       before = step.effect.before;
-      bytes_are = s.returned_is;
-      length_is = ap length s.returned_is ∙ length-report old.geometry step.effect.middle address options partial dwords low;
+      bytes_are = step.told refl ∙ s.returned_is;
+      length_is = step.length_is ∙ ap length s.returned_is ∙ length-report old.geometry step.effect.middle address options partial dwords low;
       after = rw gives at step.effect.after;
     }
 
@@ -63,6 +63,6 @@ pub report-is_taken : {V : Type 0} (old new : DriveState) (address : ℕ) (optio
     → ReportGives old address options partial dwords result returned new → address < end_of old.geometry → IsNotRefused result
 report-is_taken old new address options partial dwords returned (Ok value) gives low = tt
 report-is_taken old new address options partial dwords returned (Err (Refused status)) gives low =
-    gives.1 (succeeds old.geometry old.zones new.zones (Ok (Receive address dwords options partial)) [] returned status gives.2 gives.3.effect (lt-leb _ _ low, tt))
+    gives.1 (succeeds old.geometry old.zones new.zones (Ok (Receive address dwords options partial)) [] gives.3.held status gives.2 gives.3.effect (lt-leb _ _ low, tt))
 report-is_taken old new address options partial dwords returned (Err Memory) gives low = tt
 report-is_taken old new address options partial dwords returned (Err Stopped) gives low = tt

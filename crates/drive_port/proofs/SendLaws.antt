@@ -94,7 +94,7 @@ sent-zones geometry old new start action next bytes returned value is effect =
 -- what its call leaves
 pub send-leaves : {V : Type 0} (old new : DriveState) (start : ℕ) (action : Action) (next : ZoneState) (result : Result V PortFault) → Gives action next
     → SendGives old start action result new → Leaves old start (record { state = next; blocks = blocks_after action (zone_from old start).blocks }) result new
-send-leaves old new start action next (Ok value) is gives = sent-zones old.geometry old.zones new.zones start action next [] gives.0 0 is gives.1.1.effect
+send-leaves old new start action next (Ok value) is gives = sent-zones old.geometry old.zones new.zones start action next [] gives.1.1.held 0 is gives.1.1.effect
 send-leaves old new start action next (Err (Refused status)) is gives = refused-closing old new (Send start action false) [] gives.0 status gives.1
 send-leaves old new start action next (Err Memory) is gives = gives.1.1.1
 send-leaves old new start action next (Err Stopped) is gives =
@@ -137,7 +137,7 @@ reset-if_ok old new start (Ok value) lawful gives =
     record {
       geometry = step.geometry;
       counts = counts-success old new (Ok (Send start actions.Reset false)) [] gives.0 0 step;
-      contents = effect-resets old new.zones start [] gives.0 0 lawful step.effect;
+      contents = effect-resets old new.zones start [] step.held 0 lawful step.effect;
     }
 reset-if_ok old new start (Err fault) lawful gives = tt
 
@@ -170,7 +170,7 @@ pub close-if_ok : {V : Type 0} (old new : DriveState) (start : ℕ) (result : Re
     → CloseGives old start result new → OnOk result (ClosedZone old new start)
 close-if_ok old new start (Ok value) lawful gives =
     let step = gives.1.1 in
-    let found = effect-closes old new.zones start [] gives.0 0 lawful step.effect in
+    let found = effect-closes old new.zones start [] step.held 0 lawful step.effect in
     record {
       geometry = step.geometry;
       counts = counts-success old new (Ok (Send start actions.Close false)) [] gives.0 0 step;
@@ -207,7 +207,7 @@ effect-kept old new start bytes returned value lawful effect =
 pub close-kept : {V : Type 0} (old new : DriveState) (start : ℕ) (result : Result V PortFault) → IsLawful old → new.geometry ≡ old.geometry
     → CloseGives old start result new → SameContents old new
 close-kept old new start (Ok value) lawful geometry gives =
-    record { geometry = geometry; contents = effect-kept old new.zones start [] gives.0 0 lawful gives.1.1.effect }
+    record { geometry = geometry; contents = effect-kept old new.zones start [] gives.1.1.held 0 lawful gives.1.1.effect }
 close-kept old new start (Err (Refused status)) lawful geometry gives =
     same_contents-closing old new geometry (refused-closing old new (Send start actions.Close false) [] gives.0 status gives.1)
 close-kept old new start (Err Memory) lawful geometry gives = same_contents-same old new gives.1.1.1
@@ -233,7 +233,7 @@ pub close-is_taken : {V : Type 0} (old new : DriveState) (start : ℕ) (result :
 close-is_taken old new start (Ok value) gives can = tt
 close-is_taken old new start (Err (Refused status)) gives can =
     let step = gives.1.3 in
-    gives.1.1 (succeeds old.geometry old.zones new.zones (Ok (Send start actions.Close false)) [] gives.0 status gives.1.2 step.effect (close-passes old start step.effect.middle step.effect.before can))
+    gives.1.1 (succeeds old.geometry old.zones new.zones (Ok (Send start actions.Close false)) [] step.held status gives.1.2 step.effect (close-passes old start step.effect.middle step.effect.before can))
 close-is_taken old new start (Err Memory) gives can = tt
 close-is_taken old new start (Err Stopped) gives can = tt
 
@@ -253,6 +253,6 @@ pub reset-is_taken : {V : Type 0} (old new : DriveState) (start : ℕ) (result :
 reset-is_taken old new start (Ok value) gives can = tt
 reset-is_taken old new start (Err (Refused status)) gives can =
     let step = gives.1.3 in
-    gives.1.1 (succeeds old.geometry old.zones new.zones (Ok (Send start actions.Reset false)) [] gives.0 status gives.1.2 step.effect (reset-passes old start step.effect.middle step.effect.before can))
+    gives.1.1 (succeeds old.geometry old.zones new.zones (Ok (Send start actions.Reset false)) [] step.held status gives.1.2 step.effect (reset-passes old start step.effect.middle step.effect.before can))
 reset-is_taken old new start (Err Memory) gives can = tt
 reset-is_taken old new start (Err Stopped) gives can = tt

@@ -192,12 +192,17 @@ same_contents-closing old new geometry closing = record { geometry = geometry; c
 
 -- ---- calls
 
+-- as many bytes as none
+none-if : (returned held : List ℕ) → length returned ≡ length held → held ≡ [] → returned ≡ []
+none-if [] held e none = refl
+none-if (x ∷ xs) held e none = absurd (cc (e ∙ ap length none))
+
 -- a call that isn't Ok returned no bytes
 pub call-none : (old new : DriveState) (command : Command) (bytes returned : List ℕ) (result : Result ℕ PortFault)
     → CallGives old command bytes result returned new → OnErr result (returned ≡ [])
 call-none old new command bytes returned (Ok value) gives = tt
 call-none old new command bytes returned (Err (Refused status)) gives =
-    (effect-refused old.geometry old.zones new.zones (Ok command) bytes returned status gives.2 gives.1 gives.3.effect).1
+    none-if returned gives.3.held gives.3.length_is (effect-refused old.geometry old.zones new.zones (Ok command) bytes gives.3.held status gives.2 gives.1 gives.3.effect).1
 call-none old new command bytes returned (Err Memory) gives = gives.0
 call-none old new command bytes returned (Err Stopped) gives = gives.0
 
@@ -205,7 +210,7 @@ call-none old new command bytes returned (Err Stopped) gives = gives.0
 pub refused-closing : (old new : DriveState) (command : Command) (bytes returned : List ℕ) (status : Status)
     → CallGives old command bytes (Err (Refused status)) returned new → IsClosing old.zones new.zones
 refused-closing old new command bytes returned status gives =
-    (effect-refused old.geometry old.zones new.zones (Ok command) bytes returned status gives.2 gives.1 gives.3.effect).0
+    (effect-refused old.geometry old.zones new.zones (Ok command) bytes gives.3.held status gives.2 gives.1 gives.3.effect).0
 
 -- and so does the same drive
 pub same_contents-same : (old new : DriveState) → new ≡ old → SameContents old new
@@ -226,7 +231,7 @@ pub call-zero : (old new : DriveState) (command : Command) (bytes returned : Lis
     → CallGives old command bytes (Ok value) returned new → CallGives old command bytes (Ok 0) returned new
 call-zero old new command bytes returned value other gives =
     let effect = gives.1.effect in
-    let zero = (succeeded old.geometry old.zones new.zones (Ok command) bytes returned value effect).value_is ∙ effect-value old.geometry effect.middle command bytes other in
+    let zero = (succeeded old.geometry old.zones new.zones (Ok command) bytes gives.1.held value effect).value_is ∙ effect-value old.geometry effect.middle command bytes other in
     rw zero at gives
 
 -- what always holds holds after a fault

@@ -1,5 +1,5 @@
 -- What a device that stops leaves, by what the device within did.
-use Rattle.std.proofs.Common.{◌≡◌, ◌≢◌, ℕ, ◌+◌, ◌-◌, ◌*◌, ◌≤◌, Bool, true, false, not, ◌||◌, ◌&&◌, ltb, leb, cond, List, take, Some, None, Result, Ok, Err, refl, sym, ap, ◌∙◌, inl, inr, arith}
+use Rattle.std.proofs.Common.{◌≡◌, ◌≢◌, ℕ, ◌+◌, ◌-◌, ◌*◌, ◌≤◌, Bool, true, false, IsTrue, not, ◌||◌, ◌&&◌, ltb, leb, cond, List, take, Some, None, Result, Ok, Err, refl, sym, ap, ◌∙◌, inl, inr, arith}
 use Rattle.std.specs.Prelude.{IfOk, nat_eq, nat_le}
 use Rattle.std.proofs.lemmas.Bool.{leb-true}
 use Rattle.std.proofs.lemmas.List.{take-take}
@@ -66,6 +66,8 @@ stops-already old command bytes stopped = record {
   already = λ e. refl;
   stopped = stopped;
   geometry = refl;
+  trusted = λ clean. clean;
+  fair = λ clean. clean;
   counts = record { completed = refl; refused = refl; appended = refl };
   left = inl (IsClosing-refl old.zones);
   hardens = may_harden-same old old command refl;
@@ -86,14 +88,16 @@ or_true false c = refl
 pub stops-here : (old new : Stopping) (command : Result Command DecodeFault) (bytes : List ℕ)
     → (drive_of old).stopped ≡ false → is_over new.progress ≡ true → new.inner.geometry ≡ old.inner.geometry → new.completed ≡ old.completed
     → refused_here new.progress new.inner.refused ≡ old.inner.refused → appended_here new.progress new.inner.appended ≡ old.inner.appended
-    → LeftBy old.inner.geometry old.inner.zones command bytes new.inner.zones → new.inner.durable ≡ old.inner.durable
+    → LeftBy old.inner.geometry old.inner.zones command bytes new.inner.zones → new.inner.durable ≡ old.inner.durable → (IsTrue new.inner.clean → IsTrue old.inner.clean) → (IsTrue old.inner.clean → IsTrue new.inner.clean)
     → Stops (drive_of old) command bytes (drive_of new)
-stops-here old new command bytes running over geometry completed refused appended left durable =
+stops-here old new command bytes running over geometry completed refused appended left durable trusted fair =
     let is = going-if old.inner.stopped old.progress (nat_eq old.tear 0 && nat_le old.limit old.completed) running in
     record {
       already = λ e. absurd (cc (e, running));
       stopped = rw over (or_true new.inner.stopped (nat_eq new.tear 0 && nat_le new.limit new.completed));
       geometry = geometry;
+      trusted = trusted;
+      fair = fair;
       counts = record { completed = completed; refused = rw is refused; appended = rw is appended };
       left = left;
       hardens = may_harden-same (drive_of old) (drive_of new) command durable;
@@ -119,7 +123,12 @@ passed-on old new limit tear uncounted progress entry bytes (Ok completion) retu
         fits = gives.1.fits;
         encoded = gives.1.encoded;
         performs = record {
+          held = p.held;
           effect = p.effect;
+          told = p.told;
+          length_is = p.length_is;
+          trusted = p.trusted;
+          fair = p.fair;
           geometry = p.geometry;
           completed = omega (arith, p.completed, low);
           refused = rw is p.refused;
@@ -137,6 +146,8 @@ passed-on old new limit tear uncounted progress entry bytes (Err halts.Stopped) 
         already = λ e. absurd (cc (e, running));
         stopped = rw s.stopped refl;
         geometry = s.geometry;
+        trusted = s.trusted;
+        fair = s.fair;
         counts = record { completed = omega (arith, s.counts.completed); refused = rw is s.counts.refused; appended = rw is s.counts.appended };
         left = s.left;
         hardens = may_harden-by (decode_of entry) old new (drive_of (stopping old limit tear uncounted progress)) (drive_of (stopping new limit tear uncounted progress)) refl refl refl s.hardens;
@@ -207,7 +218,7 @@ stops-appended old inner uncounted command start block bytes returned value coun
     let p = gives.1 in
     stops-here old (record old { inner = inner; completed = inner.completed - (uncounted + 1); progress = OverAppended }) command bytes running refl p.geometry
     (omega (arith, p.completed, counted)) (omega (arith, p.refused)) (omega (arith, p.appended))
-    (rw torn.command_is (inr (inr (record { j = old.tear; some = torn.some; few = torn.few; value = value; returned = returned; effect = rw block_is at p.effect })))) p.hardens
+    (rw torn.command_is (inr (inr (record { j = old.tear; some = torn.some; few = torn.few; value = value; returned = p.held; effect = rw block_is at p.effect })))) p.hardens p.trusted (λ clean. p.fair clean (p.told refl))
 
 -- or its front was refused
 pub stops-refused : (old : Stopping) (inner : DriveState) (uncounted : ℕ) (command : Result Command DecodeFault) (start block : ℕ) (bytes returned : List ℕ) (status : Status)
@@ -220,7 +231,7 @@ stops-refused old inner uncounted command start block bytes returned status coun
     let appended = p.appended ∙ ap (λ (b : Bool). old.inner.appended + one_if b) (bad_is status gives.1) in
     let closing = refused-closing old.inner inner (Append start old.tear) (take (old.tear * block) bytes) returned status gives in
     stops-here old (record old { inner = inner; completed = inner.completed - (uncounted + 1); progress = OverRefused }) command bytes running refl p.geometry
-    (omega (arith, p.completed, counted)) (omega (arith, refused)) (omega (arith, appended)) (inl closing) p.hardens
+    (omega (arith, p.completed, counted)) (omega (arith, refused)) (omega (arith, appended)) (inl closing) p.hardens p.trusted (λ clean. p.fair clean (p.told refl))
 
 -- or the drive within stopped by itself
 pub stops-stopped : (old : Stopping) (inner : DriveState) (uncounted : ℕ) (command : Result Command DecodeFault) (start block : ℕ) (bytes returned : List ℕ)
@@ -231,4 +242,4 @@ stops-stopped old inner uncounted command start block bytes returned counted run
     let s = gives.1 in
     stops-here old (record old { inner = inner; completed = inner.completed - uncounted; progress = Over }) command bytes running refl s.geometry
     (omega (arith, s.counts.completed, counted)) s.counts.refused s.counts.appended
-    (rw torn.command_is (left-torn old.inner.geometry old.inner.zones inner.zones start old.tear torn.blocks bytes torn.some torn.few (rw block_is at s.left))) s.hardens
+    (rw torn.command_is (left-torn old.inner.geometry old.inner.zones inner.zones start old.tear torn.blocks bytes torn.some torn.few (rw block_is at s.left))) s.hardens s.trusted s.fair

@@ -1,5 +1,5 @@
 -- What the typed calls answer: each is one submit of its command.
-use Rattle.std.specs.Prelude.{◌≡◌, ◌≢◌, ◌⊎◌, ℕ, ◌+◌, ◌-◌, ◌/◌, ◌*◌, ◌%◌, ◌≤◌, ◌<◌, Bool, true, false, if◌then◌else◌}
+use Rattle.std.specs.Prelude.{◌≡◌, ◌≢◌, ◌⊎◌, ℕ, ◌+◌, ◌-◌, ◌/◌, ◌*◌, ◌%◌, ◌≤◌, ◌<◌, Bool, true, false, IsTrue, if◌then◌else◌}
 use Rattle.std.specs.Prelude.{List, [], ◌++◌, length, take, count_by, slice_set, Result, Ok, Err}
 use Rattle.std.specs.List.{remove}
 use Rattle.nvme_wire.specs.Completion.{IsEncodable, completion_bytes}
@@ -61,6 +61,7 @@ pub record Obeys {V : Type 0} (old : DriveState) (result : Result V PortFault) (
   pub stops : result ≡ Err Stopped → new.stopped ≡ true
   pub counts : result ≡ Err Stopped → SameCounts old new
   pub completed : new.completed ≤ old.completed + 1
+  pub trusted : IsTrue new.clean → IsTrue old.clean
 
 -- the answer of a call whose command has no result: that is 0
 abbrev pub with_zero : {V : Type 0} → Result V PortFault → Result ℕ PortFault
@@ -158,9 +159,9 @@ pub record OnlyCloses (old new : DriveState) : Type 0 where
   pub closing : IsClosing old.zones new.zones
   pub contents : SameContents old new
 
--- A Read that succeeded: a buffer holds the bytes of these blocks, after what it held before.
+-- A Read that succeeded: a buffer holds as many bytes after what it held before, and those of these blocks while the drive is clean.
 pub record ReadShows (old new : DriveState) (address blocks : ℕ) (held items : List ℕ) : Type 0 where
-  pub bytes : items ≡ held ++ bytes_at old.geometry (contents old.zones) address blocks
+  pub bytes : IsTrue new.clean → items ≡ held ++ bytes_at old.geometry (contents old.zones) address blocks
   pub length_is : length items ≡ length held + blocks * old.geometry.block
   pub counts : Counts old new 0
 

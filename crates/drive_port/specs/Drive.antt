@@ -18,6 +18,8 @@ pub record DriveState : Type 0 where
   pub refused : ℕ
   pub appended : ℕ
   pub stopped : Bool
+  -- each Read returned what the drive holds. It may fall at a Read, never rises, and no code can tell
+  pub clean : Bool
 
 abbrev pub active_count : List Zone → ℕ
 active_count zones = count_by (λ zone. is_active zone.state) zones

@@ -1,5 +1,5 @@
 -- What a device leaves that completes no command.
-use Rattle.std.specs.Prelude.{◌≡◌, ◌⊎◌, ℕ, ◌*◌, ◌≤◌, true, false, List, [], ◌++◌, take, Result, Ok, Err}
+use Rattle.std.specs.Prelude.{◌≡◌, ◌⊎◌, ℕ, ◌*◌, ◌≤◌, true, false, IsTrue, List, [], ◌++◌, take, Result, Ok, Err}
 use Rattle.nvme_wire.specs.Entry.{decode_of}
 use Rattle.nvme_wire.specs.declared.command.Command.{Command}
 use Rattle.nvme_wire.specs.declared.command.Command.TheVariants.{Append}
@@ -47,6 +47,8 @@ pub record Stops (old : DriveState) (command : Result Command DecodeFault) (byte
   pub already : old.stopped ≡ true → new ≡ old
   pub stopped : new.stopped ≡ true
   pub geometry : new.geometry ≡ old.geometry
+  pub trusted : IsTrue new.clean → IsTrue old.clean
+  pub fair : IsTrue old.clean → IsTrue new.clean
   pub counts : SameCounts old new
   pub left : LeftBy old.geometry old.zones command bytes new.zones
   pub hardens : MayHarden command old new

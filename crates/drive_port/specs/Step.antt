@@ -1,5 +1,5 @@
 -- What one command does: a closing, then the command, then a closing.
-use Rattle.std.specs.Prelude.{◌≡◌, ℕ, zero, suc, ◌+◌, ◌-◌, ◌*◌, ◌/◌, ◌%◌, ◌==◌, ◌<◌, ◌^◌, nat_lt, nat_le, not, ◌&&◌, ◌||◌, Bool, true, false, if◌then◌else◌}
+use Rattle.std.specs.Prelude.{◌≡◌, ℕ, zero, suc, ◌+◌, ◌-◌, ◌*◌, ◌/◌, ◌%◌, ◌==◌, ◌<◌, ◌^◌, nat_lt, nat_le, not, ◌&&◌, ◌||◌, Bool, true, false, IsTrue, if◌then◌else◌}
 use Rattle.std.specs.Prelude.{List, [], ◌∷◌, ◌++◌, map, length, replicate, slice_set, slice_index_or, Option, Some, None, Result, Ok, Err}
 use Rattle.nvme_wire.specs.Entry.{decode_of, id_of}
 use Rattle.nvme_wire.specs.Completion.{completion_bytes}
@@ -195,10 +195,24 @@ pub record Effect (geometry : Geometry) (old : List Zone) (command : Result Comm
   pub returned_is : returned ≡ (outcome geometry middle command bytes).returned
   pub after : IsClosing (outcome geometry middle command bytes).zones new
 
--- A command that was completed: its effect on the zones and on what is durable, and one more in the counts.
+-- only a Read asks for what was stored
+abbrev pub is_read : Result Command DecodeFault → Bool
+is_read (Ok (Read slba blocks)) = true
+is_read command = false
+
+-- the drive's word on the bytes that a command returned: always that of a report, and of a Read while it is clean
+abbrev pub is_told : Result Command DecodeFault → Bool → Bool
+is_told command clean = not (is_read command) || clean
+
+-- A command that was completed: its effect on the zones and on what is durable, and one more in the counts. As many bytes came as the drive holds, and these while it is clean.
 pub record Performs (old : DriveState) (command : Result Command DecodeFault) (bytes : List ℕ) (status : Status) (value : ℕ)
     (returned : List ℕ) (new : DriveState) : Type 0 where
-  pub effect : Effect old.geometry old.zones command bytes status value returned new.zones
+  pub held : List ℕ
+  pub effect : Effect old.geometry old.zones command bytes status value held new.zones
+  pub told : IsTrue (is_told command new.clean) → returned ≡ held
+  pub length_is : length returned ≡ length held
+  pub trusted : IsTrue new.clean → IsTrue old.clean
+  pub fair : IsTrue old.clean → returned ≡ held → IsTrue new.clean
   pub geometry : new.geometry ≡ old.geometry
   pub completed : new.completed ≡ old.completed + 1
   pub refused : new.refused ≡ old.refused + one_if (not (is_success status))

@@ -1,4 +1,4 @@
-ghost use Rattle.std.specs.Prelude.{◌≡◌, []};
+ghost use Rattle.std.specs.Prelude.{◌≡◌, [], IsTrue};
 ghost use Rattle.drive_port.specs.Drive.{DriveState, IsLawful};
 ghost use Rattle.drive_port.specs.Halting.{SubmitAdds, SubmitGives};
 ghost use Rattle.drive_port.specs.declared.device.Halt.TheVariants.{Memory};
@@ -69,4 +69,11 @@ pub trait Device {
             (drive self.old) entry.now [] into.old.items result into.new.items (drive self.new) }
         ensures was_lawful { IsLawful (drive self.old) }
         ensures lawful { IsLawful (drive self.new) };
+}
+
+/// A device that is always clean, as a drive in memory is. What is promised while a drive is clean is promised of it.
+pub trait Honest: Device {
+    /// Does nothing: for the fact.
+    fn vouch(&self)
+        ensures { IsTrue (Self.Device.drive self.now).clean };
 }

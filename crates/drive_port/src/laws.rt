@@ -1,8 +1,11 @@
-ghost use Rattle.std.specs.Prelude.{◌≡◌, ◌≤◌, List};
+ghost use Rattle.std.specs.Prelude.{◌≡◌, ◌≤◌, ◌++◌, List, OnOk};
 ghost use Rattle.zone_states.specs.Zone.{Zone};
 ghost use Rattle.drive_port.specs.Drive.{DriveState, IsClosing, IsLawful, active_count, open_count};
-ghost use Rattle.drive_port.specs.Contents.{contents};
+ghost use Rattle.drive_port.specs.Contents.{bytes_at, contents};
 ghost use Rattle.drive_port.specs.Run.{restarted};
+
+use crate::calls::{PortFault, read_extending};
+use crate::device::{Device, Honest};
 
 /// A closing of zones keeps their contents.
 pub fn closing_keeps_contents()
@@ -30,3 +33,17 @@ pub fn restart_keeps_contents()
         → contents (restarted drive).zones ≡ contents drive.zones }
     ensures lawful { (drive : DriveState) → IsLawful drive → IsLawful (restarted drive) }
 {}
+
+/// What a Read of an honest device returns is what the device holds, with no condition.
+pub fn read_strictly<D: Device + Honest>(
+    device: &mut D,
+    slba: u64,
+    into: &mut Vec<u8>,
+) -> Result<(), PortFault>
+    ensures { OnOk result (into.new.items ≡ into.old.items ++ bytes_at (D.drive device.old).geometry
+        (contents (D.drive device.old).zones) slba 1) }
+{
+    let result = read_extending(device, slba, 1, into);
+    device.vouch();
+    result
+}

@@ -21,6 +21,10 @@
 //!   it stops inside the command, which then counts for nothing: it has had no effect or all of it, or of an Append
 //!   only the first blocks were written. A device leaves whole blocks only: a block that is written in part is never
 //!   met.
+//! * The bytes that a Read returns are the device's word. They are what the drive holds while the drive is `clean`:
+//!   that flag falls only at a Read that returned other bytes, and never rises (`Performs` in `specs/Step.antt`). No
+//!   code can see it. So a clause either speaks of no bytes that were read, or begins with "while the drive is clean".
+//!   An `Honest` device is always clean, as a drive in memory is (`read_strictly`).
 //! * Before a command and after it a controller may close implicitly opened zones, as the standard allows: such a
 //!   *closing* changes no content of a zone (`specs/Drive.antt`, `closing_keeps_contents`).
 //! * Each call is one submit of its command, and gives its result, the refusal, memory or the stop. It says what it
@@ -55,9 +59,10 @@ mod stop;
 pub use calls::{
     PortFault, append, close, count_zones, finish, flush, read, read_extending, report, reset,
 };
-pub use device::{Device, Halt};
+pub use device::{Device, Halt, Honest};
 pub use laws::{
-    closing_keeps_contents, closing_takes_no_resource, closings_join, restart_keeps_contents,
+    closing_keeps_contents, closing_takes_no_resource, closings_join, read_strictly,
+    restart_keeps_contents,
 };
 pub use recorder::Recorder;
 pub use stop::StopAfter;

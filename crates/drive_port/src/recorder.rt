@@ -2,7 +2,7 @@ ghost use Rattle.std.specs.Prelude.{◌≡◌, ◌++◌, [], ◌∷◌, OnOk, On
 ghost use Rattle.drive_port.specs.Drive.{IsLawful};
 ghost use Rattle.drive_port.specs.Halting.{SubmitAdds, SubmitGives};
 
-use crate::device::{Device, Halt};
+use crate::device::{Device, Halt, Honest};
 use std::alloc::Global;
 use std::marker::Model;
 use zone_states::Geometry;
@@ -107,5 +107,11 @@ impl<D: Device + Drop> Device for Recorder<D> {
         let completion = self.device.submit_extending(entry, into)?;
         self.entries.push_reserved(*entry);
         Ok(completion)
+    }
+}
+
+impl<D: Device + Honest + Drop> Honest for Recorder<D> {
+    fn vouch(&self) {
+        self.device.vouch();
     }
 }

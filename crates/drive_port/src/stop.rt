@@ -5,7 +5,7 @@ ghost use Rattle.drive_port.specs.Halting.{Halts, SubmitAdds, SubmitGives};
 ghost use Rattle.drive_port.specs.Stop.{HaltsBy, TearsAt, drive_of, torn_at};
 
 use crate::calls::{PortFault, call};
-use crate::device::{Device, Halt};
+use crate::device::{Device, Halt, Honest};
 use crate::progress::Progress;
 use nvme_wire::{Command, DecodeFault};
 use std::marker::Model;
@@ -234,5 +234,11 @@ impl<D: Device + Drop> Device for StopAfter<D> {
             return Err(Halt::Stopped);
         }
         self.device.submit_extending(entry, into)
+    }
+}
+
+impl<D: Device + Honest + Drop> Honest for StopAfter<D> {
+    fn vouch(&self) {
+        self.device.vouch();
     }
 }

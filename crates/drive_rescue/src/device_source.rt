@@ -3,7 +3,7 @@ ghost use Rattle.drive_rescue.specs.Sources.{undamaged};
 ghost use Rattle.zone_choice.specs.Changes.{IsHalt};
 
 use crate::source::{Reading, Source};
-use drive_port::{Device, Halt, PortFault, read};
+use drive_port::{Device, Halt, Honest, PortFault, read};
 use drive_survey::{MountFault, ReportedZone, report_zones};
 use std::alloc::Global;
 use zone_states::Geometry;
@@ -41,7 +41,7 @@ fn halt_of(fault: PortFault) -> Halt
     }
 }
 
-impl<D: Device + Drop> Source for DeviceSource<D> {
+impl<D: Device + Honest + Drop> Source for DeviceSource<D> {
     ghost view = { λ s. undamaged (D.drive s.device) };
 
     fn geometry(&self) -> Geometry {
@@ -59,7 +59,10 @@ impl<D: Device + Drop> Source for DeviceSource<D> {
     fn read(&mut self, number: u32, offset: u32, into: &mut Vec<u8>) -> Result<Reading, Halt> {
         let address = self.device.geometry().start_of(number) + offset as u64;
         match read(&mut self.device, address, 1, into) {
-            Ok(()) => Ok(Reading::Held),
+            Ok(()) => {
+                self.device.vouch();
+                Ok(Reading::Held)
+            }
             Err(fault) => Err(halt_of(fault)),
         }
     }

@@ -1,9 +1,11 @@
 -- How many blocks are read.
 use Rattle.std.proofs.Common.{◌≡◌, ◌≢◌, ◌⊎◌, inl, inr, ℕ, zero, suc, ◌+◌, ◌*◌, ◌<◌, ◌≤◌, Bool, false, List, [], ◌∷◌, ◌++◌, length, take, get_or, Option, Some, None, Result, Ok, Err, refl, sym, ap, ◌∙◌, arith}
 use Rattle.std.specs.Prelude.{IsTrue, slice_get}
+use Rattle.std.proofs.lemmas.List.{length-map, length-set}
+use Rattle.drive_array.proofs.AllLaws.{all-append}
 use Rattle.std.specs.BTreeSet.{BTreeSet, IsLowerBound, Updates, contains}
 use Rattle.std.specs.Ordering.{nat_cmp}
-use Rattle.std.specs.List.{sum_by}
+use Rattle.std.specs.List.{AllByRecursion, sum_by}
 use Rattle.std.proofs.lemmas.Bool.{cases_eq, ne_eqb}
 use Rattle.std.proofs.lemmas.List.{length-append, length-map}
 use Rattle.std.proofs.lemmas.List.Sums.{sum_by-cons, sum_by-take-le, sum_by_more, sum_by_push}
@@ -16,9 +18,9 @@ use Rattle.drive_array.specs.ZoneLogs.{readable}
 use Rattle.drive_survey.specs.declared.fault.MountFault.{MountFault}
 use Rattle.drive_survey.specs.declared.reported.ReportedZone.{ReportedZone}
 use Rattle.drive_survey.specs.declared.scan.ScannedZone.{ScannedZone}
-use Rattle.drive_survey.specs.Clearing.{entries_at, without_heads}
+use Rattle.drive_survey.specs.Clearing.{HasHeads, entries_at, without_heads}
 use Rattle.drive_survey.specs.Heads.{HeadsView, no_heads, with_heading}
-use Rattle.drive_survey.specs.Reads.{ReadsNext, ReadsOfZones, blocks_reported, entries_kept, readable_count}
+use Rattle.drive_survey.specs.Reads.{batches_kept, ReadsNext, ReadsOfZones, blocks_reported, entries_kept, readable_count}
 use Rattle.drive_survey.specs.Reported.{KeepsZones}
 use Rattle.drive_survey.specs.Scan.{AreKnown, MeetsHeader, heads_in}
 use Rattle.drive_survey.proofs.FindLaws.{not-above}
@@ -51,6 +53,12 @@ reads-next reported old new None first before after far reads never = record {
   inside = reads.3;
 }
 reads-next reported old new (Some t) first before after far reads never = absurd (never t refl)
+
+-- a look that takes a batch comes further, but not past the zone
+pub next-more : (reported : ReportedZone) (old new : HeadsView) (next : Option Bool) (before after : DriveState) → ReadsNext reported old (Ok next) new before after → ((t : Bool) → next ≡ Some t → ⊥)
+    → (old.blocks < new.blocks) × (new.blocks ≤ reported.blocks)
+next-more reported old new None before after reads never = (reads.2, reads.3)
+next-more reported old new (Some t) before after reads never = absurd (never t refl)
 
 -- ---- all zones
 
@@ -170,6 +178,49 @@ fewer-entries (x ∷ xs) (y ∷ ys) (suc zone) same =
     let others : heads_in xs ≡ without_heads (heads_in ys) zone = cc in
     let rest = fewer-entries xs ys zone others in
     omega (arith, rest, ap (λ (h : HeadsView). length h.entries) one, sum_by-cons (λ (z : ScannedZone). length z.heads.entries) x xs, sum_by-cons (λ (z : ScannedZone). length z.heads.entries) y ys)
+
+same-batches : (a b : List ScannedZone) → heads_in a ≡ heads_in b → batches_kept a ≡ batches_kept b
+same-batches [] [] same = refl
+same-batches [] (y ∷ ys) same = absurd (cc)
+same-batches (x ∷ xs) [] same = absurd (cc)
+same-batches (x ∷ xs) (y ∷ ys) same =
+    let one : x.heads ≡ y.heads = cc in
+    let others : heads_in xs ≡ heads_in ys = cc in
+    let rest = same-batches xs ys others in
+    omega (arith, rest, ap (λ (h : HeadsView). length h.heads) one, sum_by-cons (λ (z : ScannedZone). length z.heads.heads) x xs, sum_by-cons (λ (z : ScannedZone). length z.heads.heads) y ys)
+
+-- after the headers of a zone that has one are forgotten, fewer are kept than before
+pub fewer-batches : (a b : List ScannedZone) (zone : ℕ) → heads_in a ≡ without_heads (heads_in b) zone → HasHeads b zone → batches_kept a < batches_kept b
+fewer-batches a [] zone same (found, there, some) = absurd (cc)
+fewer-batches [] (y ∷ ys) zero same has = absurd (cc)
+fewer-batches [] (y ∷ ys) (suc zone) same has = absurd (cc)
+fewer-batches (x ∷ xs) (y ∷ ys) zero same (found, there, some) =
+    let one : x.heads ≡ no_heads = cc in
+    let others : heads_in xs ≡ heads_in ys = cc in
+    let rest = same-batches xs ys others in
+    let none : length x.heads.heads ≡ 0 = ap (λ (h : HeadsView). length h.heads) one in
+    let is : y ≡ found = cc in
+    omega (arith, rest, none, some, ap (λ (z : ScannedZone). length z.heads.heads) is, sum_by-cons (λ (z : ScannedZone). length z.heads.heads) x xs, sum_by-cons (λ (z : ScannedZone). length z.heads.heads) y ys)
+fewer-batches (x ∷ xs) (y ∷ ys) (suc zone) same (found, there, some) =
+    let one : x.heads ≡ y.heads = cc in
+    let others : heads_in xs ≡ without_heads (heads_in ys) zone = cc in
+    let rest = fewer-batches xs ys zone others (found, there, some) in
+    omega (arith, rest, ap (λ (h : HeadsView). length h.heads) one, sum_by-cons (λ (z : ScannedZone). length z.heads.heads) x xs, sum_by-cons (λ (z : ScannedZone). length z.heads.heads) y ys)
+
+-- and of as many zones
+pub heads-count : (a b : List ScannedZone) (zone : ℕ) → heads_in a ≡ without_heads (heads_in b) zone → length a ≡ length b
+heads-count a b zone same = sym (length-map a (λ (z : ScannedZone). z.heads)) ∙ ap length same ∙ length-set (heads_in b) zone no_heads ∙ length-map b (λ (z : ScannedZone). z.heads)
+
+-- a zone that has a header is one of the zones
+has-inside : (scanned : List ScannedZone) (zone : ℕ) → HasHeads scanned zone → zone < length scanned
+has-inside [] zone (found, there, some) = absurd (cc)
+has-inside (x ∷ xs) zero has = omega arith
+has-inside (x ∷ xs) (suc zone) (found, there, some) = let lt = has-inside xs zone (found, there, some) in omega (arith, lt)
+
+pub inside-more : (count : ℕ) (scanned : List ScannedZone) (resets more : List ℕ) (zone : ℕ) → length scanned ≡ count → HasHeads scanned zone → more ≡ resets ++ zone ∷ [] → AllByRecursion (λ z. z < count) resets → AllByRecursion (λ z. z < count) more
+inside-more count scanned resets more zone same has pushed all =
+    let lt : zone < count = rw (← same) (has-inside scanned zone has) in
+    rw pushed (all-append (λ z. z < count) resets (zone ∷ []) all (lt, tt))
 
 -- so many searches were done over at most that many entries
 pub record SearchesSoFar (all : ℕ) (rounds : ℕ) (scanned : List ScannedZone) (first now : DriveState) : Type 0 where

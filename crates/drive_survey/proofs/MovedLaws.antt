@@ -266,3 +266,8 @@ not-vacant scanned logs zone limit found heads are lt is same some none less emp
 -- if each scanned zone has a batch, no zone is vacant
 pub none-vacant : (scanned : List ScannedZone) (logs : List (List Batch)) (limit : ℕ) → AreOf scanned logs → length scanned ≤ limit → ((k : ℕ) → k < limit → log_at logs k ≡ [] → ⊥) → HasVacant logs → ⊥
 none-vacant scanned logs limit are le none some = none some.zone (omega (arith, some.in_range, le, count-same scanned logs are)) some.vacant
+
+-- a zone that has a first sequence has a header
+pub first-some : (heads : List Head) (n : ℕ) → Some n ≡ first_head_sequence heads → 0 < length heads
+first-some [] n is = absurd (cc)
+first-some (h ∷ hs) n is = omega arith

@@ -22,7 +22,7 @@ use Rattle.drive_survey.specs.Scan.{FailsBy, block_of, readable_at, mount_fault}
 
 -- without a command the zones of a lawful drive are kept
 pub keeps-none : (drive : DriveState) → IsLawful drive → KeepsZones drive drive
-keeps-none drive lawful = record { geometry = refl; lawful = lawful; closing = IsClosing-refl drive.zones; refused = refl; durable = refl; appended = refl }
+keeps-none drive lawful = record { geometry = refl; lawful = lawful; closing = IsClosing-refl drive.zones; trusted = λ clean. clean; refused = refl; durable = refl; appended = refl }
 
 -- if each of two looks keeps the zones, both together do
 pub keeps-both : (a b c : DriveState) → KeepsZones a b → KeepsZones b c → KeepsZones a c
@@ -30,6 +30,7 @@ keeps-both a b c k l = record {
   geometry = l.geometry ∙ k.geometry;
   lawful = l.lawful;
   closing = IsClosing-trans a.zones b.zones c.zones k.closing l.closing;
+  trusted = λ clean. k.trusted (l.trusted clean);
   refused = l.refused ∙ k.refused;
   durable = l.durable ∙ k.durable;
   appended = l.appended ∙ k.appended;
@@ -104,7 +105,7 @@ pub read-shown : (drive : DriveState) (zone offset address : ℕ) (reported : Re
 read-shown drive zone offset address reported bytes known lt is shown =
     shown ∙ append-nil (block_at drive.geometry (contents drive.zones) address) ∙ (known-read drive zone offset address reported known lt is).shows
 
--- and one that halted
+-- a Read that halted
 pub record Halts (old new : DriveState) (fault : PortFault) : Type 0 where
   pub halt : IsHalt fault
   pub kept : KeepsZones old new
@@ -117,6 +118,6 @@ read-halts old new zone offset address reported returned (port.Refused status) k
 read-halts old new zone offset address reported returned port.Memory known lt is gives closing obeys passed = record { halt = tt; kept = rw gives.1.1 (keeps-none old known.lawful); cause = inl refl }
 read-halts old new zone offset address reported returned port.Stopped known lt is gives closing obeys passed = record {
   halt = tt;
-  kept = record { geometry = obeys.geometry; lawful = obeys.lawful; closing = closing; refused = (obeys.counts refl).refused; durable = obeys.durable; appended = (obeys.counts refl).appended };
+  kept = record { geometry = obeys.geometry; lawful = obeys.lawful; closing = closing; trusted = obeys.trusted; refused = (obeys.counts refl).refused; durable = obeys.durable; appended = (obeys.counts refl).appended };
   cause = inr (inl (refl, obeys.stops refl));
 }

@@ -95,6 +95,10 @@ kept_entries_of (Some found) = found.heads.entries
 abbrev pub entries_at : List ScannedZone → ℕ → List ℕ
 entries_at scanned zone = kept_entries_of (slice_get scanned zone)
 
+-- a zone has a header, as it was read
+abbrev pub HasHeads : List ScannedZone → ℕ → Type 0
+HasHeads scanned zone = (found : ScannedZone) × (slice_get scanned zone ≡ Some found) × (0 < length found.heads.heads)
+
 -- at most one record is kept for each entry of a zone
 abbrev pub AreFew : List ScannedZone → BlockRecords → Type 0
 AreFew scanned table = (zone : ℕ) → length (own_of table zone) ≤ length (entries_at scanned zone)

@@ -1,5 +1,5 @@
 -- What a report tells of the zones of a drive, and what a look at a drive keeps.
-use Rattle.std.specs.Prelude.{◌≡◌, ℕ, ◌<◌, ◌^◌, true, false, List, [], ◌∷◌, length}
+use Rattle.std.specs.Prelude.{IsTrue, ◌≡◌, ℕ, ◌<◌, ◌^◌, true, false, List, [], ◌∷◌, length}
 use Rattle.std.specs.List.{AllByRecursion, flat_map}
 use Rattle.nvme_wire.specs.declared.descriptor.Descriptor.{Descriptor}
 use Rattle.nvme_wire.specs.declared.command.ReportingOptions.TheVariants.{AnyState}
@@ -20,6 +20,7 @@ pub record KeepsZones (old new : DriveState) : Type 0 where
   pub geometry : new.geometry ≡ old.geometry
   pub lawful : IsLawful new
   pub closing : IsClosing old.zones new.zones
+  pub trusted : IsTrue new.clean → IsTrue old.clean
   pub refused : new.refused ≡ old.refused
   pub durable : new.durable ≡ old.durable
   pub appended : new.appended ≡ old.appended

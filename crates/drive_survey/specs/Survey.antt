@@ -89,6 +89,14 @@ pub record Surveys (old new : DriveState) (n : ℕ) (survey : Survey) : Type 0 w
   pub shut : TellsShut old survey.zones.items
   pub scans : ScansAll old.geometry (contents old.zones) survey.scanned.items
 
+-- What is known of it whatever its Reads returned: the report is true of all its zones.
+pub record Reports (old new : DriveState) (n : ℕ) (survey : Survey) : Type 0 where
+  pub can : CanScan old n
+  pub given_is : survey.given ≡ n
+  pub zones : AreKnown new survey.zones.items
+  pub shut : TellsShut old survey.zones.items
+  pub scanned : length survey.scanned.items ≡ length survey.zones.items
+
 -- ---- as it is found
 
 abbrev pub is_partly_reported : ReportedZone → Bool

@@ -1,6 +1,7 @@
 ghost use Rattle.std.specs.Prelude.{◌≡◌, ◌≢◌, ◌+◌, ◌*◌, ◌<◌, ◌≤◌, ◌^◌, ℕ, List, false, length};
-ghost use Rattle.std.specs.Prelude.{IfErr, IfOk, IfSome, IsSome, OnOk};
+ghost use Rattle.std.specs.Prelude.{IfErr, IfOk, IfSome, IsSome, IsTrue, OnOk};
 ghost use Rattle.std.specs.BTreeSet.{IsSubset, contains};
+ghost use Rattle.std.specs.List.{AllByRecursion};
 ghost use Rattle.std.specs.Ordering.{nat_cmp};
 ghost use Rattle.batch_log.specs.Log.{Batch};
 ghost use Rattle.drive_port.specs.Drive.{DriveState};
@@ -8,10 +9,11 @@ ghost use Rattle.drive_array.specs.ZoneLogs.{drive_logs};
 ghost use Rattle.drive_array.specs.Records.{without};
 ghost use Rattle.drive_array.specs.Repairing.{IsMoved};
 ghost use Rattle.drive_array.specs.Spare.{HasSpare, IsClearing, IsHalfClean, cleared};
+ghost use Rattle.drive_survey.specs.declared.clearing.Finding.TheVariants.{HalfClean};
 ghost use Rattle.drive_survey.specs.declared.fault.MountFault.TheVariants.{NoSpare};
 ghost use Rattle.drive_survey.specs.declared.scan.ScannedZone.{ScannedZone};
 ghost use Rattle.drive_survey.specs.BlockRecords.{HoldsEach, HoldsRecords, held_of, own_of};
-ghost use Rattle.drive_survey.specs.Clearing.{AreFew, AreOf, FindsLowest, Tells, entries_at};
+ghost use Rattle.drive_survey.specs.Clearing.{AreFew, AreOf, FindsLowest, HasHeads, Tells, entries_at};
 ghost use Rattle.drive_survey.specs.Clearing.{without_heads};
 ghost use Rattle.drive_survey.specs.Known.{Finds, Knows};
 ghost use Rattle.drive_survey.specs.Reads.{SearchesBy, entries_kept};
@@ -73,11 +75,15 @@ fn examine_by<D: Device>(
 ) -> Result<Finding, MountFault>
     // The report is true of all zones, and the candidates fit the survey.
     requires zones { AreKnown (D.drive device.old) survey.now.zones.items }
-    requires sizes { candidates.now.sizes ≡ size_counts survey.now.size (heads_in survey.now.scanned.items) }
+    requires sizes { IsTrue (D.drive device.old).clean
+        → candidates.now.sizes ≡ size_counts survey.now.size (heads_in survey.now.scanned.items) }
     requires few { AreFew survey.now.scanned.items candidates.now.records }
     // Done, the finding is right, if the table holds the records of all blocks that the zone names.
-    ensures ok { IfOk result (TellsFinding (D.drive device.old) survey.now.given survey.now
+    ensures ok { IsTrue (D.drive device.new).clean
+        → IfOk result (TellsFinding (D.drive device.old) survey.now.given survey.now
         candidates.now.records zone) }
+    // A zone that is found half clean has a header.
+    ensures some { IfOk result (λ finding. finding ≡ HalfClean → HasHeads survey.now.scanned.items zone) }
     // It fails only if the drive stops or memory runs out. Whatever it answers, zones hold what they held.
     ensures err { IfErr result (IsInterruption (D.drive device.new)) }
     ensures kept { KeepsZones (D.drive device.old) (D.drive device.new) }
@@ -107,7 +113,8 @@ pub fn examine_zone<D: Device>(
 ) -> Result<Finding, MountFault>
     requires zones { AreKnown (D.drive device.old) survey.now.zones.items }
     // Done, the finding is right for the batches whose headers the survey keeps.
-    ensures ok { IfOk result (FindsOf (D.drive device.old) survey.now.given survey.now zone) }
+    ensures ok { IsTrue (D.drive device.new).clean
+        → IfOk result (FindsOf (D.drive device.old) survey.now.given survey.now zone) }
     // It fails only if the drive stops or memory runs out.
     ensures err { IfErr result (IsInterruption (D.drive device.new)) }
     // Whatever it answers, no command was refused, and the zones hold what they held.
@@ -190,11 +197,14 @@ fn next_half_clean<D: Device>(
 ) -> Result<Option<u32>, MountFault>
     // The report is true of all zones, and the candidates fit the survey.
     requires zones { AreKnown (D.drive device.old) survey.now.zones.items }
-    requires sizes { candidates.old.sizes ≡ size_counts survey.now.size (heads_in survey.now.scanned.items) }
+    requires sizes { IsTrue (D.drive device.old).clean
+        → candidates.old.sizes ≡ size_counts survey.now.size (heads_in survey.now.scanned.items) }
     requires few { AreFew survey.now.scanned.items candidates.old.records }
     // Done, it is the lowest half clean zone or none, provided that each of them waited. The others wait still.
-    ensures ok { IfOk result (FindsLowestWaiting (D.drive device.old) survey.now.given survey.now candidates.old) }
-    ensures others { IfOk result (λ found. IfSome found
+    ensures some { IfOk result (λ found. IfSome found (HasHeads survey.now.scanned.items)) }
+    ensures ok { IsTrue (D.drive device.new).clean
+        → IfOk result (FindsLowestWaiting (D.drive device.old) survey.now.given survey.now candidates.old) }
+    ensures others { IsTrue (D.drive device.new).clean → IfOk result (λ found. IfSome found
         (LeavesWaiting (D.drive device.old) survey.now.given survey.now candidates.old candidates.new)) }
     // It fails only if the drive stops or memory runs out. Records and counts stay, and zones hold what they held.
     ensures err { IfErr result (IsInterruption (D.drive device.new)) }
@@ -328,11 +338,21 @@ fn clear_moved<D: Device>(
     device: &mut D,
     survey: &mut Survey,
 ) -> Result<Vec<u32>, MountFault>
-    requires known { Knows (D.drive device.old) survey.old.given (drive_logs (D.drive device.old)) survey.old }
+    requires known { IsTrue (D.drive device.old).clean → Knows (D.drive device.old) survey.old.given
+        (drive_logs (D.drive device.old)) survey.old }
+    // Whatever the Reads returned, the report is true of all zones, and these were looked at.
+    requires zones { AreKnown (D.drive device.old) survey.old.zones.items }
+    requires scanned { length survey.old.scanned.items ≡ length survey.old.zones.items }
+    // Whatever the Reads returned, these are zones, and the survey has as many as before.
+    ensures inside { IfOk result (λ resets.
+        AllByRecursion (λ zone. zone < length survey.old.zones.items) resets.items) }
+    ensures scanned { OnOk result (length survey.new.scanned.items ≡ length survey.old.scanned.items) }
     // Done, no zone is half clean once these are emptied, and the survey knows the drive without their batches.
-    ensures clearing { IfOk result (λ resets. IsClearing (D.drive device.old).geometry.block survey.old.given
+    ensures clearing { IsTrue (D.drive device.new).clean
+        → IfOk result (λ resets. IsClearing (D.drive device.old).geometry.block survey.old.given
         (drive_logs (D.drive device.old)) resets.items) }
-    ensures known { IfOk result (λ resets. Knows (D.drive device.new) survey.old.given
+    ensures known { IsTrue (D.drive device.new).clean
+        → IfOk result (λ resets. Knows (D.drive device.new) survey.old.given
         (cleared (drive_logs (D.drive device.old)) resets.items) survey.new) }
     // It fails only if the drive stops or memory runs out. The report is the same, and zones hold what they held.
     ensures err { IfErr result (IsInterruption (D.drive device.new)) }
@@ -364,16 +384,27 @@ pub fn clear_zones<D: Device>(
     device: &mut D,
     survey: &mut Survey,
 ) -> Result<Vec<u32>, MountFault>
-    requires known { Knows (D.drive device.old) survey.old.given (drive_logs (D.drive device.old)) survey.old }
+    requires known { IsTrue (D.drive device.old).clean → Knows (D.drive device.old) survey.old.given
+        (drive_logs (D.drive device.old)) survey.old }
+    // Whatever the Reads returned, the report is true of all zones, and these were looked at.
+    requires zones { AreKnown (D.drive device.old) survey.old.zones.items }
+    requires scanned { length survey.old.scanned.items ≡ length survey.old.zones.items }
+    // Whatever the Reads returned, these are zones, and the survey has as many as before.
+    ensures inside { IfOk result (λ resets.
+        AllByRecursion (λ zone. zone < length survey.old.zones.items) resets.items) }
+    ensures scanned { OnOk result (length survey.new.scanned.items ≡ length survey.old.scanned.items) }
     // Done, no zone is half clean once these are emptied, and the survey knows the drive without their batches.
-    ensures clearing { IfOk result (λ resets. IsClearing (D.drive device.old).geometry.block survey.old.given
+    ensures clearing { IsTrue (D.drive device.new).clean
+        → IfOk result (λ resets. IsClearing (D.drive device.old).geometry.block survey.old.given
         (drive_logs (D.drive device.old)) resets.items) }
-    ensures known { IfOk result (λ resets. Knows (D.drive device.new) survey.old.given
+    ensures known { IsTrue (D.drive device.new).clean
+        → IfOk result (λ resets. Knows (D.drive device.new) survey.old.given
         (cleared (drive_logs (D.drive device.old)) resets.items) survey.new) }
     // It fails if no zone is vacant or half clean. Else it fails only if the drive stops or memory runs out.
-    ensures spare { OnOk result (HasSpare (D.drive device.old).geometry.block survey.old.given
+    ensures spare { IsTrue (D.drive device.new).clean
+        → OnOk result (HasSpare (D.drive device.old).geometry.block survey.old.given
         (drive_logs (D.drive device.old))) }
-    ensures err { IfErr result (FailsBy (λ fault. (fault ≡ NoSpare)
+    ensures err { IsTrue (D.drive device.new).clean → IfErr result (FailsBy (λ fault. (fault ≡ NoSpare)
         × (HasSpare (D.drive device.old).geometry.block survey.old.given (drive_logs (D.drive device.old)) → ⊥))
         (D.drive device.new)) }
     // Whatever it answers, the report is the same, no command was refused, and the zones hold what they held.

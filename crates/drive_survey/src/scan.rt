@@ -1,5 +1,5 @@
 ghost use Rattle.std.specs.Prelude.{◌≡◌, ◌⊎◌, ◌+◌, ◌-◌, ◌*◌, ◌<◌, ◌≤◌, ◌^◌, ℕ, List, [], length, drop};
-ghost use Rattle.std.specs.Prelude.{slice_index_or, None, Some, true, IfErr, IfOk, OnOk};
+ghost use Rattle.std.specs.Prelude.{slice_index_or, None, Some, true, IsTrue, IfErr, IfOk, OnOk};
 ghost use Rattle.std.specs.List.{list_all};
 ghost use Rattle.std.specs.Ordering.{nat_cmp};
 ghost use Rattle.std.specs.BTreeSet.{insert_key};
@@ -69,7 +69,8 @@ pub fn read_block<D: Device>(
     requires zone { IsKnown (D.drive device.old) zone.number zone.reported }
     requires in_range { offset < zone.reported.blocks }
     // Done, the buffer is the block, in its full length.
-    ensures ok { OnOk result (block.new.items ≡ block_of (D.drive device.old) zone.number offset) }
+    ensures ok { OnOk result (IsTrue (D.drive device.new).clean
+        → block.new.items ≡ block_of (D.drive device.old) zone.number offset) }
     ensures long { OnOk result (length block.new.items ≡ (D.drive device.old).geometry.block) }
     // It fails only if the drive stops or memory runs out. One command at most is sent. Zones hold what they held.
     ensures err { IfErr result (IsInterruption (D.drive device.new)) }
@@ -91,7 +92,8 @@ fn is_zero_from<D: Device>(
     block: &mut Vec<u8>,
 ) -> Result<bool, MountFault>
     requires zone { IsKnown (D.drive device.old) zone.number zone.reported }
-    ensures ok { IfOk result (λ b. b ≡ list_all is_zero (drop from (readable_at (D.drive device.old) zone.number))) }
+    ensures ok { IfOk result (λ b. IsTrue (D.drive device.new).clean
+        → b ≡ list_all is_zero (drop from (readable_at (D.drive device.old) zone.number))) }
     // It fails only if the drive stops or memory runs out.
     ensures err { IfErr result (IsInterruption (D.drive device.new)) }
     // Whatever it answers, it takes one Read at most for each of these blocks, and zones hold what they held.
@@ -119,17 +121,18 @@ fn end_at<D: Device>(
     // The zone is as reported. The buffer is this block of it, which is no header block, for this cause.
     requires zone { IsKnown (D.drive device.old) zone.number zone.reported }
     requires in_range { offset < zone.reported.blocks }
-    requires block { (block.old.items ≡ block_of (D.drive device.old) zone.number offset)
+    requires block { (IsTrue (D.drive device.old).clean
+        → block.old.items ≡ block_of (D.drive device.old) zone.number offset)
         × (length block.old.items ≡ (D.drive device.old).geometry.block) }
     requires cause { header_fault block.old.items ≡ Some cause }
     requires none { IsNoHeader block.old.items }
     // Done, the zone is Full, and from the block on it has only zeros.
     ensures ok { OnOk result ((is_full (usage_of zone.reported.state) ≡ true)
-        × IsTail (D.drive device.old).geometry.block
+        × (IsTrue (D.drive device.new).clean → IsTail (D.drive device.old).geometry.block
         (is_full (content_at (contents (D.drive device.old).zones) zone.number).usage)
-        (drop offset (readable_at (D.drive device.old) zone.number))) }
+        (drop offset (readable_at (D.drive device.old) zone.number)))) }
     // A fault says for which cause the batches end there, unless the drive stops or memory runs out.
-    ensures err { IfErr result (FailsBy (λ fault. (ending : Ending)
+    ensures err { IsTrue (D.drive device.new).clean → IfErr result (FailsBy (λ fault. (ending : Ending)
         × EndsZone (D.drive device.old) zone.number offset ending
         × (ending_fault zone.number offset ending ≡ Some fault)) (D.drive device.new)) }
     // Whatever it answers, zones hold what they held. Each later block takes one Read at most.
@@ -215,13 +218,13 @@ fn next_head<D: Device>(
     requires few { length heads.old.entries ≤ 508 * heads.old.blocks }
     // Done, one more header is taken; or all are, and it is known whether a torn tail follows.
     ensures few { OnOk result (length heads.new.entries ≤ 508 * heads.new.blocks) }
-    ensures ok { IfOk result (λ next. (before : List ℕ)
+    ensures ok { IsTrue (D.drive device.new).clean → IfOk result (λ next. (before : List ℕ)
         → Takes (D.drive device.old).geometry (content_at (contents (D.drive device.old).zones) zone.number)
         before heads.old seen.old.keys
         → TakesNext (D.drive device.old).geometry (content_at (contents (D.drive device.old).zones) zone.number)
         before heads.old next heads.new seen.new.keys) }
     // A fault is the first one of the zone, unless the drive stops or memory runs out.
-    ensures err { IfErr result (FailsBy (λ fault. (before : List ℕ)
+    ensures err { IsTrue (D.drive device.new).clean → IfErr result (FailsBy (λ fault. (before : List ℕ)
         → Takes (D.drive device.old).geometry (content_at (contents (D.drive device.old).zones) zone.number)
         before heads.old seen.old.keys
         → FailsIn (D.drive device.old).geometry (content_at (contents (D.drive device.old).zones) zone.number)
@@ -253,11 +256,11 @@ pub fn scan_zone<D: Device>(
 ) -> Result<ScannedZone, MountFault>
     requires zone { IsKnown (D.drive device.old) zone.number zone.reported }
     // Done, the zone holds a log without a fault. Its headers are kept, and whether a torn tail follows.
-    ensures ok { IfOk result (λ scanned. Scans (D.drive device.old).geometry
+    ensures ok { IsTrue (D.drive device.new).clean → IfOk result (λ scanned. Scans (D.drive device.old).geometry
         (content_at (contents (D.drive device.old).zones) zone.number) seen.old.keys scanned.heads scanned.is_torn
         seen.new.keys) }
     // A fault is the first one of the zone, unless the drive stops or memory runs out.
-    ensures err { IfErr result (FailsBy (FailsIn (D.drive device.old).geometry
+    ensures err { IsTrue (D.drive device.new).clean → IfErr result (FailsBy (FailsIn (D.drive device.old).geometry
         (content_at (contents (D.drive device.old).zones) zone.number) zone.number seen.old.keys)
         (D.drive device.new)) }
     // Whatever it answers, no command was refused, and the zones hold what they held.
@@ -287,10 +290,12 @@ pub fn scan_zones<D: Device>(
 ) -> Result<Vec<ScannedZone>, MountFault>
     requires zones { AreKnown (D.drive device.old) zones.now }
     // Done, all zones hold logs without a fault. Their headers are kept, and which ones have a torn tail.
-    ensures ok { IfOk result (λ scanned. ScansAll (D.drive device.old).geometry
+    ensures ok { IsTrue (D.drive device.new).clean → IfOk result (λ scanned. ScansAll (D.drive device.old).geometry
         (contents (D.drive device.old).zones) scanned.items) }
+    // All zones were looked at.
+    ensures count { IfOk result (λ scanned. length scanned.items ≡ length zones.now) }
     // A fault is the first one of the drive, unless it stops or memory runs out.
-    ensures err { IfErr result (FailsBy (FailsFirst (D.drive device.old).geometry
+    ensures err { IsTrue (D.drive device.new).clean → IfErr result (FailsBy (FailsFirst (D.drive device.old).geometry
         (contents (D.drive device.old).zones)) (D.drive device.new)) }
     // Whatever it answers, no command was refused, and the zones hold what they held.
     ensures kept { KeepsZones (D.drive device.old) (D.drive device.new) }

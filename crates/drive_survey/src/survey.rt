@@ -7,7 +7,7 @@ ghost use Rattle.drive_survey.specs.Reported.{KeepsZones};
 ghost use Rattle.drive_survey.specs.Scan.{AreKnown, FailsBy, heads_in};
 ghost use Rattle.drive_survey.specs.Survey.{AreBelow, AreReportedUsable, CanScan, IsLowestReported, MayAsk};
 ghost use Rattle.drive_survey.specs.Survey.{SurveyFails};
-ghost use Rattle.drive_survey.specs.Survey.{Surveys, TellsShut, greatest_in, is_partly_reported};
+ghost use Rattle.drive_survey.specs.Survey.{Reports, Surveys, TellsShut, greatest_in, is_partly_reported};
 ghost use Rattle.drive_array.specs.Sizes.{size_or};
 
 use crate::fault::MountFault;
@@ -145,9 +145,13 @@ pub fn survey_drive<D: Device>(
     given: u64,
 ) -> Result<Survey, MountFault>
     // Done, the batches are sound, and the reserve allows the size that they say. All headers are kept.
-    ensures ok { IfOk result (Surveys (D.drive device.old) (D.drive device.new) given) }
+    ensures ok { IsTrue (D.drive device.new).clean
+        → IfOk result (Surveys (D.drive device.old) (D.drive device.new) given) }
+    // Whatever the Reads returned, the report is true of all zones, and the zones were looked at.
+    ensures reported { IfOk result (Reports (D.drive device.old) (D.drive device.new) given) }
     // A fault is the first that a survey meets, unless the drive stops or memory runs out.
-    ensures err { IfErr result (FailsBy (SurveyFails (D.drive device.old) given) (D.drive device.new)) }
+    ensures err { IsTrue (D.drive device.new).clean
+        → IfErr result (FailsBy (SurveyFails (D.drive device.old) given) (D.drive device.new)) }
     // Whatever it answers, zones hold what they held. Nothing is sent if the geometry or the number is out of range.
     ensures kept { KeepsZones (D.drive device.old) (D.drive device.new) }
     ensures unsent { (MayAsk (D.drive device.old) given → ⊥) → D.drive device.new ≡ D.drive device.old }

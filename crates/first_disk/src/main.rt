@@ -10,7 +10,7 @@ ghost use Rattle.std.specs.Prelude.{◌≡◌, ◌*◌, IfOk, OnOk, length};
 ghost use Rattle.drive_port.specs.Calls.{block_count};
 ghost use Rattle.first_disk.specs.Found.{IsFoundAgain};
 
-use drive_port::{Device, Geometry};
+use drive_port::{Device, Geometry, Honest};
 use std::alloc::Global;
 use std::io;
 use zone_drive::{Drive, DriveFault};
@@ -33,7 +33,7 @@ const BLOCKS: u64 = 9;
 
 /// Writes these bytes, which are `blocks` whole blocks, from the block `first` on, and reads them back:
 /// where both calls are done, `shown` holds these bytes.
-fn write_and_read<D: Device + Drop>(
+fn write_and_read<D: Device + Honest + Drop>(
     disk: &mut Disk<D>,
     first: u64,
     blocks: u64,
@@ -52,7 +52,7 @@ fn write_and_read<D: Device + Drop>(
 
 /// Mounts a drive, fills blocks, and gives the drive back, whatever the fill answers: the drive may have stopped.
 /// Once it is restarted it can be mounted, and each disk that is mounted on it has the array that the fill left.
-fn fill_once<D: Device + Drop>(
+fn fill_once<D: Device + Honest + Drop>(
     alloc: Global,
     device: D,
     first: u64,

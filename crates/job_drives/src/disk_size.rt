@@ -1,7 +1,7 @@
 ghost use Rattle.std.specs.Prelude.{◌≡◌};
 ghost use Rattle.job_drives.specs.DiskSize.{size_of};
 
-use drive_port::{Device, Geometry};
+use drive_port::{Device, Geometry, Honest};
 use zone_translator::Disk;
 
 /// The disk that a job mounted.
@@ -15,7 +15,7 @@ pub struct DiskSize {
 
 impl DiskSize {
     /// That of a disk.
-    pub fn of<D: Device + Drop>(disk: &Disk<D>) -> DiskSize
+    pub fn of<D: Device + Honest + Drop>(disk: &Disk<D>) -> DiskSize
         ensures { result ≡ size_of disk.now }
     {
         DiskSize {

@@ -10,8 +10,9 @@ ghost use Rattle.drive_survey.specs.Survey.{SurveyFails};
 ghost use Rattle.job_drives.specs.Mounted.{AreSaid, HaveNoBatch, TellsNoSize};
 
 use crate::mount_fault::NoDiskFault;
-use drive_port::{Device, Geometry};
-use drive_survey::{MountFault, ScannedZone, greatest_size, survey_drive};
+use drive_port::{Device, Geometry, Honest};
+use drive_survey::honest::survey_drive;
+use drive_survey::{MountFault, ScannedZone, greatest_size};
 use std::alloc::Global;
 use zone_choice::most_blocks;
 
@@ -34,7 +35,7 @@ fn have_no_batch(scanned: &[ScannedZone]) -> bool
 }
 
 /// Reads the headers of a drive. `given` is how many logical blocks it has if none says how many.
-pub fn look<D: Device>(alloc: Global, device: &mut D, given: u64) -> Result<Said, MountFault>
+pub fn look<D: Device + Honest>(alloc: Global, device: &mut D, given: u64) -> Result<Said, MountFault>
     // Done, the headers of all batches are known.
     ensures ok { IfOk result (AreSaid (D.drive device.new)) }
     // A fault is the first that a survey meets, unless the drive stops or memory runs out.

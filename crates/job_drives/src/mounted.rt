@@ -8,7 +8,7 @@ ghost use Rattle.job_drives.specs.Mounted.{TellsOutOfRange};
 
 use crate::headers::{look, room, without_size};
 use crate::mount_fault::NoDiskFault;
-use drive_port::{Device, Geometry};
+use drive_port::{Device, Geometry, Honest};
 use std::alloc::Global;
 use zone_choice::most_blocks;
 use zone_translator::{Disk, MountFault};
@@ -26,7 +26,7 @@ fn mount_told(fault: MountFault, geometry: &Geometry) -> NoDiskFault
 }
 
 /// Mounts a drive as `blocks` logical blocks if it does not say its size.
-fn mount_given<D: Device + Drop>(
+fn mount_given<D: Device + Honest + Drop>(
     alloc: Global,
     device: D,
     blocks: u64,
@@ -43,7 +43,7 @@ fn mount_given<D: Device + Drop>(
 
 /// Looks at the headers of a drive that was mounted as one block, and mounts it again if one says a size. It is given
 /// the number 2 then, for which each drive has room: a disk of one block has its size from a header.
-fn mount_one_block<D: Device + Drop>(
+fn mount_one_block<D: Device + Honest + Drop>(
     alloc: Global,
     mut device: D,
 ) -> Result<Disk<D>, (NoDiskFault, D)>
@@ -65,7 +65,7 @@ fn mount_one_block<D: Device + Drop>(
 }
 
 /// Why a drive is not mounted as one block in which a batch names another: its headers may say no size.
-fn out_of_range<D: Device + Drop>(alloc: Global, mut device: D) -> (NoDiskFault, D)
+fn out_of_range<D: Device + Honest + Drop>(alloc: Global, mut device: D) -> (NoDiskFault, D)
     ensures told { TellsOutOfRange (D.drive result.1) result.0 }
     ensures kept { KeepsZones (D.drive device) (D.drive result.1) }
 {
@@ -77,7 +77,7 @@ fn out_of_range<D: Device + Drop>(alloc: Global, mut device: D) -> (NoDiskFault,
 }
 
 /// Mounts a drive with the size that its headers say.
-fn mount_said<D: Device + Drop>(alloc: Global, device: D) -> Result<Disk<D>, (NoDiskFault, D)>
+fn mount_said<D: Device + Honest + Drop>(alloc: Global, device: D) -> Result<Disk<D>, (NoDiskFault, D)>
     ensures disk { IfOk result (IsServed (D.drive device) None) }
     ensures err { IfErr result (λ refusal. IsNotServed (D.drive device) None refusal.0 (D.drive refusal.1)) }
 {
@@ -95,7 +95,7 @@ fn mount_said<D: Device + Drop>(alloc: Global, device: D) -> Result<Disk<D>, (No
 }
 
 /// Mounts a drive, as `blocks` logical blocks if it does not say its size. With the fault the drive is given back.
-pub fn mount_served<D: Device + Drop>(
+pub fn mount_served<D: Device + Honest + Drop>(
     alloc: Global,
     device: D,
     blocks: Option<u64>,

@@ -1,12 +1,12 @@
 // What was counted of a disk, as text.
 
 use drive_counter::{Counter, Spread, statistics_text};
-use drive_port::Device;
+use drive_port::{Device, Honest};
 use std::alloc::{AllocError, Global};
 use zone_translator::Disk;
 
 /// How many blocks are live in each zone.
-fn live_blocks<D: Device + Drop>(
+fn live_blocks<D: Device + Honest + Drop>(
     alloc: Global,
     disk: &Disk<Counter<D>>,
 ) -> Result<Vec<u32>, AllocError> {
@@ -18,7 +18,7 @@ fn live_blocks<D: Device + Drop>(
 }
 
 /// What was counted of a disk, and how many blocks are live in its zones, as text.
-pub fn statistics_of<D: Device + Drop>(
+pub fn statistics_of<D: Device + Honest + Drop>(
     alloc: Global,
     disk: &Disk<Counter<D>>,
 ) -> Result<String, AllocError> {

@@ -4,14 +4,14 @@ ghost use Rattle.std.specs.Prelude.{IfErr, IfOk};
 ghost use Rattle.nbd_jobs.specs.Begun.{IsBegun, IsNotBegun};
 
 use crate::fault::NbdFault;
-use drive_port::Device;
+use drive_port::{Device, Honest};
 use job_drives::mount_served;
 use std::alloc::Global;
 use zone_translator::Disk;
 
 /// Mounts a drive to be served, as `blocks` logical blocks if it does not say its size, and flushes it if that is to be
 /// done before a session. With the fault the drive is given back.
-pub(crate) fn mount_flushed<D: Device + Drop>(
+pub(crate) fn mount_flushed<D: Device + Honest + Drop>(
     alloc: Global,
     device: D,
     blocks: Option<u64>,

@@ -16,7 +16,7 @@ use crate::job::NbdJob;
 use crate::mounted::mount_flushed;
 use drive_counter::Counter;
 use drive_journal::ChangeStore;
-use drive_port::Device;
+use drive_port::{Device, Honest};
 use job_drives::{
     DiskSize, DriveFile, KeepFault, Left, Saved, keep_restarted, leave, restarted_drive,
     statistics_of, stopping,
@@ -54,7 +54,7 @@ pub struct AfterSession<S: ChangeStore<Drive> + Drop, M: Medium + Drop> {
 }
 
 /// What was written and moved, if the job asks for it and there is memory for the text.
-fn shown_statistics<D: Device + Drop>(
+fn shown_statistics<D: Device + Honest + Drop>(
     alloc: Global,
     job: &NbdJob,
     disk: &Disk<Counter<D>>,
@@ -86,7 +86,7 @@ pub struct Kept<D: Device + Drop, M: Medium + Drop> {
 }
 
 /// Mounts a drive, and serves it to a client. Its commands are counted.
-fn serve_counted<D: Device + Drop, M: Medium + Drop, R: Client, W: Write>(
+fn serve_counted<D: Device + Honest + Drop, M: Medium + Drop, R: Client, W: Write>(
     alloc: Global,
     job: &NbdJob,
     kept: Kept<D, M>,
@@ -138,7 +138,7 @@ fn serve_counted<D: Device + Drop, M: Medium + Drop, R: Client, W: Write>(
 }
 
 /// Mounts a drive, and serves it to a client. The drive stops when the job says so. Its commands are counted.
-pub fn serve_stopping<D: Device + Drop, M: Medium + Drop, R: Client, W: Write>(
+pub fn serve_stopping<D: Device + Honest + Drop, M: Medium + Drop, R: Client, W: Write>(
     alloc: Global,
     job: &NbdJob,
     kept: Kept<D, M>,

@@ -6,7 +6,7 @@ ghost use Rattle.nbd_session.specs.Store.{Syncs};
 use crate::fault::StoreFault;
 use crate::medium::Medium;
 use crate::store::Store;
-use drive_port::Device;
+use drive_port::{Device, Honest};
 use std::marker::Model;
 use zone_translator::{Disk, DiskFault, DiskStatus};
 
@@ -47,7 +47,7 @@ impl<D: Device + Drop, M: Medium + Drop> Model for ServedDisk<D, M> {
     ghost view = { λ s. record { disk = s.disk; medium = s.medium; read_only = s.read_only; cleans = s.cleans } };
 }
 
-impl<D: Device + Drop, M: Medium + Drop> ServedDisk<D, M> {
+impl<D: Device + Honest + Drop, M: Medium + Drop> ServedDisk<D, M> {
     /// This disk, whose drive this medium keeps.
     pub fn new(disk: Disk<D>, medium: M, options: ServeOptions) -> ServedDisk<D, M>
         ensures disk { result.disk ≡ disk }
@@ -106,7 +106,7 @@ impl<D: Device + Drop, M: Medium + Drop> ServedDisk<D, M> {
     }
 }
 
-impl<D: Device + Drop, M: Medium + Drop> Store for ServedDisk<D, M> {
+impl<D: Device + Honest + Drop, M: Medium + Drop> Store for ServedDisk<D, M> {
     // Nothing is pending, and the syncs are those of its medium, which fails in no other call.
     ghost view = { λ s. store_of M.syncs M.flushes s };
 

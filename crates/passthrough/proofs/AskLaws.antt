@@ -1,9 +1,10 @@
 -- What a command gives, by what was sent for it.
-use Rattle.std.proofs.Common.{◌≡◌, ℕ, Bool, true, false, List, [], Result, Ok, Err, refl, sym, ◌∙◌, arith}
+use Rattle.std.proofs.Common.{◌≡◌, ℕ, Bool, true, false, List, [], Result, Ok, Err, refl, sym, ap, ◌∙◌, arith}
 use Rattle.std.specs.Prelude.{IfErr, IfOk}
 use Rattle.nvme_wire.specs.declared.command.Action.{Action}
 use Rattle.nvme_wire.specs.declared.command.Command.{Command}
 use Rattle.nvme_wire.specs.declared.command.Command.TheVariants.{Flush, Read, Write, Append, Send, Receive}
+use Rattle.nvme_wire.specs.declared.status.Status.{Status}
 use Rattle.nvme_wire.specs.declared.status.Status.TheVariants.{Success}
 use Rattle.zone_states.specs.Zone.{Zone}
 use Rattle.zone_states.specs.declared.geometry.Geometry.{Geometry}
@@ -13,10 +14,10 @@ use Rattle.drive_port.specs.Drive.{DriveState}
 use Rattle.drive_port.specs.Durable.{Hardens}
 use Rattle.drive_port.specs.Halting.{Adds}
 use Rattle.nvme_wire.specs.declared.command.DecodeFault.{DecodeFault}
-use Rattle.drive_port.specs.Step.{Effect, decode_status, outcome}
+use Rattle.drive_port.specs.Step.{Effect, Performs, decode_status, outcome}
 use Rattle.drive_port.proofs.ClosingLaws.{IsClosing-refl}
 use Rattle.drive_port.proofs.CallLaws.{adds-also, adds-nothing}
-use Rattle.passthrough.specs.Asking.{Asks, HaltsSo}
+use Rattle.passthrough.specs.Asking.{Asks, HaltsSo, counted}
 use Rattle.passthrough.proofs.ReadyLaws.{effect-bare, is_bare, left-bare}
 
 -- a command without data does not look at what is handed in with it
@@ -70,3 +71,23 @@ hardens-silent (Ok (Write slba blocks)) old new was is = is ∙ sym was
 hardens-silent (Ok (Append zslba blocks)) old new was is = is ∙ sym was
 hardens-silent (Ok (Send slba action all)) old new was is = is ∙ sym was
 hardens-silent (Ok (Receive slba dwords options partial)) old new was is = is ∙ sym was
+
+-- a command that was done and counted is performed, by a drive that is clean before and after it
+pub performs-counted : (old middle new : DriveState) (command : Result Command DecodeFault) (bytes returned : List ℕ) (status : Status) (value : ℕ) → old.clean ≡ true
+    → middle ≡ record old { zones = middle.zones } → new ≡ counted middle command status → Hardens command old new
+    → Effect old.geometry old.zones command bytes status value returned middle.zones → Performs old command bytes status value returned new
+performs-counted old middle new command bytes returned status value clean others is hardens effect =
+    let whole : new ≡ counted (record old { zones = middle.zones }) command status = is ∙ ap (λ (d : DriveState). counted d command status) others in
+    record {
+      held = returned;
+      effect = rw (ap (λ (d : DriveState). d.zones) is) effect;
+      told = λ told. refl;
+      length_is = refl;
+      trusted = λ after. clean;
+      fair = λ before same. ap (λ (d : DriveState). d.clean) whole ∙ clean;
+      geometry = ap (λ (d : DriveState). d.geometry) whole;
+      completed = ap (λ (d : DriveState). d.completed) whole;
+      refused = ap (λ (d : DriveState). d.refused) whole;
+      appended = ap (λ (d : DriveState). d.appended) whole;
+      hardens = hardens;
+    }

@@ -1,5 +1,5 @@
 -- What a device's answer to a command says of a way to it.
-use Rattle.std.proofs.Common.{◌≡◌, ℕ, zero, suc, ◌^◌, ◌*◌, ◌<◌, ◌≤◌, ◌∙◌, true, false, List, length, Result, Ok, sym, ap, arith, inl, inr}
+use Rattle.std.proofs.Common.{◌≡◌, ℕ, zero, suc, ◌^◌, ◌*◌, ◌<◌, ◌≤◌, ◌∙◌, Bool, true, false, IsTrue, not, ◌||◌, List, length, Result, Ok, refl, sym, ap, arith, inl, inr}
 use Rattle.std.proofs.lemmas.Bool.{leb-false}
 use Rattle.nvme_wire.specs.Completion.{IsEncodable, completion_bytes}
 use Rattle.nvme_wire.specs.Entry.{decode_of, id_of}
@@ -15,7 +15,7 @@ use Rattle.drive_port.specs.declared.device.Halt.{Halt}
 use Rattle.drive_port.specs.declared.device.Halt.TheVariants.{Memory, Stopped}
 use Rattle.drive_port.specs.Drive.{DriveState, IsLawful}
 use Rattle.drive_port.specs.Halting.{Halts, LeftBy}
-use Rattle.drive_port.specs.Step.{Completes, Effect, end_of}
+use Rattle.drive_port.specs.Step.{Completes, Effect, end_of, is_read, is_told}
 use Rattle.drive_port.proofs.ClosingLaws.{IsClosing-refl}
 use Rattle.drive_port.proofs.StepLaws.{outcome-passes, succeeded}
 use Rattle.passthrough.specs.Premise.{Answers, IsDone, IsSent, Reports}
@@ -78,18 +78,26 @@ success-done old new (Receive slba dwords AnyState true) end bytes value room la
 success-done old new (Receive slba dwords AnyState false) end bytes value room lawful sent effect = absurd sent
 success-done old new (Receive slba dwords (InState state) partial) end bytes value room lawful sent effect = absurd sent
 
+-- the bytes of a drive that is clean are told
+told-clean : (command : Result Command DecodeFault) (clean : Bool) → IsTrue clean → IsTrue (is_told command clean)
+told-clean command clean is = either (not (is_read command)) clean is
+  where
+    either : (a b : Bool) → IsTrue b → IsTrue (a || b)
+    either true b is = refl
+    either false b is = is
+
 -- a completion that says Success is of a command that succeeded, with its value
-pub told-effect : (old new : DriveState) (entry bytes completion returned : List ℕ) (told : Completion) → id_of entry < 2 ^ 16
+pub told-effect : (old new : DriveState) (entry bytes completion returned : List ℕ) (told : Completion) → IsTrue new.clean → id_of entry < 2 ^ 16
     → ((c : Completion) → IsEncodable c → completion ≡ completion_bytes c → ◌≡◌ {A = Result Completion DecodeFault} (Ok told) (Ok c)) → told.status ≡ Success
     → Completes old entry bytes completion returned new
     → Effect old.geometry old.zones (decode_of entry) bytes Success told.result returned new.zones
-told-effect old new entry bytes completion returned told id decodes success done =
+told-effect old new entry bytes completion returned told clean id decodes success done =
     let made : Completion = record { result = done.value; id = id_of entry; status = done.status } in
     let is : ◌≡◌ {A = Result Completion DecodeFault} (Ok told) (Ok made) = decodes made (done.fits, id) done.encoded in
     let same : told ≡ made = cc in
     let status : Success ≡ done.status = sym success ∙ ap (λ (c : Completion). c.status) same in
     let value : told.result ≡ done.value = ap (λ (c : Completion). c.result) same in
-    rw (status, value) done.performs.effect
+    rw (status, value, done.performs.told (told-clean (decode_of entry) new.clean clean)) done.performs.effect
 
 -- so what is answered then is that
 pub success-answers : (old new : DriveState) (command : Command) (bytes : List ℕ) (value size end : ℕ) (returned room : List ℕ) → IsLawful old

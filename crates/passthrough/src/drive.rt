@@ -1,6 +1,6 @@
 // The device.
 
-ghost use Rattle.std.specs.Prelude.{◌≡◌, [], Some, false, IfErr, IfOk, OnErr, OnOk};
+ghost use Rattle.std.specs.Prelude.{◌≡◌, [], Some, false, true, IfErr, IfOk, OnErr, OnOk};
 ghost use Rattle.nvme_wire.specs.Entry.{decode_of};
 ghost use Rattle.zone_states.specs.Checks.{first_failing};
 ghost use Rattle.zone_states.specs.Geometry.{geometry_checks};
@@ -13,7 +13,7 @@ ghost use Rattle.passthrough.specs.Seen.{AreSeen};
 use crate::asking::ask;
 use crate::passthrough::Passthrough;
 use crate::seen_zone::SeenZone;
-use drive_port::{Device, Geometry, Halt};
+use drive_port::{Device, Geometry, Halt, Honest};
 use nvme_wire::{Command, Completion, DecodeFault, Status, entry_id};
 use std::alloc::Global;
 use std::marker::Model;
@@ -54,6 +54,7 @@ impl<P: Passthrough + Drop> Model for PassthroughDrive<P> {
       refused = d.refused;
       appended = d.appended;
       stopped = d.stopped;
+      clean = true;
     } };
 
     // While the drive is served, what was seen of its zones is true.
@@ -101,6 +102,7 @@ impl<P: Passthrough + Drop> PassthroughDrive<P> {
           refused = 0;
           appended = 0;
           stopped = false;
+          clean = true;
         }) }
     {
         let geometry = way.geometry();
@@ -243,5 +245,11 @@ impl<P: Passthrough + Drop> Device for PassthroughDrive<P> {
 
     fn submit_extending(&mut self, entry: &[u8; 64], into: &mut Vec<u8>) -> Result<[u8; 16], Halt> {
         self.answer(entry, &[], into)
+    }
+}
+
+impl<P: Passthrough + Drop> Honest for PassthroughDrive<P> {
+    fn vouch(&self) {
+        let _completed = self.completed;
     }
 }

@@ -1,7 +1,7 @@
 ghost use Rattle.std.specs.Prelude.{◌≡◌};
 
 use crate::passthrough::Passthrough;
-use drive_port::Device;
+use drive_port::Honest;
 use nvme_wire::{Command, Completion, Status};
 use std::alloc::Global;
 use std::marker::Model;
@@ -15,13 +15,13 @@ const SILENT: u16 = 0xffff;
 /// It tells only of commands that succeeded. For each other answer of the device, and where it halted, the answer is
 /// one number that is no status.
 #[derive(Drop)]
-pub struct Through<D: Device + Drop> {
+pub struct Through<D: Honest + Drop> {
     device: D,
     // What the last command returned.
     returned: Vec<u8>,
 }
 
-impl<D: Device + Drop> Model for Through<D> {
+impl<D: Honest + Drop> Model for Through<D> {
     ghost use Rattle.drive_port.specs.Drive.{DriveState};
 
     ghost Value = { DriveState };
@@ -29,7 +29,7 @@ impl<D: Device + Drop> Model for Through<D> {
     ghost view = { λ t. D.drive t.device };
 }
 
-impl<D: Device + Drop> Through<D> {
+impl<D: Honest + Drop> Through<D> {
     /// A way to this device.
     pub fn new(alloc: Global, device: D) -> Self
         ensures { result ≡ D.drive device }
@@ -55,7 +55,7 @@ impl<D: Device + Drop> Through<D> {
     }
 }
 
-impl<D: Device + Drop> Passthrough for Through<D> {
+impl<D: Honest + Drop> Passthrough for Through<D> {
     ghost use Rattle.std.specs.Prelude.{true};
 
     ghost shape = { λ drive. drive.geometry };
@@ -84,6 +84,7 @@ impl<D: Device + Drop> Passthrough for Through<D> {
         let Ok(completion) = self.device.submit(&entry, bytes, &mut self.returned) else {
             return SILENT;
         };
+        self.device.vouch();
         let Ok(completion) = Completion::decode(&completion) else {
             return SILENT;
         };

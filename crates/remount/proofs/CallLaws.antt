@@ -1,6 +1,6 @@
 -- What the commands of a repair keep, and which faults they end with.
 use Rattle.std.proofs.Common.{◌≡◌, ◌≢◌, ◌⊎◌, inl, inr, ℕ, zero, suc, ◌+◌, ◌*◌, ◌/◌, ◌%◌, ◌<◌, ◌≤◌, Bool, true, false, List, [], ◌∷◌, length, set, get_or, Some, Result, Ok, Err, refl, sym, ap, subst, ◌∙◌, arith}
-use Rattle.std.specs.Prelude.{IfErr, OnOk, slice_get}
+use Rattle.std.specs.Prelude.{IfErr, IfOk, OnOk, slice_get}
 use Rattle.std.proofs.lemmas.Bool.{cases_eq}
 use Rattle.std.proofs.lemmas.List.{get_or-set_other, get_or-set_same, length-map}
 use Rattle.std.proofs.lemmas.Option.{slice_get-get_or}
@@ -12,7 +12,7 @@ use Rattle.zone_states.specs.Transition.{is_active, is_open}
 use Rattle.zone_states.specs.Zone.{Zone}
 use Rattle.drive_port.specs.Calls.{CanClose, CanReset, CloseLeaves, ClosedZone, IsNotRefused, Obeys}
 use Rattle.drive_port.specs.Contents.{Content, Counts, Finishes, SameContents, content_at, content_of, contents, emptied, finished, full, is_active_usage, is_full, is_usable, is_writable, nothing, usage_of}
-use Rattle.drive_port.specs.Drive.{DriveState, IsLawful}
+use Rattle.drive_port.specs.Drive.{DriveState, IsClosing, IsLawful}
 use Rattle.drive_port.specs.Step.{nowhere, zone_at}
 use Rattle.drive_port.specs.declared.calls.PortFault.{PortFault}
 use Rattle.drive_port.specs.declared.calls.PortFault.TheVariants as port
@@ -28,7 +28,7 @@ use Rattle.drive_array.proofs.ZoneLogLaws.{finish_logs, tail-at}
 use Rattle.drive_survey.specs.declared.fault.MountFault.{MountFault}
 use Rattle.drive_survey.specs.declared.reported.ReportedZone.{ReportedZone}
 use Rattle.drive_survey.specs.declared.survey.Survey.{Survey}
-use Rattle.remount.specs.Kept.{AreVacantEmpty, KeepsMountable}
+use Rattle.remount.specs.Kept.{AreVacantEmpty, KeepsMountable, Stays}
 use Rattle.drive_survey.specs.Known.{Knows}
 use Rattle.remount.specs.Mount.{IsOnlyTorn}
 use Rattle.remount.specs.Resets.{FinishesOne, OpensNoZone, finished_if_active, reported_full}
@@ -82,13 +82,21 @@ mountable-same n old new same lawful refused durable = record {
 pub shut-mountable : (n : ℕ) (old new : DriveState) → KeepsShut old new → KeepsMountable n old new
 shut-mountable n old new k = mountable-same n old new (record { geometry = k.geometry; contents = k.contents_are }) k.lawful k.refused k.durable
 
+-- nor is the shape changed
+pub shut-stays : (old new : DriveState) → KeepsShut old new → Stays old new
+shut-stays old new k = record { geometry = k.geometry; lawful = k.lawful; trusted = k.trusted }
+
 -- if only the controller closed zones, the contents stay and no zone is opened
 pub zones-shut : (old new : DriveState) → KeepsZones old new → KeepsShut old new
-zones-shut old new k = record { geometry = k.geometry; contents_are = kept-contents old new k; lawful = k.lawful; refused = k.refused; durable = k.durable; opens = closing-opens old.zones new.zones k.closing }
+zones-shut old new k = record { geometry = k.geometry; contents_are = kept-contents old new k; lawful = k.lawful; refused = k.refused; durable = k.durable; opens = closing-opens old.zones new.zones k.closing; trusted = k.trusted }
+
+-- a Read that succeeds keeps the zones, though the controller may close some
+pub read-kept : (old new : DriveState) → Obeys {V = Unit {0}} old (Ok tt) new → IsClosing old.zones new.zones → Counts old new 0 → KeepsZones old new
+read-kept old new obeys closing counts = record { geometry = obeys.geometry; lawful = obeys.lawful; closing = closing; trusted = obeys.trusted; refused = counts.refused; durable = obeys.durable; appended = omega (arith, counts.appended) }
 
 -- two steps that keep the contents and open no zone do so together
 pub shut-both : (a b c : DriveState) → KeepsShut a b → KeepsShut b c → KeepsShut a c
-shut-both a b c k l = record { geometry = l.geometry ∙ k.geometry; contents_are = l.contents_are ∙ k.contents_are; lawful = l.lawful; refused = l.refused ∙ k.refused; durable = l.durable ∙ k.durable; opens = λ zone h. l.opens zone (k.opens zone h) }
+shut-both a b c k l = record { geometry = l.geometry ∙ k.geometry; contents_are = l.contents_are ∙ k.contents_are; lawful = l.lawful; refused = l.refused ∙ k.refused; durable = l.durable ∙ k.durable; opens = λ zone h. l.opens zone (k.opens zone h); trusted = λ clean. k.trusted (l.trusted clean) }
 
 -- drives with the same contents have the same number of zones
 pub shut-count : (old new : DriveState) → contents new.zones ≡ contents old.zones → length new.zones ≡ length old.zones
@@ -361,12 +369,12 @@ can-close drive zone start reported known opened is =
 -- a Close that halts keeps the contents and opens no zone
 pub close-halts : (old new : DriveState) (start : ℕ) (fault : PortFault) → SameContents old new → CloseLeaves {V = Unit {0}} old start (Err fault) new → Obeys {V = Unit {0}} old (Err fault) new → IsNotRefused {V = Unit {0}} (Err fault) → KeepsShut old new
 close-halts old new start (port.Refused status) same leaves obeys passed = absurd passed
-close-halts old new start port.Memory same leaves obeys passed = record { geometry = same.geometry; contents_are = same.contents; lawful = obeys.lawful; refused = ap (λ (d : DriveState). d.refused) leaves; durable = ap (λ (d : DriveState). d.durable) leaves; opens = close-opens {V = Unit {0}} old new start (Err port.Memory) leaves }
-close-halts old new start port.Stopped same leaves obeys passed = record { geometry = same.geometry; contents_are = same.contents; lawful = obeys.lawful; refused = (obeys.counts refl).refused; durable = obeys.durable; opens = close-opens {V = Unit {0}} old new start (Err port.Stopped) leaves }
+close-halts old new start port.Memory same leaves obeys passed = record { geometry = same.geometry; contents_are = same.contents; lawful = obeys.lawful; refused = ap (λ (d : DriveState). d.refused) leaves; durable = ap (λ (d : DriveState). d.durable) leaves; opens = close-opens {V = Unit {0}} old new start (Err port.Memory) leaves; trusted = obeys.trusted }
+close-halts old new start port.Stopped same leaves obeys passed = record { geometry = same.geometry; contents_are = same.contents; lawful = obeys.lawful; refused = (obeys.counts refl).refused; durable = obeys.durable; opens = close-opens {V = Unit {0}} old new start (Err port.Stopped) leaves; trusted = obeys.trusted }
 
 -- a Close that succeeds keeps the contents and opens no zone
 pub close-done : (old new : DriveState) (start : ℕ) → SameContents old new → CloseLeaves {V = Unit {0}} old start (Ok tt) new → Obeys {V = Unit {0}} old (Ok tt) new → ClosedZone old new start → KeepsShut old new
-close-done old new start same leaves obeys done = record { geometry = same.geometry; contents_are = same.contents; lawful = obeys.lawful; refused = done.counts.refused; durable = obeys.durable; opens = close-opens {V = Unit {0}} old new start (Ok tt) leaves }
+close-done old new start same leaves obeys done = record { geometry = same.geometry; contents_are = same.contents; lawful = obeys.lawful; refused = done.counts.refused; durable = obeys.durable; opens = close-opens {V = Unit {0}} old new start (Ok tt) leaves; trusted = obeys.trusted }
 
 -- after a Close that succeeds its zone is not open
 pub close-shuts : (old new : DriveState) (zone start : ℕ) → StartsAt old zone start → zone < length old.zones → CloseLeaves {V = Unit {0}} old start (Ok tt) new → IsShut new.zones zone
@@ -408,3 +416,8 @@ on-either (Err fault) done failed p q = failed q
 pub on-ok : {P Q : Type 0} {V : Type 0} (result : Result V MountFault) → (P → Q) → OnOk result P → OnOk result Q
 on-ok (Ok value) step p = step p
 on-ok (Err fault) step p = tt
+
+-- what follows from each value of a result
+pub if-each : {V : Type 0} {P Q : V → Type 0} (result : Result V MountFault) → ((v : V) → P v → Q v) → IfOk result P → IfOk result Q
+if-each {V} {P} {Q} (Ok v) f p = f v p
+if-each {V} {P} {Q} (Err fault) f p = tt

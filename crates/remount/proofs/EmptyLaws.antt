@@ -1,13 +1,14 @@
 -- Zones are reset, one after the other.
-use Rattle.std.proofs.Common.{◌≡◌, ◌≢◌, ◌⊎◌, inl, inr, ℕ, ◌<◌, Bool, false, List, [], ◌∷◌, ◌++◌, length, get_or, Some, Result, Ok, Err, refl, sym, ap, subst, ◌∙◌}
+use Rattle.std.specs.Prelude.{IsTrue}
+use Rattle.std.proofs.Common.{◌≡◌, ◌≢◌, ◌⊎◌, inl, inr, ℕ, ◌<◌, Bool, false, List, [], ◌∷◌, ◌++◌, length, set, get_or, Some, Result, Ok, Err, refl, sym, ap, subst, ◌∙◌}
 use Rattle.std.specs.Prelude.{OnOk, slice_get}
 use Rattle.std.specs.List.{AllByRecursion, Contains}
-use Rattle.std.proofs.lemmas.List.{length-map}
+use Rattle.std.proofs.lemmas.List.{length-map, length-set}
 use Rattle.std.proofs.lemmas.List.Elements.{Contains-append_left, Contains-append_right}
 use Rattle.nvme_wire.specs.declared.zone_state.ZoneState.TheVariants.{Empty}
 use Rattle.zone_states.specs.declared.geometry.Geometry.{Geometry}
 use Rattle.drive_port.specs.Contents.{Content, Resets, content_at, contents, emptied, nothing}
-use Rattle.drive_port.specs.Drive.{DriveState}
+use Rattle.drive_port.specs.Drive.{DriveState, IsLawful}
 use Rattle.batch_log.specs.Log.{Batch}
 use Rattle.drive_array.specs.ZoneLogs.{drive_logs, has_torn_tail, log_at, zone_log, zone_logs, zone_tails}
 use Rattle.drive_array.specs.Mountable.{IsMountable}
@@ -15,13 +16,15 @@ use Rattle.drive_array.specs.Records.{without}
 use Rattle.drive_array.specs.Spare.{IsClearing, IsLowest, IsVacant, cleared}
 use Rattle.drive_survey.specs.declared.fault.MountFault.{MountFault}
 use Rattle.drive_survey.specs.declared.reported.ReportedZone.{ReportedZone}
+use Rattle.drive_survey.specs.declared.scan.ScannedZone.{ScannedZone}
 use Rattle.drive_survey.specs.declared.survey.Survey.{Survey}
-use Rattle.remount.specs.Kept.{AreVacantEmpty, KeepsMountable}
+use Rattle.remount.specs.Kept.{AreVacantEmpty, Fits, KeepsMountable, Stays}
 use Rattle.drive_survey.specs.Known.{Knows}
 use Rattle.remount.specs.Mount.{AreToEmpty}
 use Rattle.remount.specs.Resets.{KeepsWritten, MayChange, MayReset, OpensNoZone, ResetsAll, reported_empty, set_all}
+use Rattle.drive_survey.specs.Reported.{KeepsZones}
 use Rattle.drive_survey.specs.Scan.{AreKnown, heads_in, tails_in}
-use Rattle.remount.proofs.KeepLaws.{keeps-mountable-both, reset-keeps, without-vacant}
+use Rattle.remount.proofs.KeepLaws.{keeps-mountable-both, keeps-mountable-none, reset-keeps, without-vacant}
 use Rattle.remount.proofs.SetAllLaws.{cleared-set_all, get-set_all, get_or-set_all_other, map-set_all, set_all-both, set_all-parts}
 
 -- ---- logs and tails
@@ -60,7 +63,8 @@ vacant-stay logs (z ∷ zs) all = ap (λ (ls : List (List Batch)). set_all ls zs
 
 -- some zones were reset, and the rest are left
 pub record ResetsSome (first now : DriveState) (before survey : Survey) (n : ℕ) (zones rest : List ℕ) : Type 0 where
-  pub keeps : KeepsMountable n first now
+  pub keeps : IsTrue now.clean → KeepsMountable n first now
+  pub stays : Stays first now
   pub geometry : now.geometry ≡ first.geometry
   pub contents_are : set_all (contents now.zones) rest emptied ≡ set_all (contents first.zones) zones emptied
   pub opens : OpensNoZone first now
@@ -70,19 +74,44 @@ pub record ResetsSome (first now : DriveState) (before survey : Survey) (n : ℕ
   pub tails : set_all (tails_in survey.scanned.items) rest false ≡ set_all (tails_in before.scanned.items) zones false
   pub size : survey.size ≡ before.size
   pub given : survey.given ≡ before.given
-  pub may : MayReset first.geometry.block n (drive_logs now) rest
+  pub may : IsTrue now.clean → MayReset first.geometry.block n (drive_logs now) rest
+  pub inside : AllByRecursion (λ zone. zone < length before.zones.items) rest
+  pub count : length survey.zones.items ≡ length before.zones.items
+  pub scanned : length survey.scanned.items ≡ length before.scanned.items
 
 -- a Reset of the next zone, also one that halts, keeps the drive mountable
-pub some-keeps : (first now new : DriveState) (before survey : Survey) (n zone : ℕ) (zones rest : List ℕ) → ResetsSome first now before survey n zones (zone ∷ rest) → MayChange (λ a b. Resets a b zone) now new → KeepsMountable n first new
-some-keeps first now new before survey n zone zones rest some change =
-    let may : IsVacant (drive_logs now) zone ⊎ IsLowest now.geometry.block n (drive_logs now) zone = subst (λ (g : Geometry). IsVacant (drive_logs now) zone ⊎ IsLowest g.block n (drive_logs now) zone) (sym some.geometry) some.may.1 in
-    keeps-mountable-both n first now new some.keeps (reset-keeps n now new zone may change)
+pub some-keeps : (first now new : DriveState) (before survey : Survey) (n zone : ℕ) (zones rest : List ℕ) → ResetsSome first now before survey n zones (zone ∷ rest) → MayChange (λ a b. Resets a b zone) now new → IsTrue new.clean → KeepsMountable n first new
+some-keeps first now new before survey n zone zones rest some change clean =
+    let may : IsVacant (drive_logs now) zone ⊎ IsLowest now.geometry.block n (drive_logs now) zone = subst (λ (g : Geometry). IsVacant (drive_logs now) zone ⊎ IsLowest g.block n (drive_logs now) zone) (sym some.geometry) (some.may (change.trusted clean)).1 in
+    keeps-mountable-both n first now new (some.keeps (change.trusted clean)) (reset-keeps n now new zone may change)
+
+-- none was reset yet
+pub resets-none : (drive : DriveState) (survey : Survey) (n : ℕ) (zones : List ℕ) → AreKnown drive survey.zones.items → AllByRecursion (λ zone. zone < length survey.zones.items) zones → (IsTrue drive.clean → MayReset drive.geometry.block n (drive_logs drive) zones)
+    → ResetsSome drive drive survey survey n zones zones
+resets-none drive survey n zones known inside may = record {
+  keeps = λ clean. keeps-mountable-none n drive known.lawful;
+  stays = record { geometry = refl; lawful = known.lawful; trusted = λ clean. clean };
+  geometry = refl;
+  contents_are = refl;
+  opens = λ z h. h;
+  known = known;
+  reported = refl;
+  heads = refl;
+  tails = refl;
+  size = refl;
+  given = refl;
+  may = may;
+  inside = inside;
+  count = refl;
+  scanned = refl;
+}
 
 -- once the next zone is reset, one zone fewer is left
 pub resets-more : (first now new : DriveState) (before survey after : Survey) (n zone : ℕ) (zones rest : List ℕ) → ResetsSome first now before survey n zones (zone ∷ rest) → MayChange (λ a b. Resets a b zone) now new → ResetsAll now new survey after (zone ∷ [])
     → ResetsSome first new before after n zones rest
 resets-more first now new before survey after n zone zones rest some change one = record {
   keeps = some-keeps first now new before survey n zone zones rest some change;
+  stays = record { geometry = one.geometry ∙ some.geometry; lawful = change.lawful; trusted = λ clean. some.stays.trusted (change.trusted clean) };
   geometry = one.geometry ∙ some.geometry;
   contents_are = ap (λ (cs : List Content). set_all cs rest emptied) one.contents_are ∙ some.contents_are;
   opens = λ z h. one.opens z (some.opens z h);
@@ -92,7 +121,10 @@ resets-more first now new before survey after n zone zones rest some change one 
   tails = ap (λ (ts : List Bool). set_all ts rest false) one.tails ∙ some.tails;
   size = one.size ∙ some.size;
   given = one.given ∙ some.given;
-  may = subst (λ (ls : List (List Batch)). MayReset first.geometry.block n ls rest) (sym (drive-logs-reset now new survey after (zone ∷ []) one)) some.may.2;
+  may = λ clean. subst (λ (ls : List (List Batch)). MayReset first.geometry.block n ls rest) (sym (drive-logs-reset now new survey after (zone ∷ []) one)) (some.may (change.trusted clean)).2;
+  inside = some.inside.1;
+  count = ap length one.reported ∙ length-set survey.zones.items zone reported_empty ∙ some.count;
+  scanned = sym (length-map after.scanned.items (λ (z : ScannedZone). z.heads)) ∙ ap length one.heads ∙ length-map survey.scanned.items (λ (z : ScannedZone). z.heads) ∙ some.scanned;
 }
 
 -- ---- vacant zones, and then half clean ones
@@ -202,3 +234,27 @@ written-stay old middle new before survey after vacant half_clean one two zone s
 pub if-ok : {P Q : Type 0} (result : Result (Unit {0}) MountFault) → (P → Q) → OnOk result P → OnOk result Q
 if-ok (Ok done) f is = f is
 if-ok (Err fault) f is = tt
+
+-- ---- what stays whatever the Reads returned
+
+pub stays-none : (drive : DriveState) → IsLawful drive → Stays drive drive
+stays-none drive lawful = record { geometry = refl; lawful = lawful; trusted = λ clean. clean }
+
+pub stays-both : (a b c : DriveState) → Stays a b → Stays b c → Stays a c
+stays-both a b c p q = record { geometry = q.geometry ∙ p.geometry; lawful = q.lawful; trusted = λ clean. p.trusted (q.trusted clean) }
+
+length-set_all : {X : Type 0} (xs : List X) (is : List ℕ) (x : X) → length (set_all xs is x) ≡ length xs
+length-set_all xs [] x = refl
+length-set_all xs (i ∷ is) x = length-set_all (set xs i x) is x ∙ length-set xs i x
+
+pub resets-count : (old new : DriveState) (before after : Survey) (zones : List ℕ) → ResetsAll old new before after zones → length after.zones.items ≡ length before.zones.items
+resets-count old new before after zones all = ap length all.reported ∙ length-set_all before.zones.items zones reported_empty
+
+pub resets-fits : (old new : DriveState) (before after : Survey) (zones : List ℕ) → ResetsAll old new before after zones → length before.scanned.items ≡ length before.zones.items → Fits new after
+resets-fits old new before after zones all same = record {
+  zones = all.known;
+  scanned = sym (length-map after.scanned.items (λ (z : ScannedZone). z.heads)) ∙ ap length all.heads ∙ length-map before.scanned.items (λ (z : ScannedZone). z.heads) ∙ same ∙ sym (resets-count old new before after zones all);
+}
+
+pub looks-stay : (old new : DriveState) → KeepsZones old new → Stays old new
+looks-stay old new k = record { geometry = k.geometry; lawful = k.lawful; trusted = k.trusted }

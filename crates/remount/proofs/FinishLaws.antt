@@ -22,7 +22,7 @@ use Rattle.drive_survey.specs.declared.reported.ReportedZone.{ReportedZone}
 use Rattle.drive_survey.specs.declared.scan.ScannedZone.{ScannedZone}
 use Rattle.drive_survey.specs.declared.survey.Survey.{Survey}
 use Rattle.drive_survey.specs.Heads.{HeadsView, heads_after, heads_of, no_heads, with_heading}
-use Rattle.remount.specs.Kept.{AreVacantEmpty, KeepsMountable}
+use Rattle.remount.specs.Kept.{AreVacantEmpty, Fits, FitsStill, KeepsMountable, Stays}
 use Rattle.drive_survey.specs.Known.{Knows}
 use Rattle.remount.specs.Mount.{AreWhole, IsRepaired, IsUntorn}
 use Rattle.drive_survey.specs.Reported.{IsKnown}
@@ -362,5 +362,23 @@ may-finish old new zone P p change = record {
   lawful = change.lawful;
   refused = change.refused;
   durable = change.durable;
+  trusted = change.trusted;
   contents_are = elim change.contents_are as (λ _. (contents new.zones ≡ contents old.zones) ⊎ (Finishes (contents old.zones) (contents new.zones) zone × P)) [ inl same ↦ inl same | inr finishes ↦ inr (finishes, p) ];
 }
+
+-- ---- what stays whatever the Reads returned
+
+pub stays-more : (first now new : DriveState) (Changes : List Content → List Content → Type 0) → Stays first now → MayChange Changes now new → Stays first new
+stays-more first now new Changes stays change = record { geometry = change.geometry ∙ stays.geometry; lawful = change.lawful; trusted = λ clean. stays.trusted (change.trusted clean) }
+
+pub fits-more : (now new : DriveState) (survey after : Survey) (zone : ℕ) → Fits now survey → FinishesIf now new survey after zone → Fits new after × (length after.zones.items ≡ length survey.zones.items)
+fits-more now new survey after zone fits (inl is) = rw (is.1, is.2) (fits, refl)
+fits-more now new survey after zone fits (inr is) =
+    let one = is.1 in
+    let count : length after.zones.items ≡ length survey.zones.items = ap length one.reported ∙ length-set survey.zones.items zone (reported_full now.geometry.capacity) in
+    (record { zones = one.known; scanned = rw one.scanned (fits.scanned ∙ sym count) }, count)
+
+pub fits-finished : (now new : DriveState) (survey after : Survey) (zone : ℕ) → Fits now survey → FinishesOne now new survey after zone → FitsStill new survey after
+fits-finished now new survey after zone fits one =
+    let count : length after.zones.items ≡ length survey.zones.items = ap length one.reported ∙ length-set survey.zones.items zone (reported_full now.geometry.capacity) in
+    record { fits = record { zones = one.known; scanned = rw one.scanned (fits.scanned ∙ sym count) }; count = count }

@@ -5,9 +5,12 @@ use Rattle.std.proofs.lemmas.List.{length-append, length-map}
 use Rattle.std.proofs.lemmas.Nat.{mul-le}
 use Rattle.std.proofs.Math.Nat.{add-mul}
 use Rattle.std.specs.Prelude.{slice_index_or}
+use Rattle.zone_states.specs.declared.geometry.Geometry.{Geometry}
+use Rattle.batch_log.proofs.LentLaws.{data-few}
+use Rattle.drive_array.proofs.AllLaws.{all-weaker}
 use Rattle.drive_port.specs.Calls.{CanAppend}
 use Rattle.drive_port.specs.Drive.{DriveState}
-use Rattle.batch_log.specs.Header.{IsHeading}
+use Rattle.batch_log.specs.Header.{Heading, IsHeading}
 use Rattle.batch_log.specs.Log.{Batch, batch_size, data_count, log_size}
 use Rattle.logical_map.specs.declared.place.Place.TheVariants as places
 use Rattle.drive_array.specs.ZoneLogs.{drive_logs}
@@ -18,13 +21,43 @@ use Rattle.drive_array.proofs.AppendLaws.{log_size-append}
 use Rattle.drive_array.proofs.ReserveLaws.{positive-most}
 use Rattle.remount.specs.declared.repair.moves.MovePlan.{MovePlan}
 use Rattle.drive_survey.specs.Heads.{HeadsView, heads_of, kept_entry}
-use Rattle.remount.specs.Moving.{CanTake, IsAtMove, IsBuiltAs, IsReadableAt, Source, move_by, move_count, moves_before, named_by, placed_entry, source_of}
+use Rattle.remount.specs.Moving.{CanTake, IsAtMove, IsBuiltAs, IsNamed, IsReadableAt, IsSafe, IsShaped, IsTakeable, Source, move_by, move_count, moves_before, named_by, placed_entry, source_of}
 use Rattle.drive_survey.specs.Reported.{IsKnown, KeepsZones}
 use Rattle.remount.proofs.CallLaws.{zones-shut}
 use Rattle.remount.proofs.MovingLaws.{at-can, at-heading, at-kept, moving-known, moving-source}
-use Rattle.remount.proofs.MovePlanLaws.{all-named, few-named, heads-more, move-room}
+use Rattle.remount.proofs.MovePlanLaws.{all-named, few-named, heads-more, move-room, shape-heading}
 
 -- ---- what building it needs
+
+-- what building the Move with a number needs of a safe plan
+pub record SafeBuild (geometry : Geometry) (tables : TablesView) (source : Source) (plan : MovePlan) (k : ℕ) : Type 0 where
+  pub most : 1 ≤ plan.most
+  pub last : plan.next + k < 2 ^ 63
+  pub named : AllByRecursion (IsNamed tables) (named_by plan k)
+  pub heading : IsHeading geometry.block (move_by source plan k).heading
+
+pub safe-build : (geometry : Geometry) (tables : TablesView) (source : Source) (plan : MovePlan) (k : ℕ) → IsSafe geometry tables plan → k < move_count plan → SafeBuild geometry tables source plan k
+safe-build geometry tables source plan k safe lt = record {
+  most = omega (arith, safe.most, positive-most geometry safe.range);
+  last = omega (arith, safe.last, lt);
+  named = all-named (IsNamed tables) plan k safe.named;
+  heading = shape-heading geometry k source plan safe.range safe.most (omega (arith, safe.last, lt)) safe.torn safe.size safe.early (all-weaker (IsNamed tables) (λ b. b < 2 ^ 63) plan.blocks.items (λ b named. omega (arith, named.1)) safe.named) safe.distinct;
+}
+
+-- a Move of a safe plan fits in one transfer
+pub safe-takeable : (geometry : Geometry) (tables : TablesView) (source : Source) (plan : MovePlan) (k : ℕ) (builder : BuilderView) → IsSafe geometry tables plan → k < move_count plan → IsShaped geometry.block (move_by source plan k).heading builder → IsTakeable geometry builder
+safe-takeable geometry tables source plan k builder safe lt shaped =
+    let says = (safe-build geometry tables source plan k safe lt).heading in
+    let most : plan.most + 1 ≤ geometry.transfer = omega (arith, safe.most, positive-most geometry safe.range) in
+    let entries : length (move_by source plan k).heading.entries ≡ length (named_by plan k) = length-map (named_by plan k) (λ x. placed_entry x (slice_index_or source.places x places.None)) in
+    let few : data_count builder.heading.entries ≤ length builder.heading.entries = data-few builder.heading.entries in
+    let same : length builder.heading.entries ≡ length (move_by source plan k).heading.entries = ap (λ (h : Heading). length h.entries) shaped.heading_is in
+    record {
+      range = safe.range;
+      heading = rw shaped.heading_is says;
+      whole = shaped.whole;
+      few = omega (arith, few, same, entries, few-named plan k, most);
+    }
 
 -- what building the Move with a number needs
 pub record CanBuild (n : ℕ) (start now : DriveState) (tables : TablesView) (plan : MovePlan) (k : ℕ) : Type 0 where
@@ -103,10 +136,10 @@ pub count-before : (source : Source) (plan : MovePlan) (k : ℕ) → k ≤ log_s
 count-before source plan zero = omega arith
 count-before source plan (suc k) = omega (arith, count-before source plan k, log_size-append (moves_before source plan k) (move_by source plan k))
 
--- with this batch the counts of entries and blocks stay below 2 ^ 32
+-- with this batch the counts of entries and blocks stay below 2 ^ 31
 pub record CanPush (heads : HeadsView) (builder : BuilderView) : Type 0 where
-  pub few : length heads.entries + length builder.heading.entries < 2 ^ 32
-  pub short : heads.blocks + 1 + data_count builder.heading.entries < 2 ^ 32
+  pub few : length heads.entries + length builder.heading.entries < 2 ^ 31
+  pub short : heads.blocks + 1 + data_count builder.heading.entries < 2 ^ 31
 
 -- the header of a Move that is ready can be added to the headers before it
 pub can-push : (n : ℕ) (start now : DriveState) (tables : TablesView) (plan : MovePlan) (k : ℕ) (heads : HeadsView) (builder : BuilderView) → MoveReady n start now tables plan k heads builder → k < move_count plan → CanPush heads builder

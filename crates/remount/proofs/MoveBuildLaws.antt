@@ -1,16 +1,17 @@
 -- A Move as it is built: its entries, its data, and its header.
-use Rattle.std.proofs.Common.{◌≡◌, ℕ, ◌+◌, ◌*◌, ◌<◌, ◌≤◌, ◌^◌, List, [], ◌∷◌, ◌++◌, length, take, drop, get_or, Option, refl, sym, ap, ◌∙◌, arith, append_assoc}
+use Rattle.std.proofs.Common.{◌≡◌, ℕ, ◌+◌, ◌*◌, ◌<◌, ◌≤◌, ◌^◌, List, [], ◌∷◌, ◌++◌, length, take, drop, get_or, IsTrue, Option, refl, sym, ap, ◌∙◌, arith, append_assoc, append-nil}
 use Rattle.std.specs.Prelude.{slice_index_or}
 use Rattle.std.specs.List.{AllByRecursion, concat}
-use Rattle.std.proofs.lemmas.List.{drop_at, drop_more, length-append, take_at}
+use Rattle.std.proofs.lemmas.List.{drop_all, drop_at, drop_more, length-append, take_at}
 use Rattle.std.proofs.lemmas.List.Folds.{concat-append}
 use Rattle.std.proofs.Math.Nat.{add-mul}
 use Rattle.zone_states.specs.Zone.{cut_blocks}
-use Rattle.drive_port.specs.Drive.{DriveState}
+use Rattle.drive_port.specs.Drive.{DriveState, IsLawful}
 use Rattle.batch_log.specs.declared.header.Entry.{Entry}
 use Rattle.batch_log.specs.Header.{Heading, IsHeaderBlock, IsHeading, header_block}
 use Rattle.batch_log.specs.Log.{Batch, data_count}
 use Rattle.batch_log.specs.Reading.{heading_in}
+use Rattle.batch_log.proofs.LentLaws.{data-few}
 use Rattle.batch_log.proofs.HeaderLaws.{header_again, header_length}
 use Rattle.logical_map.specs.declared.place.Place.{Place}
 use Rattle.logical_map.specs.declared.place.Place.TheVariants as places
@@ -22,10 +23,13 @@ use Rattle.zone_states.specs.Geometry.{IsInRange}
 use Rattle.batch_log.specs.declared.header.Kind.TheVariants.{Move}
 use Rattle.drive_survey.specs.declared.reported.ReportedZone.{ReportedZone}
 use Rattle.remount.specs.declared.repair.moves.MovePlan.{MovePlan}
-use Rattle.remount.specs.Moving.{IsBuiltAs, IsReadableAt, Source, blocks_listed, move_by, moved_data, moved_entries, named_by, placed_entry, said, said_at, size_by, source_of}
+use Rattle.remount.specs.Torn.{data_count_at}
+use Rattle.zone_states.specs.declared.geometry.Geometry.{Geometry}
+use Rattle.remount.specs.Kept.{Stays}
+use Rattle.remount.specs.Moving.{Adds, Extends, IsBlockAt, IsBuiltAs, IsNamed, IsReadableAt, IsShaped, Source, blocks_listed, move_by, moved_data, moved_entries, named_by, placed_entry, said, said_at, size_by, source_of}
 use Rattle.drive_survey.specs.Reported.{IsKnown, KeepsZones}
 use Rattle.drive_survey.specs.Scan.{readable_at}
-use Rattle.drive_survey.proofs.ReadLaws.{kept-blocks, keeps-both, keeps-none}
+use Rattle.drive_survey.proofs.ReadLaws.{kept-blocks, kept-known, keeps-both, keeps-none}
 
 -- all blocks have this size
 abbrev pub AreWhole : ℕ → List (List ℕ) → Type 0
@@ -170,3 +174,115 @@ build-done start tables plan k block sequence size blocks begun named encoded co
     built-as start.geometry.block copied batch (large-block start.geometry range) says (copied-heading ∙ encoded-heading ∙ heading)
     (copied-bytes ∙ ap (λ (xs : List ℕ). xs ++ concat (moved_data source blocks)) (encoded-bytes ∙ ap (λ (s : ℕ). header_block s named.heading) block-is ∙ ap (header_block start.geometry.block) heading) ∙ ap (λ (bs : List ℕ). header_block start.geometry.block batch.heading ++ concat (moved_data source bs)) blocks-is)
     (rw blocks-is at whole) (length-moved source (named_by plan k))
+
+-- ---- what is copied, whatever the Reads return
+
+-- a place without data counts none
+pub no-count : (p : Place) → ((address : ℕ) → p ≡ places.At address → ⊥) → data_count_at p ≡ 0
+no-count places.None other = refl
+no-count (places.Trimmed address) other = refl
+no-count (places.At address) other = absurd (other address refl)
+
+-- the data of the first of some blocks, and that of the others
+data-first : (all : List Place) (block : ℕ) (rest : List ℕ) → data_count (moved_entries all (block ∷ rest)) ≡ data_count_at (slice_index_or all block places.None) + data_count (moved_entries all rest)
+data-first all block rest = one (slice_index_or all block places.None)
+  where
+    one : (p : Place) → data_count (placed_entry block p ∷ moved_entries all rest) ≡ data_count_at p + data_count (moved_entries all rest)
+    one places.None = omega arith
+    one (places.Trimmed address) = omega arith
+    one (places.At address) = omega arith
+
+-- As many bytes were added as the blocks that are copied have. While the drive is clean they are those of the blocks, if these can be read.
+pub record CopyingSome (start now : DriveState) (tables : TablesView) (zone : ℕ) (reported : ReportedZone) (old new : BuilderView) (blocks rest : List ℕ) : Type 0 where
+  pub stays : Stays start now
+  pub kept : IsKnown start zone reported → KeepsZones start now
+  pub heading : new.heading ≡ old.heading
+  pub got : List ℕ
+  pub joined : new.bytes ≡ old.bytes ++ got
+  pub count : length got + data_count (moved_entries tables.map.places rest) * start.geometry.block ≡ data_count (moved_entries tables.map.places blocks) * start.geometry.block
+  pub named : AllByRecursion (IsNamed tables) rest
+  pub readable : AllByRecursion (IsReadableAt tables (zone * start.geometry.size) reported.blocks) blocks → AllByRecursion (IsReadableAt tables (zone * start.geometry.size) reported.blocks) rest
+  pub copied : IsTrue now.clean → IsKnown start zone reported → AllByRecursion (IsReadableAt tables (zone * start.geometry.size) reported.blocks) blocks → Copying start now tables zone reported old new blocks rest
+
+pub copying-begin : (start : DriveState) (tables : TablesView) (zone : ℕ) (reported : ReportedZone) (builder : BuilderView) (blocks : List ℕ) → IsLawful start → AllByRecursion (IsNamed tables) blocks
+    → CopyingSome start start tables zone reported builder builder blocks blocks
+copying-begin start tables zone reported builder blocks lawful named = record {
+  stays = record { geometry = refl; lawful = lawful; trusted = λ clean. clean };
+  kept = λ known. keeps-none start lawful;
+  heading = refl;
+  got = [];
+  joined = sym (append-nil builder.bytes);
+  count = omega arith;
+  named = named;
+  readable = λ all. all;
+  copied = λ clean known all. copying-none start tables zone reported builder blocks known all;
+}
+
+pub copying-step : (start now next : DriveState) (tables : TablesView) (zone : ℕ) (reported : ReportedZone) (old middle new : BuilderView) (blocks rest : List ℕ) (i block : ℕ) → drop i blocks ≡ block ∷ rest → CopyingSome start now tables zone reported old middle blocks (drop i blocks)
+    → Stays now next → (IsKnown now zone reported → KeepsZones now next)
+    → new.heading ≡ middle.heading → Extends middle.bytes new.bytes (data_count_at (slice_index_or tables.map.places block places.None) * now.geometry.block)
+    → (IsTrue next.clean → IsKnown now zone reported → IsBlockAt (zone * now.geometry.size) reported.blocks (slice_index_or tables.map.places block places.None)
+    → Adds middle.bytes now.geometry.block (blocks_listed (said_at (readable_at now zone) (zone * now.geometry.size) (slice_index_or tables.map.places block places.None))) new.bytes)
+    → CopyingSome start next tables zone reported old new blocks rest
+copying-step start now next tables zone reported old middle new blocks rest i block split was stays kept heading grown bytes =
+    let g = start.geometry in
+    let same : now.geometry.block ≡ g.block = ap (λ (x : Geometry). x.block) was.stays.geometry in
+    let size : now.geometry.size ≡ g.size = ap (λ (x : Geometry). x.size) was.stays.geometry in
+    let p = slice_index_or tables.map.places block places.None in
+    let before = rw (split, data-first tables.map.places block rest) at was.count in
+    let named = rw split at was.named in
+    let left : AllByRecursion (IsReadableAt tables (zone * g.size) reported.blocks) blocks → AllByRecursion (IsReadableAt tables (zone * g.size) reported.blocks) (block ∷ rest) = rw split at was.readable in
+    let more : length grown.got ≡ data_count_at p * g.block = rw same at grown.long in
+    record {
+      stays = record { geometry = stays.geometry ∙ was.stays.geometry; lawful = stays.lawful; trusted = λ clean. was.stays.trusted (stays.trusted clean) };
+      kept = λ known. keeps-both start now next (was.kept known) (kept (kept-known start now zone reported (was.kept known) known));
+      heading = heading ∙ was.heading;
+      got = was.got ++ grown.got;
+      joined = grown.joined ∙ ap (λ (xs : List ℕ). xs ++ grown.got) was.joined ∙ append_assoc old.bytes was.got grown.got;
+      count = omega (arith, before, more, length-append was.got grown.got, add-mul (data_count_at p) (data_count (moved_entries tables.map.places rest)) g.block);
+      named = named.1;
+      readable = λ all. (left all).1;
+      copied = λ clean known all.
+          let here : IsBlockAt (zone * now.geometry.size) reported.blocks p = rw size (left all).0.place in
+          let then = kept-known start now zone reported (was.kept known) known in
+          let added = bytes clean then here in
+          copying-more start now next tables zone reported old middle new blocks rest i block split (was.copied (stays.trusted clean) known all) (kept then) heading added.bytes added.whole;
+    }
+
+-- at the end all are copied
+pub copied-all : (start now : DriveState) (tables : TablesView) (zone : ℕ) (reported : ReportedZone) (old new : BuilderView) (blocks : List ℕ) (i : ℕ) → length blocks ≤ i → CopyingSome start now tables zone reported old new blocks (drop i blocks) → CopyingSome start now tables zone reported old new blocks []
+copied-all start now tables zone reported old new blocks i end was = rw (drop_all i blocks end) at was
+
+pub copies-added : (start now : DriveState) (tables : TablesView) (zone : ℕ) (reported : ReportedZone) (old new : BuilderView) (blocks : List ℕ) → Copying start now tables zone reported old new blocks []
+    → Adds old.bytes start.geometry.block (moved_data (source_of start tables zone) blocks) new.bytes
+copies-added start now tables zone reported old new blocks done = record { bytes = sym (append-nil new.bytes) ∙ done.bytes; whole = done.whole tt }
+
+-- a batch that was begun, named, encoded and copied has its heading, whatever the data
+pub shape-done : (start : DriveState) (tables : TablesView) (plan : MovePlan) (k block sequence : ℕ) (size : Option ℕ) (blocks : List ℕ) (begun named encoded copied : BuilderView) → IsInRange start.geometry → IsHeading start.geometry.block (move_by (source_of start tables plan.torn) plan k).heading
+    → block ≡ start.geometry.block → blocks ≡ named_by plan k → size ≡ size_by plan k → sequence ≡ plan.next + k
+    → begun.heading ≡ record { kind = Move; sequence = sequence; source = plan.torn; size = size; entries = [] }
+    → named.heading ≡ record begun.heading { entries = begun.heading.entries ++ moved_entries tables.map.places blocks }
+    → encoded.heading ≡ named.heading → encoded.bytes ≡ header_block block named.heading → copied.heading ≡ encoded.heading
+    → Extends encoded.bytes copied.bytes (data_count (moved_entries tables.map.places blocks) * start.geometry.block)
+    → IsShaped start.geometry.block (move_by (source_of start tables plan.torn) plan k).heading copied
+shape-done start tables plan k block sequence size blocks begun named encoded copied range says block-is blocks-is size-is sequence-is begun-is named-is encoded-heading encoded-bytes copied-heading more =
+    let source = source_of start tables plan.torn in
+    let batch = move_by source plan k in
+    let raw : named.heading ≡ heading_by sequence plan.torn size (moved_entries tables.map.places blocks) = named-is ∙ ap (λ (h : Heading). record h { entries = h.entries ++ moved_entries tables.map.places blocks }) begun-is in
+    let same : heading_by sequence plan.torn size (moved_entries tables.map.places blocks) ≡ batch.heading = rw (sequence-is, size-is, blocks-is) refl in
+    let heading : copied.heading ≡ batch.heading = copied-heading ∙ encoded-heading ∙ raw ∙ same in
+    let header : encoded.bytes ≡ header_block start.geometry.block copied.heading = encoded-bytes ∙ ap (λ (s : ℕ). header_block s named.heading) block-is ∙ ap (header_block start.geometry.block) (raw ∙ same ∙ sym heading) in
+    let one : length encoded.bytes ≡ start.geometry.block = ap length header ∙ header_length start.geometry.block copied.heading (omega (arith, large-block start.geometry range)) (rw heading says) in
+    let rest : drop start.geometry.block copied.bytes ≡ more.got = ap (drop start.geometry.block) more.joined ∙ drop_at encoded.bytes more.got start.geometry.block one in
+    let number : data_count copied.heading.entries ≡ data_count (moved_entries tables.map.places blocks) = ap (λ (h : Heading). data_count h.entries) heading ∙ ap (λ (bs : List ℕ). data_count (moved_entries tables.map.places bs)) (sym blocks-is) in
+    record {
+      whole = record {
+        header = more.joined ∙ ap (λ (xs : List ℕ). xs ++ more.got) header ∙ ap (λ (xs : List ℕ). header_block start.geometry.block copied.heading ++ xs) (sym rest);
+        data_length = rw number (ap length rest ∙ more.long);
+      };
+      heading_is = heading;
+    }
+
+-- a batch has no more data blocks than entries
+pub few_data : (es : List Entry) → data_count es ≤ length es
+few_data es = data-few es

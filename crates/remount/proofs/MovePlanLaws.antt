@@ -14,6 +14,7 @@ use Rattle.batch_log.proofs.LentLaws.{data-few}
 use Rattle.logical_map.specs.declared.place.Place.{Place}
 use Rattle.logical_map.specs.declared.place.Place.TheVariants as places
 use Rattle.drive_array.specs.Records.{Record, entry_records, newest, records}
+use Rattle.drive_array.specs.Reserve.{batch_most}
 use Rattle.drive_array.specs.Repairing.{IsCopyFrom, IsRepairMove, IsWithin}
 use Rattle.drive_array.specs.Sizes.{encoded_size, larger, log_greatest}
 use Rattle.drive_array.specs.ZoneLogs.{log_at, log_sequences, sequences}
@@ -138,7 +139,7 @@ copies n logs source torn sequence zone header k done body (b ∷ bs) at is all 
 
 -- ---- the header
 
-largest-size : (block : ℕ) (log : List Batch) → AllByRecursion (IsBatch block) log → IfSome (log_greatest log) IsSize
+pub largest-size : (block : ℕ) (log : List Batch) → AllByRecursion (IsBatch block) log → IfSome (log_greatest log) IsSize
 largest-size block [] all = tt
 largest-size block (b ∷ bs) all = both b.heading.size (log_greatest bs) all.0.heading.size (largest-size block bs all.1)
   where
@@ -163,6 +164,23 @@ move-heading geometry n k logs source plan range can lt torn few batches = recor
     sized : (x : Option ℕ) → (x ≡ log_greatest (log_at logs plan.torn)) ⊎ (x ≡ None) → IfSome x IsSize
     sized x (inl same) = rw same (largest-size geometry.block (log_at logs plan.torn) batches)
     sized x (inr none) = rw none tt
+
+-- the heading of a Move fits in a header block by the shape of the plan alone, whatever the Reads returned
+pub shape-heading : (geometry : Geometry) (k : ℕ) (source : Source) (plan : MovePlan) → IsInRange geometry → plan.most ≡ batch_most geometry → plan.next + k < 2 ^ 64 → plan.torn < geometry.zones → IfSome plan.size IsSize → IfSome plan.early IsSize
+    → AllByRecursion (λ b. b < 2 ^ 63) plan.blocks.items → IsDistinct nat_eq plan.blocks.items → IsHeading geometry.block (move_by source plan k).heading
+shape-heading geometry k source plan range most last torn size early few distinct = record {
+  room = omega (arith, few-named plan k, most, length-map (named_by plan k) (λ b. placed_entry b (slice_index_or source.places b places.None)));
+  sequence = omega (arith, last);
+  source = omega (arith, torn, range.zones);
+  host = λ e. absurd (let bad : Move ≡ Host = e in cc);
+  size = sized (eqb (k + 1) (move_count plan));
+  blocks = all-entries (λ b. b < 2 ^ 63) source.places (named_by plan k) (named-all (λ b. b < 2 ^ 63) plan k few);
+  distinct = rw (blocks-moved source.places (named_by plan k)) (distinct-take plan.most (drop (k * plan.most) plan.blocks.items) (distinct-drop (k * plan.most) plan.blocks.items distinct));
+}
+  where
+    sized : (b : Bool) → IfSome (cond b plan.size plan.early) IsSize
+    sized true = size
+    sized false = early
 
 -- a Move whose heading fits in a header block is a batch
 pub move-batch : (block k : ℕ) (source : Source) (plan : MovePlan) → IsHeading block (move_by source plan k).heading → IsBatch block (move_by source plan k)

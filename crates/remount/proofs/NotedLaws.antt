@@ -1,9 +1,14 @@
 -- Which zones are noted as open.
-use Rattle.std.proofs.Common.{◌≡◌, ◌≢◌, ◌⊎◌, inl, inr, ℕ, true, false, List, [], ◌∷◌, set, Some, refl, sym, ap, subst, ◌∙◌}
+use Rattle.std.proofs.Common.{◌≡◌, ◌≢◌, ◌⊎◌, inl, inr, ℕ, true, false, List, [], ◌∷◌, set, Some, refl, sym, ap, subst, ◌∙◌, ◌<◌, ◌≤◌, arith}
 use Rattle.std.specs.Prelude.{slice_get}
 use Rattle.std.specs.List.{AllByRecursion}
+use Rattle.zone_states.specs.declared.geometry.Geometry.{Geometry}
 use Rattle.zone_states.specs.Transition.{is_open}
 use Rattle.drive_port.specs.Drive.{DriveState}
+use Rattle.drive_port.specs.Contents.{content_at, contents}
+use Rattle.zone_choice.proofs.CommandLaws.{zone-few}
+use Rattle.zone_choice.proofs.ReadLaws.{length-readable}
+use Rattle.drive_survey.specs.Scan.{AreKnown}
 use Rattle.batch_log.specs.Log.{Batch}
 use Rattle.drive_array.specs.Spare.{IsVacant, cleared}
 use Rattle.drive_array.specs.ZoneLogs.{drive_logs, log_at}
@@ -15,7 +20,7 @@ use Rattle.drive_survey.specs.declared.survey.Survey.{Survey}
 use Rattle.drive_survey.specs.Reported.{KeepsZones}
 use Rattle.drive_survey.specs.Survey.{TellsShut}
 use Rattle.drive_survey.proofs.ReadLaws.{kept-contents}
-use Rattle.remount.specs.Kept.{IsNotedOpen, NotesFilledOpen, NotesNoneOpen}
+use Rattle.remount.specs.Kept.{AreShort, IsNotedOpen, IsWithin, NotesFilledOpen, NotesNoneOpen}
 use Rattle.remount.specs.Mount.{NotesOpenByNeed, TookMoves, WasOpenOrTook}
 use Rattle.remount.specs.Mounting.{IsLowestPartly, MountsRoles}
 use Rattle.remount.specs.Resets.{FinishesIf, FinishesOne, reported_empty, reported_full, set_all}
@@ -98,6 +103,23 @@ fillings-noted reported zones roles m =
     one from f found may =
         let same : f.may_open ≡ is_open found.found.state = ap (λ (g : Filling). g.may_open) found.is in
         (found.found, found.there, sym same ∙ may)
+
+-- no zone is reported with more blocks than it can have
+pub known-short : (drive : DriveState) (reported : List ReportedZone) → AreKnown drive reported → AreShort drive.geometry.capacity reported
+known-short drive reported known zone r there =
+    let k = known.each zone r there in
+    omega (arith, k.blocks, length-readable drive.geometry (content_at (contents drive.zones) zone) (zone-few drive zone k.lawful k.in_range))
+
+-- a zone that is being filled is as full as it was reported
+pub fillings-short : (reported : List ReportedZone) (geometry : Geometry) (roles : RolesView) → MountsRoles reported geometry.zones roles → AreShort geometry.capacity reported → AllByRecursion (IsWithin geometry) (fillings roles)
+fillings-short reported geometry roles m short =
+    subst (λ (rs : RolesView). AllByRecursion (IsWithin geometry) (fillings rs)) (sym m.is)
+    (all-partly (IsWithin geometry) reported geometry.zones m.host m.next one m.host_is m.next_is)
+  where
+    one : (from : ℕ) (f : Filling) → IsLowestPartly reported from geometry.zones f → IsWithin geometry f
+    one from f found =
+        let same : f.written ≡ found.found.blocks = ap (λ (g : Filling). g.written) found.is in
+        (found.before, omega (arith, same, short f.zone found.found found.there))
 
 -- ---- the mount
 

@@ -1,8 +1,8 @@
 -- The blocks of a torn zone, in the order in which they are moved.
-use Rattle.std.proofs.Common.{◌≡◌, ◌≢◌, ◌⊎◌, inl, inr, ℕ, zero, suc, ◌+◌, ◌*◌, ◌<◌, ◌≤◌, Bool, true, false, cond, eqb, List, [], ◌∷◌, ◌++◌, length, take, get_or, refl, sym, ap, subst, ◌∙◌, arith}
+use Rattle.std.proofs.Common.{◌≡◌, ◌≢◌, ◌⊎◌, inl, inr, ℕ, zero, suc, ◌+◌, ◌*◌, ◌<◌, ◌≤◌, Bool, true, false, ◌||◌, cond, eqb, List, [], ◌∷◌, ◌++◌, length, take, get_or, refl, sym, ap, subst, ◌∙◌, arith}
 use Rattle.std.specs.Prelude.{Contains, nat_eq}
-use Rattle.std.specs.List.{AllByRecursion, IsDistinct}
-use Rattle.std.proofs.lemmas.Bool.{cases_eq, cases_lt, eq-eqb, ne_eqb}
+use Rattle.std.specs.List.{AllByRecursion, IsDistinct, list_any}
+use Rattle.std.proofs.lemmas.Bool.{cases_eq, cases_lt, eq-eqb, eqb-true, ne_eqb}
 use Rattle.std.proofs.lemmas.List.{take-append-le}
 use Rattle.logical_map.specs.Live.{blocks_in, lies_in}
 use Rattle.logical_map.specs.declared.place.Place.{Place}
@@ -12,7 +12,7 @@ use Rattle.drive_array.proofs.AllLaws.{all-append, all-weaker}
 use Rattle.drive_array.proofs.ReserveLaws.{div_ceil-le}
 use Rattle.drive_survey.specs.declared.clearing.Finding.{Finding}
 use Rattle.drive_survey.specs.declared.clearing.Finding.TheVariants.{HalfClean, NotMoves, NeedsBlock, NeedsSize}
-use Rattle.remount.specs.Moving.{ordered, others}
+use Rattle.remount.specs.Moving.{is_last_in, ordered, others}
 use Rattle.remount.proofs.MovePlanLaws.{all-take}
 
 -- ---- elements
@@ -124,6 +124,38 @@ others-total f last (x ∷ xs) d (inr more) = by (cases_eq x last) (others-total
 abbrev pub IsLastIn : List ℕ → Finding → Type 0
 IsLastIn blocks (NeedsBlock last) = In last blocks
 IsLastIn blocks why = Unit {0}
+
+-- the test tells it
+in-any : (last : ℕ) (blocks : List ℕ) → list_any (λ block. eqb block last) blocks ≡ true → In last blocks
+in-any last [] h = absurd (cc)
+in-any last (b ∷ bs) h = by (eqb b last) refl h (in-any last bs)
+  where
+    by : (t : Bool) → eqb b last ≡ t → (t || list_any (λ block. eqb block last) bs) ≡ true → (list_any (λ block. eqb block last) bs ≡ true → In last bs) → In last (b ∷ bs)
+    by true e h rest = inl (eqb-true b last e)
+    by false e h rest = inr (rest h)
+
+any-in : (last : ℕ) (blocks : List ℕ) → In last blocks → list_any (λ block. eqb block last) blocks ≡ true
+any-in last [] h = absurd h
+any-in last (b ∷ bs) h = elim h as (λ _. list_any (λ block. eqb block last) (b ∷ bs) ≡ true) [
+  | inl same ↦ rw (eq-eqb b last same) refl
+  | inr there ↦ rw (any-in last bs there) (or-yes (eqb b last))
+]
+  where
+    or-yes : (t : Bool) → (t || true) ≡ true
+    or-yes true = refl
+    or-yes false = refl
+
+pub last-told : (blocks : List ℕ) (why : Finding) → is_last_in blocks why ≡ true → IsLastIn blocks why
+last-told blocks (NeedsBlock last) h = in-any last blocks h
+last-told blocks HalfClean h = tt
+last-told blocks NotMoves h = tt
+last-told blocks NeedsSize h = tt
+
+pub told-last : (blocks : List ℕ) (why : Finding) → IsLastIn blocks why → is_last_in blocks why ≡ true
+told-last blocks (NeedsBlock last) h = any-in last blocks h
+told-last blocks HalfClean h = refl
+told-last blocks NotMoves h = refl
+told-last blocks NeedsSize h = refl
 
 -- a list in another order: it has all elements, each once, and the same sums
 pub record IsOrder (blocks order : List ℕ) : Type 0 where

@@ -1,5 +1,5 @@
 -- The Moves that are planned repair the torn zone.
-use Rattle.std.proofs.Common.{◌≡◌, ◌≢◌, ◌⊎◌, inl, inr, ℕ, zero, suc, ◌+◌, ◌*◌, ◌<◌, ◌≤◌, ◌^◌, Bool, cond, List, [], ◌∷◌, ◌++◌, length, take, get_or, Option, Some, None, refl, sym, ap, subst, ◌∙◌, arith}
+use Rattle.std.proofs.Common.{◌≡◌, ◌≢◌, ◌⊎◌, inl, inr, ℕ, zero, suc, ◌+◌, ◌*◌, ◌<◌, ◌≤◌, ◌^◌, Bool, true, cond, List, [], ◌∷◌, ◌++◌, length, take, get_or, Option, Some, None, refl, sym, ap, subst, ◌∙◌, arith}
 use Rattle.std.specs.Prelude.{Contains, nat_eq, slice_index_or}
 use Rattle.std.specs.Int.{div_ceil}
 use Rattle.std.specs.List.{AllByRecursion, IsDistinct}
@@ -8,6 +8,17 @@ use Rattle.std.proofs.lemmas.List.{get_or_past, length-append, take_all}
 use Rattle.std.proofs.lemmas.Nat.{mul-le}
 use Rattle.std.proofs.Math.Nat.{add-mul}
 use Rattle.std.proofs.Math.Seq.{take-add}
+use Rattle.std.specs.Prelude.{IfSome}
+use Rattle.batch_log.specs.Header.{IsSize}
+use Rattle.drive_array.specs.ZoneLogs.{HasLog}
+use Rattle.drive_array.proofs.AllLaws.{all-at}
+use Rattle.drive_array.proofs.ZoneLogLaws.{log_at-zone}
+use Rattle.drive_port.specs.Contents.{content_of, nothing}
+use Rattle.std.proofs.lemmas.List.{length-map}
+use Rattle.zone_states.specs.Geometry.{IsInRange}
+use Rattle.remount.proofs.MovePlanLaws.{largest-size}
+use Rattle.remount.specs.Mount.{IsListed}
+use Rattle.remount.specs.Moving.{IsNamed, IsSafe, is_last_in}
 use Rattle.zone_states.specs.declared.geometry.Geometry.{Geometry}
 use Rattle.drive_port.specs.Contents.{contents}
 use Rattle.drive_port.specs.Drive.{DriveState}
@@ -43,7 +54,7 @@ use Rattle.drive_survey.specs.Reported.{IsKnown}
 use Rattle.drive_survey.specs.Scan.{readable_at}
 use Rattle.remount.proofs.LiveLaws.{counts-live, data_blocks, lies-there, map-length, newest-said, place-at, there-lies}
 use Rattle.remount.proofs.TornPlanLaws.{all-greatest, greatest-all}
-use Rattle.remount.proofs.OrderedLaws.{In, IsLastIn, IsOrder, LiesAt, blocks-distinct, blocks-lie, front-few, front-not, in-contains, is-order, length-total, lying-in, order-all, order-length, total, total-append}
+use Rattle.remount.proofs.OrderedLaws.{In, IsLastIn, last-told, IsOrder, LiesAt, blocks-distinct, blocks-lie, front-few, front-not, in-contains, is-order, length-total, lying-in, order-all, order-length, total, total-append}
 
 -- ---- what the Moves name
 
@@ -198,7 +209,7 @@ needed-lies drive n zone b lt needs = (needs.in_range, by (lies-or zone (newest 
     by (inl lies) = lies
     by (inr out) = absurd (needs.differs (ap (shown drive.geometry.block) (newest-without b zone (drive_logs drive) lt out)))
 
-last-in : (drive : DriveState) (n : ℕ) (survey : Survey) (repair : Repair) (why : Finding) → Knows drive n (drive_logs drive) survey → IsRepairPlan drive.geometry n (drive_logs drive) (zone_tails (contents drive.zones)) repair → Finds drive.geometry.block n (drive_logs drive) repair.zone why → IsLastIn repair.blocks.items why
+pub last-in : (drive : DriveState) (n : ℕ) (survey : Survey) (repair : Repair) (why : Finding) → Knows drive n (drive_logs drive) survey → IsRepairPlan drive.geometry n (drive_logs drive) (zone_tails (contents drive.zones)) repair → Finds drive.geometry.block n (drive_logs drive) repair.zone why → IsLastIn repair.blocks.items why
 last-in drive n survey repair HalfClean known is finds = tt
 last-in drive n survey repair NotMoves known is finds = tt
 last-in drive n survey repair NeedsSize known is finds = tt
@@ -307,4 +318,39 @@ plan-made drive n survey repair into why plan p =
         needed = λ k lt. subst (λ (z : ℕ). IsStillNeeded g.block n logs z plan.into (moves_before (source_of drive repair.tables z) plan k)) (sym p.torn) (still-needed drive n survey repair into why plan k source p order some lt);
       };
       readable_blocks = rw p.torn (all-weaker (IsLiveIn drive n zone) (IsReadableAt repair.tables (zone * g.size) plan.reported.blocks) plan.blocks.items (λ b live_records. live-readable drive n survey repair plan.reported.blocks b known p.is p.known.blocks live_records) live_all);
+    }
+
+-- ---- what of it holds whatever the Reads returned
+
+-- the size that the torn zone says is one that a header can say
+pub size-valid : (drive : DriveState) (n : ℕ) (survey : Survey) (zone : ℕ) → Knows drive n (drive_logs drive) survey → zone < length drive.zones → IfSome (log_greatest (log_at (drive_logs drive) zone)) IsSize
+size-valid drive n survey zone known lt =
+    let there : zone < length (contents drive.zones) = omega (arith, lt, length-map drive.zones content_of) in
+    largest-size drive.geometry.block (log_at (drive_logs drive) zone)
+    (rw (log_at-zone drive.geometry (contents drive.zones) zone) (all-at (HasLog drive.geometry) (contents drive.zones) zone nothing known.all_logs there).front.batches)
+
+early-valid : (size : Option ℕ) (why : Finding) → IfSome size IsSize → IfSome (early_size size why) IsSize
+early-valid size NeedsSize valid = tt
+early-valid size HalfClean valid = valid
+early-valid size NotMoves valid = valid
+early-valid size (NeedsBlock last) valid = valid
+
+-- a plan of the blocks that are listed is safe
+pub safe-plan : (geometry : Geometry) (count : ℕ) (repair : Repair) (why : Finding) (plan : MovePlan) → IsInRange geometry → IsListed count repair → count ≤ geometry.zones → is_last_in repair.blocks.items why ≡ true → plan.torn ≡ repair.zone
+    → plan.blocks.items ≡ ordered repair.blocks.items why → plan.most ≡ batch_most geometry → plan.next + move_count plan ≤ 2 ^ 63 → IfSome plan.size IsSize → plan.early ≡ early_size plan.size why → IsSafe geometry repair.tables plan
+safe-plan geometry count repair why plan range listed few told torn blocks most last size early =
+    let m = repair.tables.map in
+    let is = last-told repair.blocks.items why told in
+    let named : AllByRecursion (IsNamed repair.tables) repair.blocks.items = rw listed.blocks
+    (all-weaker (LiesAt m.zone_size repair.zone 0 m.places) (IsNamed repair.tables) (blocks_in m.zone_size repair.zone 0 m.places) (λ b at. (omega (arith, at.is, at.in_range), omega (arith, at.is, at.in_range, listed.few))) (blocks-lie m.zone_size repair.zone 0 m.places)) in
+    let apart : IsDistinct nat_eq repair.blocks.items = rw listed.blocks (blocks-distinct m.zone_size repair.zone 0 m.places) in
+    record {
+      range = range;
+      most = most;
+      last = last;
+      torn = omega (arith, torn, listed.zone, few);
+      size = size;
+      early = rw early (early-valid plan.size why size);
+      named = rw blocks (order-all (IsNamed repair.tables) repair.blocks.items why is named);
+      distinct = rw blocks (is-order repair.blocks.items why apart is).distinct;
     }

@@ -1,5 +1,5 @@
 -- The steps of a mount, one after the other.
-use Rattle.std.proofs.Common.{◌≡◌, ◌≢◌, ◌⊎◌, inl, inr, ℕ, zero, suc, ◌+◌, ◌<◌, ◌≤◌, ◌^◌, ◌-◌, max, min, Bool, true, false, List, [], ◌∷◌, length, map, get_or, Option, Some, None, refl, sym, ap, subst, ◌∙◌, arith}
+use Rattle.std.proofs.Common.{◌≡◌, ◌≢◌, ◌⊎◌, inl, inr, ℕ, zero, suc, ◌+◌, ◌<◌, ◌≤◌, ◌^◌, ◌-◌, max, min, Bool, true, false, List, [], ◌∷◌, length, map, get_or, Option, Some, None, is_some, refl, sym, ap, subst, ◌∙◌, arith}
 use Rattle.std.specs.Prelude.{OnOk, Result, Ok, Err}
 use Rattle.std.specs.List.{AllByRecursion}
 use Rattle.std.proofs.lemmas.List.{length-map, nil_from_length}
@@ -472,7 +472,7 @@ pub record IsNextSequence (old new : DriveState) (next : ℕ) : Type 0 where
 
 -- the next sequence follows the greatest one in the headers before and after the repairs
 pub next-is : (old new : DriveState) (n before now next : ℕ) (first last : Survey) → Repaired old new n last → heads_in first.scanned.items ≡ map heads_of (drive_logs old) → before ≡ greatest_sequence (sequences_in (heads_in first.scanned.items)) → now ≡ greatest_sequence (sequences_in (heads_in last.scanned.items))
-    → next ≡ min (max now before + 1) (2 ^ 64 - 1) → IsNextSequence old new next
+    → next ≡ min (min (max now before + 1) (2 ^ 64 - 1)) (2 ^ 63) → IsNextSequence old new next
 next-is old new n before now next first last is heads was are e =
     let a : before ≡ greatest_sequence (sequences (drive_logs old)) = was ∙ ap (λ (hs : List HeadsView). greatest_sequence (sequences_in hs)) heads ∙ ap greatest_sequence (sequences-kept (drive_logs old)) in
     let b : now ≡ greatest_sequence (sequences (drive_logs new)) = are ∙ ap (λ (hs : List HeadsView). greatest_sequence (sequences_in hs)) is.known.heads ∙ ap greatest_sequence (sequences-kept (drive_logs new)) in
@@ -559,3 +559,8 @@ carried-others old middle third new n resets plan survey is plans written same g
 pub on-ok : (result : Result (Unit {0}) MountFault) (P Q : Type 0) → (P → Q) → OnOk result P → OnOk result Q
 on-ok (Ok done) P Q f is = f is
 on-ok (Err fault) P Q f is = tt
+
+-- what is not some is none
+pub none-planned : {X : Type 0} (o : Option X) → false ≡ is_some o → o ≡ None
+none-planned None e = refl
+none-planned (Some x) e = absurd (cc)

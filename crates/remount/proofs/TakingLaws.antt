@@ -2,6 +2,7 @@
 use Rattle.std.proofs.Common.{◌≡◌, ◌⊎◌, inl, inr, ℕ, suc, ◌*◌, ◌/◌, ◌≤◌, List, length, take, drop, Ok, Err, refl, sym, ap, ◌∙◌, arith}
 use Rattle.std.proofs.lemmas.List.{take_all}
 use Rattle.zone_states.proofs.Cutting.{length-cut}
+use Rattle.zone_states.specs.declared.geometry.Geometry.{Geometry}
 use Rattle.drive_port.specs.Calls.{Appended, AppendedFront, AppendKeeps, AppendLeaves, CanAppend, IsNotRefused, IsWholeBlocks, Obeys, block_count}
 use Rattle.drive_port.specs.Contents.{SameContents}
 use Rattle.drive_port.specs.Drive.{DriveState, IsLawful}
@@ -12,7 +13,7 @@ use Rattle.zone_choice.specs.Builder.{BuilderView, built}
 use Rattle.zone_choice.proofs.ChangeLaws.{sized}
 use Rattle.zone_choice.proofs.CommandLaws.{zone-start}
 use Rattle.zone_choice.proofs.OpenLaws.{append-opens}
-use Rattle.remount.specs.Moving.{CanTake, TakesFirst, TakesSome}
+use Rattle.remount.specs.Moving.{CanTake, IsTakeable, TakesFirst, TakesSome}
 use Rattle.remount.proofs.CallLaws.{mountable-same}
 
 -- a built batch has as many blocks as its size says
@@ -29,6 +30,17 @@ take-whole drive zone builder bytes bytes-are can =
       whole = s.long ∙ ap (λ (n : ℕ). n * g.block) (sym same);
       some = omega (arith, same);
       few = omega (arith, same, can.can.few, can.range.transfer);
+    })
+
+-- the bytes of a batch that fits in one transfer are whole blocks
+pub takeable-whole : (geometry : Geometry) (builder : BuilderView) (bytes : List ℕ) → bytes ≡ builder.bytes → IsTakeable geometry builder → IsWholeBlocks geometry.block bytes
+takeable-whole g builder bytes bytes-are t =
+    let s = sized g builder t.range t.heading t.whole in
+    let same : length builder.bytes / g.block ≡ batch_size (built g.block builder) = s.count_is in
+    rw bytes-are (record {
+      whole = s.long ∙ ap (λ (n : ℕ). n * g.block) (sym same);
+      some = omega (arith, same);
+      few = omega (arith, same, t.few, t.range.transfer);
     })
 
 -- the drive takes it

@@ -95,3 +95,7 @@ found-all survey zones below logs found le ge heads long = record {
           | inl is ↦ inl (ap (λ (x : ReportedZone). x.state) (sym value) ∙ is)
           | inr c ↦ inr c
         ]
+
+-- those that were found are zones
+pub found-inside : (survey : Survey) (zones : List ℕ) (below count : ℕ) → AreFound survey zones below → below ≤ count → AllByRecursion (λ zone. zone < count) zones
+found-inside survey zones below count found le = all-weaker (λ zone. (zone < below) × HasNoBatch survey zone) (λ zone. zone < count) zones (λ zone is. omega (arith, is.0, le)) found.vacant

@@ -20,7 +20,7 @@ use Rattle.drive_array.specs.Reserve.{FitsReserve, batch_most}
 use Rattle.zone_choice.specs.Roles.{RolesView, empty_count, fillings}
 use Rattle.drive_array.specs.Sizes.{encoded_size, map_of}
 use Rattle.drive_array.specs.Spare.{HasSpare, IsClearing, IsVacant, NoneBelow, cleared}
-use Rattle.zone_choice.specs.Tables.{TablesView}
+use Rattle.zone_choice.specs.Tables.{TablesView, size_of}
 use Rattle.drive_survey.specs.declared.fault.MountFault.{MountFault}
 use Rattle.drive_survey.specs.declared.fault.MountFault.TheVariants.{NoSpare, Spent, TornZone}
 use Rattle.drive_survey.specs.declared.reported.ReportedZone.{ReportedZone}
@@ -78,6 +78,12 @@ pub record IsRepairPlan (geometry : Geometry) (n : ℕ) (logs : List (List Batch
   pub fits : Fits geometry (2 ^ 63) (encoded_size n logs) logs repair.zone
   pub blocks : repair.blocks.items ≡ blocks_in geometry.size repair.zone 0 (map_of geometry.size n logs)
   pub placed : IsPlaced geometry n logs repair.tables
+
+-- The blocks of a repair are those that its tables place in its zone, which is one of so many.
+pub record IsListed (count : ℕ) (repair : Repair) : Type 0 where
+  pub zone : repair.zone < count
+  pub few : size_of repair.tables ≤ 2 ^ 31
+  pub blocks : repair.blocks.items ≡ blocks_in repair.tables.map.zone_size repair.zone 0 repair.tables.map.places
 
 -- which repair a cleared drive needs
 abbrev pub PlansRepair : Geometry → ℕ → List (List Batch) → List Bool → Option Repair → Type 0

@@ -1,8 +1,8 @@
 -- The Moves that repair a torn zone, and what the drive holds between two of them.
 use Rattle.std.specs.Prelude.{◌≡◌, ◌≢◌, ◌⊎◌, ℕ, zero, suc, ◌+◌, ◌-◌, ◌*◌, ◌<◌, ◌≤◌, ◌^◌, ◌==◌, nat_eq}
-use Rattle.std.specs.Prelude.{if◌then◌else◌, true, false, List, [], ◌∷◌, ◌++◌, Contains, length, map, take, drop}
-use Rattle.std.specs.Prelude.{slice_index_or, slice_set, Option, Some, None}
-use Rattle.std.specs.List.{AllByRecursion, IsDistinct, flat_map}
+use Rattle.std.specs.Prelude.{if◌then◌else◌, Bool, true, false, List, [], ◌∷◌, ◌++◌, Contains, length, map, take, drop}
+use Rattle.std.specs.Prelude.{slice_index_or, slice_set, IsTrue, Option, Some, None, IfSome}
+use Rattle.std.specs.List.{AllByRecursion, IsDistinct, concat, flat_map, list_any}
 use Rattle.zone_states.specs.declared.geometry.Geometry.{Geometry}
 use Rattle.zone_states.specs.Geometry.{IsInRange}
 use Rattle.drive_port.specs.Calls.{CanAppend}
@@ -10,7 +10,7 @@ use Rattle.drive_port.specs.Contents.{Appends, Content, Usage, active, content_a
 use Rattle.drive_port.specs.Drive.{DriveState, IsLawful}
 use Rattle.batch_log.specs.declared.header.Entry.{Entry}
 use Rattle.batch_log.specs.declared.header.Kind.TheVariants.{Move}
-use Rattle.batch_log.specs.Header.{IsHeading}
+use Rattle.batch_log.specs.Header.{Heading, IsHeading, IsSize}
 use Rattle.batch_log.specs.Log.{Batch, batch_blocks, batch_size, log_size}
 use Rattle.logical_map.specs.declared.place.Place.{Place}
 use Rattle.logical_map.specs.declared.place.Place.TheVariants as places
@@ -47,6 +47,7 @@ pub record KeepsShut (old new : DriveState) : Type 0 where
   pub refused : new.refused ≡ old.refused
   pub durable : new.durable ≡ old.durable
   pub opens : (zone : ℕ) → IsShut old.zones zone → IsShut new.zones zone
+  pub trusted : IsTrue new.clean → IsTrue old.clean
 
 -- A zone without a torn tail was finished: all logs and tails stay.
 pub record FinishesZone (n : ℕ) (old new : DriveState) (before after : Survey) (zone : ℕ) : Type 0 where
@@ -216,6 +217,50 @@ pub record CanRepairBy (geometry : Geometry) (n : ℕ) (logs : List (List Batch)
   pub said : (HoldsSize n logs plan.torn → ⊥) → plan.early ≡ plan.size
   pub needed : (k : ℕ) → k < move_count plan → IsStillNeeded geometry.block n logs plan.torn plan.into (moves_before source plan k)
 
+-- a block that the tables have
+abbrev pub IsNamed : TablesView → ℕ → Type 0
+IsNamed tables block = (block < size_of tables) × (block + 1 < 2 ^ 32)
+
+-- What of a plan is needed to build and send its Moves, whatever the Reads of the mount returned: they name blocks of
+-- the tables, each once, and no more than a Move takes; and their sequences, source and sizes are such as a header has.
+pub record IsSafe (geometry : Geometry) (tables : TablesView) (plan : MovePlan) : Type 0 where
+  pub range : IsInRange geometry
+  pub most : plan.most ≡ batch_most geometry
+  pub last : plan.next + move_count plan ≤ 2 ^ 63
+  pub torn : plan.torn < geometry.zones
+  pub size : IfSome plan.size IsSize
+  pub early : IfSome plan.early IsSize
+  pub named : AllByRecursion (IsNamed tables) plan.blocks.items
+  pub distinct : IsDistinct nat_eq plan.blocks.items
+
+-- as many bytes were added to some
+pub record Extends (old new : List ℕ) (count : ℕ) : Type 0 where
+  pub got : List ℕ
+  pub joined : new ≡ old ++ got
+  pub long : length got ≡ count
+
+-- whole blocks were added to some bytes
+pub record Adds (old : List ℕ) (block_bytes : ℕ) (blocks : List (List ℕ)) (new : List ℕ) : Type 0 where
+  pub bytes : new ≡ old ++ concat blocks
+  pub whole : AllByRecursion (λ block. length block ≡ block_bytes) blocks
+
+-- the bytes of a batch with this heading
+pub record IsShaped (block_bytes : ℕ) (heading : Heading) (builder : BuilderView) : Type 0 where
+  pub whole : IsBuilt block_bytes builder
+  pub heading_is : builder.heading ≡ heading
+
+-- the data of the Move with a number can be read
+pub record CanCopy (drive : DriveState) (tables : TablesView) (plan : MovePlan) (k : ℕ) : Type 0 where
+  pub known : IsKnown drive plan.torn plan.reported
+  pub places : AllByRecursion (IsReadableAt tables (plan.torn * drive.geometry.size) plan.reported.blocks) (named_by plan k)
+
+-- a batch that fits in one transfer
+pub record IsTakeable (geometry : Geometry) (builder : BuilderView) : Type 0 where
+  pub range : IsInRange geometry
+  pub heading : IsHeading geometry.block builder.heading
+  pub whole : IsBuilt geometry.block builder
+  pub few : batch_size (built geometry.block builder) ≤ geometry.transfer
+
 -- ---- between two Moves
 
 -- how far a zone is used that was empty, and has that many blocks now
@@ -276,6 +321,11 @@ others last (block ∷ blocks) = if block == last then others last blocks else b
 abbrev pub ordered : List ℕ → Finding → List ℕ
 ordered blocks (NeedsBlock last) = others last blocks ++ last ∷ []
 ordered blocks why = blocks
+
+-- the block that the torn zone is needed for, if any, is one of these
+abbrev pub is_last_in : List ℕ → Finding → Bool
+is_last_in blocks (NeedsBlock last) = list_any (λ block. block == last) blocks
+is_last_in blocks why = true
 
 -- if the torn zone is needed for the size, only the last Move says it
 abbrev pub early_size : Option ℕ → Finding → Option ℕ

@@ -1,4 +1,5 @@
 -- What a Reset or a Finish of a mount leaves of the drive, and of what is known of it.
+use Rattle.std.specs.Prelude.{IsTrue}
 use Rattle.std.specs.Prelude.{◌≡◌, ◌≢◌, ◌⊎◌, ℕ, ◌+◌, ◌<◌, ◌≤◌, ◌&&◌, ◌||◌, nat_lt, if◌then◌else◌, Bool, true, false}
 use Rattle.std.specs.Prelude.{List, [], ◌∷◌, length, slice_get, slice_set, Some}
 use Rattle.std.specs.List.{AllByRecursion}
@@ -25,6 +26,7 @@ pub record MayChange (Changes : List Content → List Content → Type 0) (old n
   pub lawful : IsLawful new
   pub refused : new.refused ≡ old.refused
   pub durable : new.durable ≡ old.durable
+  pub trusted : IsTrue new.clean → IsTrue old.clean
   pub contents_are : (contents new.zones ≡ contents old.zones) ⊎ Changes (contents old.zones) (contents new.zones)
 
 -- no zone was opened

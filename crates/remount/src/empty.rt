@@ -1,8 +1,9 @@
-ghost use Rattle.std.specs.Prelude.{◌≡◌, ◌<◌, ◌∷◌, [], length, IfErr, OnOk};
+ghost use Rattle.std.specs.Prelude.{◌≡◌, ◌<◌, ◌∷◌, [], length, IfErr, IsTrue, OnOk};
+ghost use Rattle.std.specs.List.{AllByRecursion};
 ghost use Rattle.drive_port.specs.Contents.{Resets, contents};
 ghost use Rattle.drive_survey.specs.Scan.{AreKnown, IsInterruption};
 ghost use Rattle.drive_array.specs.ZoneLogs.{drive_logs, zone_tails};
-ghost use Rattle.remount.specs.Kept.{KeepsMountable, NotesNoneOpen};
+ghost use Rattle.remount.specs.Kept.{Fits, KeepsMountable, NotesNoneOpen, Stays};
 ghost use Rattle.remount.specs.Mount.{IsCleared, IsPlanned, LeavesEmptied, PlansRepair};
 ghost use Rattle.remount.specs.Resets.{MayChange, MayReset, ResetsAll};
 
@@ -51,13 +52,16 @@ fn reset_zones<D: Device>(
     // The report is true of all zones. When its turn comes, each of these is vacant or the lowest half clean one.
     requires zones { AreKnown (D.drive device.old) survey.old.zones.items }
     requires scanned { length survey.old.scanned.items ≡ length survey.old.zones.items }
-    requires may { MayReset (D.drive device.old).geometry.block survey.old.given
+    requires inside { AllByRecursion (λ zone. zone < length survey.old.zones.items) zones.now }
+    requires may { IsTrue (D.drive device.old).clean → MayReset (D.drive device.old).geometry.block survey.old.given
         (drive_logs (D.drive device.old)) zones.now }
     // Done, these zones are Empty, and the survey says so. Nothing else has changed.
     ensures ok { OnOk result (ResetsAll (D.drive device.old) (D.drive device.new) survey.old survey.new zones.now) }
     // It fails only if the drive stops or memory runs out. A drive that can be mounted stays so, with the same array.
     ensures err { IfErr result (IsInterruption (D.drive device.new)) }
-    ensures kept { KeepsMountable survey.old.given (D.drive device.old) (D.drive device.new) }
+    ensures stays { Stays (D.drive device.old) (D.drive device.new) }
+    ensures kept { IsTrue (D.drive device.new).clean
+        → KeepsMountable survey.old.given (D.drive device.old) (D.drive device.new) }
 {
     for zone in zones {
         reset_zone(alloc, device, survey, *zone)?;
@@ -73,16 +77,25 @@ pub(crate) fn empty_zones<D: Device>(
     survey: &mut Survey,
     plan: &Plan,
 ) -> Result<(), MountFault>
-    requires planned { IsPlanned (D.drive device.old) survey.old.given survey.old plan.now }
+    requires fits { Fits (D.drive device.old) survey.old }
+    requires vacant { AllByRecursion (λ zone. zone < length survey.old.zones.items) plan.now.vacant.items }
+    requires half_clean { AllByRecursion (λ zone. zone < length survey.old.zones.items) plan.now.half_clean.items }
+    requires planned { IsTrue (D.drive device.old).clean
+        → IsPlanned (D.drive device.old) survey.old.given survey.old plan.now }
     // Done, no zone is half clean any more, and each zone without a batch is Empty.
-    ensures cleared { OnOk result (IsCleared (D.drive device.new) survey.old.given survey.new) }
+    ensures fits { OnOk result (Fits (D.drive device.new) survey.new) }
+    ensures cleared { IsTrue (D.drive device.new).clean
+        → OnOk result (IsCleared (D.drive device.new) survey.old.given survey.new) }
     // Each zone that has a batch holds what it held. No zone was opened, or is newly noted as open.
-    ensures left { OnOk result (LeavesEmptied (D.drive device.old) (D.drive device.new) plan.now.half_clean.items) }
+    ensures left { IsTrue (D.drive device.new).clean
+        → OnOk result (LeavesEmptied (D.drive device.old) (D.drive device.new) plan.now.half_clean.items) }
     ensures noted { OnOk result (NotesNoneOpen survey.old.zones.items survey.new.zones.items) }
     // It fails only if the drive stops or memory runs out.
     ensures err { IfErr result (IsInterruption (D.drive device.new)) }
-    // Whatever it answers, no command was refused. The drive can still be mounted, with the same array.
-    ensures kept { KeepsMountable survey.old.given (D.drive device.old) (D.drive device.new) }
+    ensures stays { Stays (D.drive device.old) (D.drive device.new) }
+    // Whatever it answers, while the drive is clean no command was refused, and it can be mounted, with the same array.
+    ensures kept { IsTrue (D.drive device.new).clean
+        → KeepsMountable survey.old.given (D.drive device.old) (D.drive device.new) }
 {
     reset_zones(alloc, device, survey, &plan.vacant)?;
     reset_zones(alloc, device, survey, &plan.half_clean)

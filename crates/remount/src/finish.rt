@@ -1,14 +1,16 @@
-ghost use Rattle.std.specs.Prelude.{◌≡◌, ◌<◌, true, length, IfErr, OnOk};
+ghost use Rattle.std.specs.Prelude.{◌≡◌, ◌<◌, true, length, IfErr, IsTrue, OnOk};
 ghost use Rattle.drive_port.specs.Contents.{Finishes};
 ghost use Rattle.drive_survey.specs.Scan.{AreKnown, IsInterruption};
 ghost use Rattle.drive_array.specs.ZoneLogs.{drive_logs};
 ghost use Rattle.drive_array.specs.Reserve.{batch_most};
-ghost use Rattle.remount.specs.Kept.{KeepsMountable, NotesNoneOpen};
+ghost use Rattle.zone_states.specs.Geometry.{IsInRange};
+ghost use Rattle.remount.specs.Kept.{KeepsMountable, NotesNoneOpen, SameLengths, Stays};
 ghost use Rattle.remount.specs.Mount.{IsRepaired, IsUntorn};
 ghost use Rattle.remount.specs.Resets.{FinishesIf, FinishesNeeded, FinishesOne, IsTested, MayChange, is_to_finish};
 
 use drive_port::{Device, finish};
-use drive_survey::{MountFault, ReportedZone, Survey, ZoneHeads, fault_of, is_partly_written};
+use crate::refused::fault_or_damaged;
+use drive_survey::{MountFault, ReportedZone, Survey, ZoneHeads, is_partly_written};
 use nvme_wire::ZoneState;
 use std::alloc::Global;
 use zone_choice::batch_most;
@@ -20,18 +22,21 @@ pub(crate) fn finish_zone<D: Device>(
     survey: &mut Survey,
     zone: u32,
 ) -> Result<(), MountFault>
-    // The report is true of all zones, and this is one of them.
-    requires zones { AreKnown (D.drive device.old) survey.old.zones.items }
     requires in_range { zone < length survey.old.zones.items }
-    // Done, the zone is Full, and the survey says so. Nothing else has changed.
-    ensures ok { OnOk result (FinishesOne (D.drive device.old) (D.drive device.new) survey.old survey.new zone) }
-    // It fails only if the drive stops or memory runs out. At most this zone was finished, and nothing was refused.
-    ensures err { IfErr result (IsInterruption (D.drive device.new)) }
-    ensures kept { MayChange (λ old new. Finishes old new zone) (D.drive device.old) (D.drive device.new) }
+    // Done, if the report is true of all zones, the zone is Full, and the survey says so. Nothing else has changed.
+    ensures ok { AreKnown (D.drive device.old) survey.old.zones.items
+        → OnOk result (FinishesOne (D.drive device.old) (D.drive device.new) survey.old survey.new zone) }
+    // Then it fails only if the drive stops or memory runs out. At most this zone was finished, nothing was refused.
+    ensures err { AreKnown (D.drive device.old) survey.old.zones.items
+        → IfErr result (IsInterruption (D.drive device.new)) }
+    ensures kept { AreKnown (D.drive device.old) survey.old.zones.items
+        → MayChange (λ old new. Finishes old new zone) (D.drive device.old) (D.drive device.new) }
+    ensures stays { Stays (D.drive device.old) (D.drive device.new) }
+    ensures count { SameLengths survey.old survey.new }
 {
     let geometry = device.geometry();
     if let Err(fault) = finish(alloc, device, geometry.start_of(zone)) {
-        return Err(fault_of(fault));
+        return Err(fault_or_damaged(fault));
     }
     survey.zones[zone as usize] = ReportedZone {
         state: ZoneState::Full,
@@ -56,17 +61,20 @@ fn finish_if_due<D: Device>(
     survey: &mut Survey,
     zone: u32,
 ) -> Result<(), MountFault>
-    // The report is true of all zones, and this is one of them.
-    requires zones { AreKnown (D.drive device.old) survey.old.zones.items }
+    requires range { IsInRange (D.drive device.old).geometry }
     requires in_range { zone < length survey.old.zones.items }
     requires scanned { length survey.old.scanned.items ≡ length survey.old.zones.items }
-    // Done, the zone is Full if that was due. Else nothing has changed.
-    ensures ok { OnOk result (FinishesIf (D.drive device.old) (D.drive device.new) survey.old survey.new zone) }
-    // It fails only if the drive stops or memory runs out. At most this zone was finished, and only if due.
-    ensures err { IfErr result (IsInterruption (D.drive device.new)) }
-    ensures kept { MayChange (λ old new. Finishes old new zone
+    // Done, if the report is true of all zones, the zone is Full if that was due. Else nothing has changed.
+    ensures ok { AreKnown (D.drive device.old) survey.old.zones.items
+        → OnOk result (FinishesIf (D.drive device.old) (D.drive device.new) survey.old survey.new zone) }
+    // Then it fails only if the drive stops or memory runs out. At most this zone was finished, and only if due.
+    ensures err { AreKnown (D.drive device.old) survey.old.zones.items
+        → IfErr result (IsInterruption (D.drive device.new)) }
+    ensures kept { AreKnown (D.drive device.old) survey.old.zones.items → MayChange (λ old new. Finishes old new zone
         × IsTested (D.drive device.old).geometry.capacity
         (batch_most (D.drive device.old).geometry) survey.old zone true) (D.drive device.old) (D.drive device.new) }
+    ensures stays { Stays (D.drive device.old) (D.drive device.new) }
+    ensures count { SameLengths survey.old survey.new }
 {
     let geometry = device.geometry();
     let reported = survey.zones[zone as usize];
@@ -84,18 +92,29 @@ pub(crate) fn finish_zones<D: Device>(
     device: &mut D,
     survey: &mut Survey,
 ) -> Result<(), MountFault>
-    requires untorn { IsUntorn (D.drive device.old) survey.old.given survey.old }
+    requires range { IsInRange (D.drive device.old).geometry }
+    requires long { length survey.old.zones.items ≡ (D.drive device.old).geometry.zones }
+    requires scanned { length survey.old.scanned.items ≡ length survey.old.zones.items }
+    requires untorn { IsTrue (D.drive device.old).clean → IsUntorn (D.drive device.old) survey.old.given survey.old }
     // Done, a disk can serve the drive, and continue with each zone that is partly written.
-    ensures repaired { OnOk result (IsRepaired (D.drive device.new) survey.old.given survey.new) }
+    ensures repaired { IsTrue (D.drive device.new).clean
+        → OnOk result (IsRepaired (D.drive device.new) survey.old.given survey.new) }
     // No batch has changed. Zones that a disk continues with hold what they held, and no zone was opened.
-    ensures logs { OnOk result (drive_logs (D.drive device.new) ≡ drive_logs (D.drive device.old)) }
-    ensures needed { OnOk result (FinishesNeeded (D.drive device.old) (D.drive device.new)) }
-    ensures noted { OnOk result (NotesNoneOpen survey.old.zones.items survey.new.zones.items) }
-    // It fails only if the drive stops or memory runs out.
-    ensures err { IfErr result (IsInterruption (D.drive device.new)) }
-    // Whatever it answers, no command was refused. The drive can still be mounted, with the same array.
-    ensures kept { KeepsMountable survey.old.given (D.drive device.old) (D.drive device.new) }
+    ensures logs { IsTrue (D.drive device.new).clean
+        → OnOk result (drive_logs (D.drive device.new) ≡ drive_logs (D.drive device.old)) }
+    ensures needed { IsTrue (D.drive device.new).clean
+        → OnOk result (FinishesNeeded (D.drive device.old) (D.drive device.new)) }
+    ensures noted { IsTrue (D.drive device.new).clean
+        → OnOk result (NotesNoneOpen survey.old.zones.items survey.new.zones.items) }
+    // While the drive is clean it fails only if the drive stops or memory runs out.
+    ensures err { IsTrue (D.drive device.new).clean → IfErr result (IsInterruption (D.drive device.new)) }
+    // Whatever it answers, while the drive is clean no command was refused, and it can be mounted, with the same array.
+    ensures stays { Stays (D.drive device.old) (D.drive device.new) }
+    ensures count { SameLengths survey.old survey.new }
+    ensures kept { IsTrue (D.drive device.new).clean
+        → KeepsMountable survey.old.given (D.drive device.old) (D.drive device.new) }
 {
+    let _size = device.geometry().size;
     for zone in 0..survey.zones.len() {
         finish_if_due(alloc, device, survey, zone as u32)?;
     }

@@ -34,6 +34,10 @@
 //!   drive_survey/specs/Reported).
 //! * Whatever is answered, a drive that could be mounted still can, with the same array, and no command was refused
 //!   (`KeepsMountable` in specs/Kept): also where the drive stopped inside a command, an Append of a repair included.
+//! * All this holds while the drive is clean: as long as each Read returned what the drive holds. Whatever the Reads
+//!   returned, a mount ends with tables or a fault. The drive stays lawful (`Stays`), and the tables have numbers that
+//!   a disk can work with (`AreSane`). But a mount that was lied to may reset a zone that it took for half clean. The
+//!   calls of `honest` are for a device that is always clean.
 //!
 //! # What is not proved
 //!
@@ -57,8 +61,10 @@
 
 mod empty;
 mod finish;
+pub mod honest;
 mod mounting;
 mod plan;
+mod refused;
 mod repair;
 mod tables;
 

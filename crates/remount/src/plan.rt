@@ -1,4 +1,4 @@
-ghost use Rattle.std.specs.Prelude.{◌≡◌, ◌≢◌, ◌<◌, ◌^◌, List, length, map, slice_index_or, IfErr, IfOk, IsFalse};
+ghost use Rattle.std.specs.Prelude.{◌≡◌, ◌≢◌, ◌<◌, ◌^◌, List, length, map, slice_index_or, IfErr, IfOk, IfSome, IsFalse};
 ghost use Rattle.std.specs.Prelude.{IsTrue, OnOk};
 ghost use Rattle.batch_log.specs.Log.{Batch};
 ghost use Rattle.nvme_wire.specs.declared.zone_state.ZoneState.TheVariants.{Empty};
@@ -8,7 +8,9 @@ ghost use Rattle.drive_survey.specs.Reported.{KeepsZones};
 ghost use Rattle.drive_survey.specs.Scan.{FailsBy, heads_in};
 ghost use Rattle.drive_survey.specs.Survey.{CanScan};
 ghost use Rattle.drive_array.specs.ZoneLogs.{drive_logs};
-ghost use Rattle.remount.specs.Mount.{AreToEmpty, IsPlanned, PlanFails};
+ghost use Rattle.std.specs.List.{AllByRecursion};
+ghost use Rattle.remount.specs.Kept.{Fits};
+ghost use Rattle.remount.specs.Mount.{AreToEmpty, IsListed, IsPlanned, PlanFails};
 ghost use Rattle.remount.specs.Resets.{reported_empty};
 
 use crate::repair::Repair;
@@ -34,7 +36,8 @@ pub struct Plan {
 fn zones_to_empty(alloc: Global, survey: &Survey) -> Result<Vec<u32>, AllocError>
     requires few { length survey.now.zones.items < 2 ^ 32 }
     requires scanned { length survey.now.scanned.items ≡ length survey.now.zones.items }
-    ensures { IfOk result (λ zones. (logs : List (List Batch))
+    ensures inside { IfOk result (λ zones. AllByRecursion (λ zone. zone < length survey.now.zones.items) zones.items) }
+    ensures right { IfOk result (λ zones. (logs : List (List Batch))
         → heads_in survey.now.scanned.items ≡ map heads_of logs → length survey.now.zones.items ≡ length logs
         → AreToEmpty logs survey.now zones.items) }
 {
@@ -68,13 +71,23 @@ pub fn plan_mount<D: Device>(
     survey: &mut Survey,
 ) -> Result<Plan, MountFault>
     // The survey knows the drive with all its batches, and has found no fault.
-    requires known { Knows (D.drive device.old) survey.old.given (drive_logs (D.drive device.old)) survey.old }
+    requires known { IsTrue (D.drive device.old).clean → Knows (D.drive device.old) survey.old.given
+        (drive_logs (D.drive device.old)) survey.old }
+    // Whatever the Reads returned, the report is true of all zones, and these were looked at.
+    requires fits { Fits (D.drive device.old) survey.old }
     requires can { CanScan (D.drive device.old) survey.old.given }
     // Done, the drive can be mounted, and the plan says what is to be done to it. The report is the same.
-    ensures ok { IfOk result (IsPlanned (D.drive device.new) survey.old.given survey.new) }
+    ensures fits { OnOk result (Fits (D.drive device.new) survey.new) }
+    ensures inside { IfOk result (λ plan.
+        AllByRecursion (λ zone. zone < length survey.old.zones.items) plan.vacant.items
+        × AllByRecursion (λ zone. zone < length survey.old.zones.items) plan.half_clean.items) }
+    ensures listed { IfOk result (λ plan. IfSome plan.repair (IsListed (length survey.new.zones.items))) }
+    ensures ok { IsTrue (D.drive device.new).clean
+        → IfOk result (IsPlanned (D.drive device.new) survey.old.given survey.new) }
     ensures zones { OnOk result (survey.new.zones ≡ survey.old.zones) }
     // A fault says why the drive cannot be cleared or repaired, unless it stops or memory runs out.
-    ensures err { IfErr result (FailsBy (PlanFails (D.drive device.old) survey.old.given) (D.drive device.new)) }
+    ensures err { IsTrue (D.drive device.new).clean
+        → IfErr result (FailsBy (PlanFails (D.drive device.old) survey.old.given) (D.drive device.new)) }
     // Whatever it answers, no command was refused, and the zones hold what they held.
     ensures kept { KeepsZones (D.drive device.old) (D.drive device.new) }
 {

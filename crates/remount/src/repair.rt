@@ -1,9 +1,9 @@
-ghost use Rattle.std.specs.Prelude.{IfErr, OnOk};
+ghost use Rattle.std.specs.Prelude.{◌≡◌, length, IfErr, IsTrue, OnOk};
 ghost use Rattle.drive_port.specs.Contents.{contents};
 ghost use Rattle.drive_survey.specs.Scan.{IsInterruption};
 ghost use Rattle.drive_array.specs.ZoneLogs.{drive_logs, zone_tails};
-ghost use Rattle.remount.specs.Kept.{KeepsMountable, NotesFilledOpen};
-ghost use Rattle.remount.specs.Mount.{IsCleared, IsRepairPlan, IsUntorn};
+ghost use Rattle.remount.specs.Kept.{Fits, KeepsMountable, NotesFilledOpen, Stays};
+ghost use Rattle.remount.specs.Mount.{IsCleared, IsListed, IsRepairPlan, IsUntorn};
 ghost use Rattle.remount.specs.TornRepair.{RepairsBeside, RepairsTorn};
 
 mod beside;
@@ -39,26 +39,38 @@ pub fn repair_zone<D: Device>(
     survey: &mut Survey,
     repair: &Repair,
 ) -> Result<(), MountFault>
-    // The drive is cleared, and the repair is planned for its one torn zone.
-    requires cleared { IsCleared (D.drive device.old) survey.old.given survey.old }
-    requires plan { IsRepairPlan (D.drive device.old).geometry survey.old.given (drive_logs (D.drive device.old))
+    // The report is true of all zones, and the blocks of the repair are those that its tables place in its zone.
+    requires fits { Fits (D.drive device.old) survey.old }
+    requires listed { IsListed (length survey.old.zones.items) repair.now }
+    // While the drive is clean, it is cleared, and the repair is planned for its one torn zone.
+    requires cleared { IsTrue (D.drive device.old).clean → IsCleared (D.drive device.old) survey.old.given survey.old }
+    requires plan { IsTrue (D.drive device.old).clean
+        → IsRepairPlan (D.drive device.old).geometry survey.old.given (drive_logs (D.drive device.old))
         (zone_tails (contents (D.drive device.old).zones)) repair.now }
     // Done, no zone is torn. What was live in the torn zone is in the Moves, and the zone has no batch.
-    ensures untorn { OnOk result (IsUntorn (D.drive device.new) survey.old.given survey.new) }
-    ensures repaired { OnOk result (RepairsTorn (D.drive device.old).geometry survey.old.given
+    ensures untorn { IsTrue (D.drive device.new).clean
+        → OnOk result (IsUntorn (D.drive device.new) survey.old.given survey.new) }
+    ensures repaired { IsTrue (D.drive device.new).clean
+        → OnOk result (RepairsTorn (D.drive device.old).geometry survey.old.given
         (drive_logs (D.drive device.old)) repair.now.zone (drive_logs (D.drive device.new))) }
     // At most the zone of the Moves is opened or Closed now, and only it is newly noted as open.
-    ensures beside { OnOk result (RepairsBeside (D.drive device.old) (D.drive device.new) repair.now.zone) }
-    ensures noted { OnOk result (NotesFilledOpen (D.drive device.old) (D.drive device.new) survey.old.zones.items
+    ensures beside { IsTrue (D.drive device.new).clean
+        → OnOk result (RepairsBeside (D.drive device.old) (D.drive device.new) repair.now.zone) }
+    ensures noted { IsTrue (D.drive device.new).clean
+        → OnOk result (NotesFilledOpen (D.drive device.old) (D.drive device.new) survey.old.zones.items
         survey.new.zones.items) }
-    // It fails only if the drive stops or memory runs out.
-    ensures err { IfErr result (IsInterruption (D.drive device.new)) }
-    // Whatever it answers, no command was refused. The drive can still be mounted, with the same array.
-    ensures kept { KeepsMountable survey.old.given (D.drive device.old) (D.drive device.new) }
+    ensures count { OnOk result ((length survey.new.scanned.items ≡ length survey.new.zones.items)
+        × (length survey.new.zones.items ≡ length survey.old.zones.items)) }
+    // While the drive is clean it fails only if the drive stops or memory runs out.
+    ensures err { IsTrue (D.drive device.new).clean → IfErr result (IsInterruption (D.drive device.new)) }
+    // Whatever it answers, while the drive is clean no command was refused, and it can be mounted, with the same array.
+    ensures kept { IsTrue (D.drive device.new).clean
+        → KeepsMountable survey.old.given (D.drive device.old) (D.drive device.new) }
+    ensures stays { Stays (D.drive device.old) (D.drive device.new) }
 {
     finish_beside(alloc, device, survey, repair.zone)?;
     let Some(into) = lowest_empty(&survey.zones) else {
-        unreachable!();
+        return Err(MountFault::NoSpare);
     };
     let plan = plan_moves(alloc, device, survey, repair, into)?;
     close_alone(alloc, device, plan.torn, plan.reported)?;

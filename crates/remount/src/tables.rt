@@ -6,14 +6,14 @@ ghost use Rattle.drive_survey.specs.Known.{Knows};
 ghost use Rattle.zone_choice.specs.Agreement.{Agrees, mounted};
 ghost use Rattle.drive_array.specs.ZoneLogs.{drive_logs, sequences};
 ghost use Rattle.zone_choice.specs.Roles.{fillings};
-ghost use Rattle.remount.specs.Kept.{IsNotedOpen};
+ghost use Rattle.remount.specs.Kept.{AreSane, AreShort, IsNotedOpen};
 ghost use Rattle.remount.specs.Mount.{AreMountedRoles, IsRepaired};
 
 pub(crate) mod batches;
 pub(crate) mod places;
 mod roles;
 
-use drive_survey::Survey;
+use drive_survey::{ReportedZone, Survey};
 use places::place_records;
 use roles::mounted_roles;
 use std::alloc::{AllocError, Global};
@@ -42,9 +42,25 @@ pub fn mounted_tables(
     // The next sequence is the given one, and the number given to the mount is kept.
     ensures next { IfOk result (λ tables. tables.next ≡ next) }
     ensures given { IfOk result (λ tables. tables.given ≡ survey.now.given) }
+    // Whatever the Reads returned, its numbers are those of a disk.
+    ensures sane { IfOk result (λ tables. AreShort geometry.now.capacity survey.now.zones.items → next ≤ 2 ^ 63
+        → AreSane geometry.now tables) }
 {
     let mut tables = place_records(alloc, survey, geometry)?;
     let roles = mounted_roles(alloc, &survey.zones, geometry.zones)?;
     tables.begin(roles, next);
     Ok(tables)
+}
+
+/// Whether no zone was noted with more blocks than it can have. So it is while each Read returned what the drive holds.
+pub fn are_short(reported: &[ReportedZone], capacity: u32) -> bool
+    ensures short { result ≡ true → AreShort capacity reported.now }
+    ensures told { AreShort capacity reported.now → result ≡ true }
+{
+    for zone in 0..reported.len() {
+        if capacity < reported[zone].blocks {
+            return false;
+        }
+    }
+    true
 }

@@ -11,7 +11,7 @@ use crate::form::Form;
 use crate::showing::{ZonesForm, zones_text};
 use crate::telling::tell;
 use drive_inspection::{Info, ZoneInfo, blocks_taken, inspect_drive};
-use drive_port::Device;
+use drive_port::{Device, Honest};
 use drive_survey::MountFault;
 use job_drives::saved_drive;
 use std::alloc::{AllocError, Global};
@@ -70,7 +70,7 @@ fn live_counts(alloc: Global, found: &Result<Info, MountFault>) -> Result<Vec<u3
 }
 
 /// How many live blocks with data each zone of a drive has; none if a mount is refused.
-pub fn find_live<D: Device>(alloc: Global, device: &mut D) -> Result<Vec<u32>, ToolFault>
+pub fn find_live<D: Device + Honest>(alloc: Global, device: &mut D) -> Result<Vec<u32>, ToolFault>
     ensures ok { IfOk result (λ live. FindsLive (D.drive device.old) live.items) }
     ensures err { IfErr result (LooksNone (D.drive device.new)) }
     ensures kept { KeepsZones (D.drive device.old) (D.drive device.new) }

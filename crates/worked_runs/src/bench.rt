@@ -3,7 +3,7 @@
 
 use crate::fault::ScriptFault;
 use crate::world::World;
-use drive_port::{Device, Geometry, Halt, Recorder, StopAfter};
+use drive_port::{Device, Geometry, Halt, Honest, Recorder, StopAfter};
 use std::alloc::Global;
 use zone_drive::{Drive, Habit};
 
@@ -51,6 +51,12 @@ impl<D: Device + Drop> Device for OnceWithoutMemory<D> {
         }
         self.others = self.others.saturating_sub(1);
         self.device.submit_extending(entry, into)
+    }
+}
+
+impl<D: Device + Honest + Drop> Honest for OnceWithoutMemory<D> {
+    fn vouch(&self) {
+        self.device.vouch();
     }
 }
 

@@ -8,7 +8,7 @@ use crate::show::{show_answer_bytes, show_line, show_sent};
 use crate::words::{meant, number, part};
 use crate::world::World;
 use disk_files::{ParseFault, TraceLine};
-use drive_port::{Device, PortFault, append, close, count_zones, finish, read, report, reset};
+use drive_port::{Device, Honest, PortFault, append, close, count_zones, finish, read, report, reset};
 use nvme_wire::{Action, Command};
 use std::alloc::{AllocError, Global};
 use zone_translator::{Disk, DiskFault, MountFault, Place};
@@ -40,7 +40,7 @@ fn call_of(line: &[u8], bytes: &mut Vec<u8>) -> Result<TraceLine, ScriptFault> {
     }
 }
 
-fn write_call<D: Device + Drop>(
+fn write_call<D: Device + Honest + Drop>(
     disk: &mut Disk<D>,
     first: u64,
     bytes: &[u8],
@@ -51,7 +51,7 @@ fn write_call<D: Device + Drop>(
     Ok(disk.write(first, bytes))
 }
 
-fn idle_calls<D: Device + Drop>(disk: &mut Disk<D>, turns: u32) -> Result<(), DiskFault> {
+fn idle_calls<D: Device + Honest + Drop>(disk: &mut Disk<D>, turns: u32) -> Result<(), DiskFault> {
     for _ in 0..turns {
         disk.idle()?;
     }
@@ -59,7 +59,7 @@ fn idle_calls<D: Device + Drop>(disk: &mut Disk<D>, turns: u32) -> Result<(), Di
 }
 
 /// Makes the calls of a line, and puts what they show into `shown`.
-fn disk_call<D: Device + Drop>(
+fn disk_call<D: Device + Honest + Drop>(
     disk: &mut Disk<D>,
     line: &[u8],
     bytes: &mut Vec<u8>,
@@ -116,7 +116,7 @@ fn show_disk_call(
     Ok(show_done(answer, out)?)
 }
 
-fn report_of<D: Device + Drop>(disk: &mut Disk<D>) -> Result<Vec<u8>, DiskFault> {
+fn report_of<D: Device + Honest + Drop>(disk: &mut Disk<D>) -> Result<Vec<u8>, DiskFault> {
     disk.report()
 }
 

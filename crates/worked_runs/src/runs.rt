@@ -8,7 +8,7 @@ use crate::words::{bytes, meant};
 use crate::world::World;
 use disk_files::LineReader;
 use disk_runs::{RunFault, run_raw, run_trace};
-use drive_port::Device;
+use drive_port::{Device, Honest};
 use nvme_wire::Completion;
 use std::alloc::Global;
 use zone_report::report_text;
@@ -33,7 +33,7 @@ pub struct Ran {
 }
 
 /// Runs a text of lines over a device, and gives it back.
-fn run_over<D: Device + Drop>(
+fn run_over<D: Device + Honest + Drop>(
     alloc: Global,
     device: D,
     lines: Lines,

@@ -1,4 +1,4 @@
-ghost use Rattle.std.specs.Prelude.{◌≡◌, ◌+◌, ◌*◌, ◌≤◌, ◌<◌, ◌^◌, ℕ, IfSome, length, map, nat_eq, true};
+ghost use Rattle.std.specs.Prelude.{◌≡◌, ◌+◌, ◌*◌, ◌≤◌, ◌<◌, ◌^◌, ℕ, IfSome, length, map, nat_eq, true, IsTrue};
 ghost use Rattle.std.specs.List.{AllByRecursion, IsDistinct};
 ghost use Rattle.batch_log.specs.Log.{data_count, one_unless};
 ghost use Rattle.logical_map.specs.Places.{IsReady};
@@ -92,6 +92,7 @@ fn send_close<D: Device>(disk: &mut Mounted<D>, zone: u32) -> Result<(), Halt>
     ensures leaves { CloseBesideLeaves disk.old.drive disk.old.tables zone disk.new.drive result }
     ensures kept { disk.new.tables ≡ disk.old.tables }
     // It completes one command at most, and none unless another zone may be open that is not full.
+    ensures trusted { IsTrue disk.new.drive.clean → IsTrue disk.old.drive.clean }
     ensures completed { disk.new.drive.completed
         ≤ disk.old.drive.completed + closes_beside disk.old zone }
 {
@@ -116,6 +117,7 @@ fn close_beside<D: Device>(disk: &mut Mounted<D>, zone: u32) -> Result<(), Halt>
     // The contents never change. Done at a limit of 1, the tables call the other zone closed, and the drive agrees.
     ensures leaves { AloneLeaves disk.old disk.new zone result }
     // It completes one command at most, and none at a greater limit.
+    ensures trusted { IsTrue disk.new.drive.clean → IsTrue disk.old.drive.clean }
     ensures completed { disk.new.drive.completed
         ≤ disk.old.drive.completed + closes_before disk.old zone }
 {
@@ -141,6 +143,7 @@ fn append_alone<D: Device>(
     // Done, it has appended the batch, and tables and drive agree. Refused, it has not, unless the drive stopped.
     ensures leaves { BatchLeaves disk.old disk.new zone (built_for disk.old batch.now) result }
     // It completes one command at most.
+    ensures trusted { IsTrue disk.new.drive.clean → IsTrue disk.old.drive.clean }
     ensures completed { disk.new.drive.completed ≤ disk.old.drive.completed + 1 }
 {
     let start = disk.geometry().start_of(zone);
@@ -174,6 +177,7 @@ pub fn append_batch<D: Device>(
     // Done, it has appended the batch, and tables and drive agree. Refused, it has not, unless the drive stopped.
     ensures leaves { BatchLeaves disk.old disk.new zone (built_for disk.old batch.now) result }
     // It completes one command at most, or two at an open limit of 1.
+    ensures trusted { IsTrue disk.new.drive.clean → IsTrue disk.old.drive.clean }
     ensures completed { disk.new.drive.completed
         ≤ disk.old.drive.completed + closes_before disk.old zone + 1 }
 {

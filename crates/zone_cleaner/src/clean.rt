@@ -9,7 +9,7 @@ use crate::fault::CleanFault;
 use crate::gathered::{Gathered, MoveHeader, fault_of};
 use crate::step::Step;
 use batch_log::Entry;
-use drive_port::{Device, reset};
+use drive_port::{Device, Honest, reset};
 use logical_map::Place;
 use std::marker::Model;
 use zone_choice::{Mounted, Second, append_batch, batch_most, halt_of};
@@ -60,7 +60,7 @@ impl Clean {
     }
 
     /// Gathers the record of a block. Its place is in the victim.
-    pub(crate) fn gather<D: Device>(
+    pub(crate) fn gather<D: Device + Honest>(
         &mut self,
         disk: &mut Mounted<D>,
         block: u32,

@@ -14,7 +14,7 @@ use crate::fault::CleanFault;
 use crate::gathered::Gathered;
 use crate::step::Step;
 use batch_log::Entry;
-use drive_port::{Device, Geometry, Halt};
+use drive_port::{Device, Geometry, Halt, Honest};
 use std::alloc::Global;
 use std::marker::Model;
 use std::mem::replace;
@@ -156,7 +156,7 @@ impl Cleaner {
     }
 
     /// Does what one turn does.
-    fn step<D: Device>(&mut self, disk: &mut Mounted<D>) -> Result<(), CleanFault>
+    fn step<D: Device + Honest>(&mut self, disk: &mut Mounted<D>) -> Result<(), CleanFault>
         requires cleaned { AgreesWithClean disk.old self.old }
         ensures leaves { TurnLeaves disk.old self.old result disk.new self.new }
         ensures completed { disk.new.drive.completed ≤ disk.old.drive.completed + 2 }
@@ -181,7 +181,7 @@ impl Cleaner {
     ///
     /// After `OutOfMemory` and `Spent` the clean is as before the turn, and the next turn tries it
     /// again. At most two commands are completed.
-    pub fn turn<D: Device>(&mut self, disk: &mut Mounted<D>) -> Result<(), CleanFault>
+    pub fn turn<D: Device + Honest>(&mut self, disk: &mut Mounted<D>) -> Result<(), CleanFault>
         requires cleaned { AgreesWithClean disk.old self.old }
         ensures { TurnAnswers disk.old self.old result disk.new self.new }
     {
@@ -190,7 +190,7 @@ impl Cleaner {
 
     /// Takes turns until the clean that runs has ended. Each completes two commands at most. Then the destination is
     /// the next zone, and has two free blocks.
-    pub fn run_to_end<D: Device>(&mut self, disk: &mut Mounted<D>) -> Result<(), CleanFault>
+    pub fn run_to_end<D: Device + Honest>(&mut self, disk: &mut Mounted<D>) -> Result<(), CleanFault>
         requires cleaned { AgreesWithClean disk.old self.old }
         ensures { EndAnswers disk.old self.old result disk.new self.new }
     {
@@ -205,7 +205,7 @@ impl Cleaner {
     /// Makes room at once, for a disk that has no host zone, no next zone, and at most one empty
     /// zone. The clean that runs is run to its end. If none runs, one is started before.
     /// Afterwards there is a next zone with two free blocks.
-    pub fn clean_zone<D: Device>(&mut self, disk: &mut Mounted<D>) -> Result<(), CleanFault>
+    pub fn clean_zone<D: Device + Honest>(&mut self, disk: &mut Mounted<D>) -> Result<(), CleanFault>
         requires cleaned { AgreesWithClean disk.old self.old }
         requires lacks { LacksZones disk.old.tables.roles }
         ensures { CleanAnswers disk.old self.old result disk.new self.new }

@@ -14,7 +14,7 @@ ghost use Rattle.zone_cleaner.specs.Turns.{clean_fault};
 
 use crate::fault::CleanFault;
 use batch_log::{Entry, Kind};
-use drive_port::{Device, Halt};
+use drive_port::{Device, Halt, Honest};
 use indexmap::IndexMap;
 use logical_map::Place;
 use std::alloc::{AllocError, Global};
@@ -79,7 +79,7 @@ pub fn fault_of(halt: Halt) -> CleanFault
 }
 
 /// Reads the data of a block from its address, and adds it to a batch.
-fn fetch<D: Device>(
+fn fetch<D: Device + Honest>(
     batch: &mut BatchBuilder,
     disk: &mut Mounted<D>,
     block: u32,
@@ -101,6 +101,7 @@ fn fetch<D: Device>(
     if let Err(fault) = batch.read(&mut disk.device, address) {
         return Err(fault_of(halt_of(fault)));
     }
+    disk.device.vouch();
     Ok(())
 }
 
@@ -151,7 +152,7 @@ impl Gathered {
 
     /// Adds a record with data, which is read from an address. Its block is greater than those
     /// that are gathered. If it runs out of memory, the drive may have completed a Read.
-    fn read<D: Device>(
+    fn read<D: Device + Honest>(
         &mut self,
         disk: &mut Mounted<D>,
         block: u32,
@@ -178,7 +179,7 @@ impl Gathered {
 
     /// Gathers the record of a block, which is at this place. The block is greater than those that
     /// are gathered.
-    pub fn gather<D: Device>(
+    pub fn gather<D: Device + Honest>(
         &mut self,
         disk: &mut Mounted<D>,
         block: u32,

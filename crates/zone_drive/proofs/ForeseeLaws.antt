@@ -1,5 +1,5 @@
 -- A command that is foreseen gives what it gives.
-use Rattle.std.proofs.Common.{◌≡◌, ◌≢◌, ℕ, ◌/◌, ◌%◌, ◌<◌, ◌≤◌, ◌^◌, Bool, false, List, [], length, map, Option, Some, None, Result, Ok, Err, true, ◌&&◌, ◌||◌, inl, inr, refl, sym, ap, ◌∙◌, subst, arith}
+use Rattle.std.proofs.Common.{◌≡◌, ◌≢◌, ℕ, ◌/◌, ◌%◌, ◌<◌, ◌≤◌, ◌^◌, Bool, true, false, List, [], length, map, Option, Some, None, Result, Ok, Err, ◌&&◌, ◌||◌, inl, inr, refl, sym, ap, ◌∙◌, subst, arith}
 use Rattle.std.specs.Prelude.{nat_le}
 use Rattle.std.specs.Option.{unwrap_or}
 use Rattle.std.specs.Result.{result_err}
@@ -91,7 +91,7 @@ module _ (geometry : Geometry) (zones : List StoredZone) (durable : List (List Z
   -- the drive with these zones, counts and habit
   abbrev pub drive : MemoryDrive
   drive = record {
-    state = record { geometry = geometry; zones = zones_of geometry.block zones; durable = durable; completed = completed; refused = refused; appended = appended; stopped = halted || nat_le (2 ^ 63) completed };
+    state = record { geometry = geometry; zones = zones_of geometry.block zones; durable = durable; completed = completed; refused = refused; appended = appended; stopped = halted || nat_le (2 ^ 63) completed; clean = true };
     habit = habit;
   }
 

@@ -1,5 +1,5 @@
 -- How a drive is stored, and what a fresh one holds.
-use Rattle.std.specs.Prelude.{◌≡◌, ℕ, ◌-◌, ◌/◌, ◌%◌, ◌≤◌, ◌==◌, nat_lt, nat_le, ◌&&◌, Bool, false, List, [], ◌++◌, map, length, take, replicate}
+use Rattle.std.specs.Prelude.{◌≡◌, ℕ, ◌-◌, ◌/◌, ◌%◌, ◌≤◌, ◌==◌, nat_lt, nat_le, ◌&&◌, Bool, true, false, List, [], ◌++◌, map, length, take, replicate}
 use Rattle.std.specs.List.{AllByRecursion}
 use Rattle.nvme_wire.specs.declared.zone_state.ZoneState.{ZoneState}
 use Rattle.nvme_wire.specs.declared.zone_state.ZoneState.TheVariants.{Empty, ImplicitlyOpened, ExplicitlyOpened, Closed}
@@ -18,7 +18,7 @@ with_zeros long bytes = take long bytes ++ replicate (long - length bytes) 0
 
 -- a drive of these zones, which has completed no command, and it says nothing of a loss of power
 abbrev pub unused : Geometry → List Zone → DriveState
-unused geometry zones = record { geometry = geometry; zones = zones; durable = []; completed = 0; refused = 0; appended = 0; stopped = false }
+unused geometry zones = record { geometry = geometry; zones = zones; durable = []; completed = 0; refused = 0; appended = 0; stopped = false; clean = true }
 
 -- a drive in which nothing was ever written
 abbrev pub fresh : Geometry → DriveState

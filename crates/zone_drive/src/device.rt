@@ -11,7 +11,7 @@ ghost use Rattle.zone_drive.specs.Counts.{counted};
 use crate::held::HeldZones;
 use crate::reply::Reply;
 use crate::zone_drive::ZoneDrive;
-use drive_port::{Device, Geometry, Halt};
+use drive_port::{Device, Geometry, Halt, Honest};
 use nvme_wire::{Command, Completion, DecodeFault, Status, entry_id};
 
 pub(crate) fn fault_status(fault: DecodeFault) -> Status
@@ -215,5 +215,11 @@ impl<Z: HeldZones + Drop> Device for ZoneDrive<Z> {
         ensures lawful { IsLawful self.new.drive.state }
     {
         self.answer(entry, &[], into)
+    }
+}
+
+impl<Z: HeldZones + Drop> Honest for ZoneDrive<Z> {
+    fn vouch(&self) {
+        let _completed = self.completed;
     }
 }

@@ -20,7 +20,7 @@ use crate::habit::Habit;
 use crate::held::HeldZones;
 use crate::memory_zones::MemoryZones;
 use crate::zone_drive::ZoneDrive;
-use drive_port::{Device, Halt};
+use drive_port::{Device, Halt, Honest};
 use nvme_wire::Status;
 use std::alloc::{AllocError, Global};
 use std::marker::Model;
@@ -313,5 +313,11 @@ impl ReportedZones for Drive {
 
     fn status(&self, number: u32) -> ZoneStatus {
         self.held.status(number)
+    }
+}
+
+impl Honest for Drive {
+    fn vouch(&self) {
+        self.held.vouch();
     }
 }

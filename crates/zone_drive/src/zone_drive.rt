@@ -29,7 +29,7 @@ pub struct ZoneDrive<Z: HeldZones + Drop> {
 }
 
 impl<Z: HeldZones + Drop> Model for ZoneDrive<Z> {
-    ghost use Rattle.std.specs.Prelude.{◌≡◌, ◌||◌, nat_le, ◌^◌, ◌≤◌, IsTrue, map};
+    ghost use Rattle.std.specs.Prelude.{◌≡◌, ◌||◌, nat_le, ◌^◌, ◌≤◌, IsTrue, map, true};
     ghost use Rattle.zone_drive.specs.Held.{AreDurable, HeldDrive};
 
     ghost Value = { HeldDrive Z };
@@ -47,6 +47,7 @@ impl<Z: HeldZones + Drop> Model for ZoneDrive<Z> {
           refused = d.refused;
           appended = d.appended;
           stopped = d.halted || nat_le (2 ^ 63) d.completed;
+          clean = true;
         };
         habit = d.habit;
       };

@@ -36,9 +36,10 @@ use crate::report::report_all;
 use crate::status::DiskStatus;
 use crate::write::{Content, Rest, grow_batch, next_batch};
 use batch_log::Entry;
-use drive_port::Device;
+use drive_port::{Device, Honest};
 use logical_map::Place;
-use remount::{MountFault, mount};
+use remount::MountFault;
+use remount::honest::mount;
 use std::alloc::Global;
 use std::marker::Model;
 use zone_choice::{BatchBuilder, Mounted, most_blocks};
@@ -84,7 +85,7 @@ fn new_cleaner<D: Device>(disk: &Mounted<D>) -> Cleaner
 }
 
 /// Finds the tables again on the drive. After a refusal they are the old ones.
-fn mount_again<D: Device>(disk: &mut Mounted<D>) -> Result<(), MountFault>
+fn mount_again<D: Device + Honest>(disk: &mut Mounted<D>) -> Result<(), MountFault>
     // Done, the tables are what a mount finds. Refused, they do not change, and the fault has its cause.
     ensures ok { OnOk result
         (Mounts disk.old.drive disk.new.drive disk.old.tables.given disk.new.tables) }
@@ -113,7 +114,7 @@ fn status_of(fault: DiskFault) -> DiskStatus
     }
 }
 
-impl<D: Device + Drop> Disk<D> {
+impl<D: Device + Honest + Drop> Disk<D> {
     /// The disk that a drive holds, of `blocks` logical blocks if no header on the drive says how many. The drive
     /// is checked, and what a stop left of it repaired: see `remount::mount`.
     ///

@@ -7,10 +7,10 @@ ghost use Rattle.zone_translator.specs.Laws.{WrittenReadsBack};
 ghost use Rattle.zone_translator.specs.View.{flat_of};
 
 use crate::disk::Disk;
-use drive_port::Device;
+use drive_port::{Device, Honest};
 
 /// Blocks that are written to this disk read back.
-pub fn written_reads_back<D: Device + Drop>(disk: &Disk<D>)
+pub fn written_reads_back<D: Device + Honest + Drop>(disk: &Disk<D>)
     ensures { WrittenReadsBack (flat_of disk.now) }
 {
     disk.blocks();

@@ -18,7 +18,7 @@ use crate::fault::DiskFault;
 use crate::room::fault_of;
 use crate::write::find_room;
 use batch_log::{Entry, Kind};
-use drive_port::{Device, Geometry};
+use drive_port::{Device, Geometry, Honest};
 use std::alloc::AllocError;
 use zone_choice::{BatchBuilder, Filling, Mounted, batch_most};
 use zone_cleaner::Cleaner;
@@ -153,7 +153,7 @@ fn build_listed<D: Device>(
 }
 
 /// Appends one batch of a list, and answers how many of the blocks left it took.
-pub(crate) fn next_listed<D: Device>(
+pub(crate) fn next_listed<D: Device + Honest>(
     disk: &mut Mounted<D>,
     cleaner: &mut Cleaner,
     batch: &mut BatchBuilder,

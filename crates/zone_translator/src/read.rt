@@ -9,7 +9,7 @@ ghost use Rattle.zone_translator.specs.Read.{AreNeighbours, EndsThere, IsBlockFa
 
 use crate::fault::DiskFault;
 use crate::room::fault_of;
-use drive_port::{Device, read_extending};
+use drive_port::{Device, Honest, read_extending};
 use logical_map::Place;
 use std::alloc::AllocError;
 use zone_choice::{Mounted, halt_of};
@@ -48,7 +48,7 @@ fn neighbours<D: Device>(disk: &Mounted<D>, block: u32, address: u64, left: u32)
 
 /// Shows one block and its neighbours after what `into` holds, at most `left` of them: their data by one command, or zeros
 /// for one block without data. It answers how many.
-pub(crate) fn read_piece<D: Device>(
+pub(crate) fn read_piece<D: Device + Honest>(
     disk: &mut Mounted<D>,
     block: u32,
     left: u32,
@@ -77,11 +77,12 @@ pub(crate) fn read_piece<D: Device>(
     if let Err(fault) = read_extending(&mut disk.device, address, count, into) {
         return Err(fault_of(halt_of(fault)));
     }
+    disk.device.vouch();
     Ok(count)
 }
 
 /// Shows one block after what `into` holds: the data at its place, or zeros if it has none.
-pub(crate) fn read_block<D: Device>(
+pub(crate) fn read_block<D: Device + Honest>(
     disk: &mut Mounted<D>,
     block: u32,
     into: &mut Vec<u8>,
@@ -106,5 +107,6 @@ pub(crate) fn read_block<D: Device>(
     if let Err(fault) = read_extending(&mut disk.device, address, 1, into) {
         return Err(fault_of(halt_of(fault)));
     }
+    disk.device.vouch();
     Ok(())
 }

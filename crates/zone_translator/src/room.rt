@@ -5,7 +5,7 @@ ghost use Rattle.zone_translator.specs.Changes.{IsCause, IsHost, RetireLeaves, R
 ghost use Rattle.zone_translator.specs.Cleaning.{KeepsCleaning};
 
 use crate::fault::DiskFault;
-use drive_port::{Device, Halt, finish};
+use drive_port::{Device, Halt, Honest, finish};
 use zone_choice::{Filling, Mounted, halt_of};
 use zone_cleaner::Cleaner;
 
@@ -71,7 +71,7 @@ fn take<D: Device>(disk: &mut Mounted<D>) -> Option<Filling>
 }
 
 /// A host zone for a disk that has none: the next zone, or an empty one, or the zone that a clean leaves.
-fn find_host<D: Device>(disk: &mut Mounted<D>, cleaner: &mut Cleaner) -> Result<Filling, DiskFault>
+fn find_host<D: Device + Honest>(disk: &mut Mounted<D>, cleaner: &mut Cleaner) -> Result<Filling, DiskFault>
     // Tables, drive and clean agree, and there is no host zone.
     requires agrees { AgreesWithClean disk.old cleaner.old }
     requires host { disk.old.tables.roles.host ≡ None }
@@ -97,7 +97,7 @@ fn find_host<D: Device>(disk: &mut Mounted<D>, cleaner: &mut Cleaner) -> Result<
 }
 
 /// A host zone with two free blocks at least: the one that there is, or else another, which may take a clean.
-pub(crate) fn make_room<D: Device>(
+pub(crate) fn make_room<D: Device + Honest>(
     disk: &mut Mounted<D>,
     cleaner: &mut Cleaner,
 ) -> Result<Filling, DiskFault>

@@ -14,7 +14,7 @@ ghost use Rattle.zone_translator.specs.Cleaning.{KeepsCleaning};
 use crate::fault::DiskFault;
 use crate::room::{fault_of, make_room};
 use batch_log::Kind;
-use drive_port::{Device, Geometry};
+use drive_port::{Device, Geometry, Honest};
 use std::alloc::AllocError;
 use zone_choice::{BatchBuilder, Filling, Mounted, batch_most};
 use zone_cleaner::Cleaner;
@@ -81,7 +81,7 @@ fn next_sequence<D: Device>(disk: &Mounted<D>) -> u64
 }
 
 /// The zone that the next batch goes to. A batch needs a sequence number, too.
-pub(crate) fn find_room<D: Device>(
+pub(crate) fn find_room<D: Device + Honest>(
     disk: &mut Mounted<D>,
     cleaner: &mut Cleaner,
 ) -> Result<Filling, DiskFault>
@@ -192,7 +192,7 @@ fn build_batch<D: Device>(
 }
 
 /// Appends one batch of a write, and answers how many of the blocks left it took.
-pub(crate) fn next_batch<D: Device>(
+pub(crate) fn next_batch<D: Device + Honest>(
     disk: &mut Mounted<D>,
     cleaner: &mut Cleaner,
     batch: &mut BatchBuilder,
@@ -221,7 +221,7 @@ pub(crate) fn next_batch<D: Device>(
 }
 
 /// Appends an empty batch, whose header says that the disk has `blocks` blocks.
-pub(crate) fn grow_batch<D: Device>(
+pub(crate) fn grow_batch<D: Device + Honest>(
     disk: &mut Mounted<D>,
     cleaner: &mut Cleaner,
     batch: &mut BatchBuilder,

@@ -19,7 +19,7 @@ use disk_jobs::{
     Counted, Explained, Gate, Habit, JobInput, LineCount, ProgramFault, Stop, Watched, run_told,
 };
 use disk_runs::{RunFault, Taking};
-use drive_port::{Device, Geometry};
+use drive_port::{Device, Geometry, Honest};
 use nbd_jobs::NbdJob;
 use nbd_session::{Medium, WriteThrough};
 use nvme_wire::ZoneState;
@@ -177,7 +177,11 @@ fn run_end(ran: Result<(), RunFault>, geometry: &Geometry) -> Result<(), Program
 }
 
 /// Answers a trace over a drive. Its lines are on standard input. The drive is given back, with whether all was done.
-fn answer_lines<R: Clock + Eprint + Files<File = fs::File> + Input, D: Device + Drop, W: Write>(
+fn answer_lines<
+    R: Clock + Eprint + Files<File = fs::File> + Input,
+    D: Device + Honest + Drop,
+    W: Write,
+>(
     rt: &R,
     alloc: Global,
     drive: D,
@@ -352,7 +356,7 @@ fn do_nvme<R: Eprint + Input, D: Devices, W: Write>(
 }
 
 /// Serves a drive on the standard streams.
-fn serve<R: Input + Print, D: Device + Drop, M: Medium + Drop>(
+fn serve<R: Input + Print, D: Device + Honest + Drop, M: Medium + Drop>(
     rt: &R,
     alloc: Global,
     job: &NbdJob,
@@ -497,7 +501,7 @@ fn do_plan<R: Eprint, D: Devices, W: Write>(
 }
 
 /// Writes blocks of a drive to standard output.
-fn export<R: Clock + Eprint + Files<File = fs::File> + Print, D: Device + Drop>(
+fn export<R: Clock + Eprint + Files<File = fs::File> + Print, D: Device + Honest + Drop>(
     rt: &R,
     alloc: Global,
     drive: D,
@@ -510,7 +514,7 @@ fn export<R: Clock + Eprint + Files<File = fs::File> + Print, D: Device + Drop>(
 }
 
 /// Writes blocks of standard input to a drive, which is given back.
-fn import<R: Clock + Eprint + Files<File = fs::File> + Input, D: Device + Drop>(
+fn import<R: Clock + Eprint + Files<File = fs::File> + Input, D: Device + Honest + Drop>(
     rt: &R,
     alloc: Global,
     drive: D,

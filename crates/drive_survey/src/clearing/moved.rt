@@ -1,7 +1,7 @@
-ghost use Rattle.std.specs.Prelude.{◌≡◌, ◌<◌, ◌^◌, ℕ, List, length, map};
+ghost use Rattle.std.specs.Prelude.{◌≡◌, ◌<◌, ◌^◌, ℕ, List, IsTrue, length, map};
 ghost use Rattle.batch_log.specs.Log.{Batch};
 ghost use Rattle.drive_survey.specs.Known.{HasVacant};
-ghost use Rattle.drive_survey.specs.Clearing.{AreOf, Tells, first_head_sequence, without_heads};
+ghost use Rattle.drive_survey.specs.Clearing.{AreOf, HasHeads, Tells, first_head_sequence, without_heads};
 ghost use Rattle.drive_survey.specs.Heads.{heads_of};
 ghost use Rattle.drive_array.specs.Repairing.{IsMoved};
 ghost use Rattle.drive_survey.specs.Scan.{heads_in, tails_in};
@@ -20,7 +20,9 @@ fn first_sequence(heads: &ZoneHeads) -> Option<u64>
 
 /// Whether all batches of a zone, which has one, are Moves from one other zone, whose first batch is older.
 pub(crate) fn is_moved(scanned: &[ScannedZone], zone: u32) -> bool
-    ensures { (logs : List (List Batch)) → AreOf scanned.now logs → Tells result (IsMoved logs zone) }
+    ensures right { (logs : List (List Batch)) → AreOf scanned.now logs → Tells result (IsMoved logs zone) }
+    // It has a header then.
+    ensures some { IsTrue result → HasHeads scanned.now zone }
 {
     let Some(found) = scanned.get(zone as usize) else {
         return false;

@@ -1,5 +1,5 @@
 ghost use Rattle.std.specs.Prelude.{◌≡◌, ◌+◌, ◌*◌, ◌<◌, ◌≤◌, ℕ, List, Option, length, replicate, IfErr, IfNone};
-ghost use Rattle.std.specs.Prelude.{IfOk, IfSome, IsSome, OnOk};
+ghost use Rattle.std.specs.Prelude.{IfOk, IfSome, IsSome, IsTrue, OnOk};
 ghost use Rattle.std.specs.Option.{option_map};
 ghost use Rattle.batch_log.specs.Log.{Batch};
 ghost use Rattle.drive_array.specs.Records.{Record, shown};
@@ -58,7 +58,7 @@ fn read_data<D: Device>(
     into: &mut Vec<u8>,
 ) -> Result<(), MountFault>
     requires zones { AreKnown (D.drive device.old) zones.now }
-    ensures ok { OnOk result (found.zone < length (D.drive device.old).zones
+    ensures ok { IsTrue (D.drive device.new).clean → OnOk result (found.zone < length (D.drive device.old).zones
         → found.offset < length (readable_at (D.drive device.old) found.zone)
         → into.new.items ≡ block_of (D.drive device.old) found.zone found.offset) }
     // It fails only if the drive stops or memory runs out. One command at most is sent. Zones hold what they held.
@@ -87,7 +87,8 @@ fn read_shown<D: Device>(
     into: &mut Vec<u8>,
 ) -> Result<(), MountFault>
     requires zones { AreKnown (D.drive device.old) zones.now }
-    ensures ok { OnOk result ((found : Option Record) → kept ≡ option_map kept_record found
+    ensures ok { IsTrue (D.drive device.new).clean
+        → OnOk result ((found : Option Record) → kept ≡ option_map kept_record found
         → IfStands (D.drive device.old) found → into.new.items ≡ shown (D.drive device.old).geometry.block found) }
     // It fails only if the drive stops or memory runs out. One command at most is sent. Zones hold what they held.
     ensures err { IfErr result (IsInterruption (D.drive device.new)) }
@@ -111,7 +112,7 @@ fn show_same<D: Device>(
     buffers: &mut Buffers,
 ) -> Result<bool, MountFault>
     requires zones { AreKnown (D.drive device.old) zones.now }
-    ensures ok { IfOk result (TellsRivals (D.drive device.old) rivals) }
+    ensures ok { IsTrue (D.drive device.new).clean → IfOk result (TellsRivals (D.drive device.old) rivals) }
     // It fails only if the drive stops or memory runs out. Two commands at most are sent. Zones hold what they held.
     ensures err { IfErr result (IsInterruption (D.drive device.new)) }
     ensures kept { KeepsZones (D.drive device.old) (D.drive device.new) }
@@ -153,7 +154,7 @@ pub(crate) fn first_needed<D: Device>(
 ) -> Result<Option<u32>, MountFault>
     requires zones { AreKnown (D.drive device.old) zones.now }
     // Done, the block is right, if the table holds all records of the blocks of this zone.
-    ensures ok { IfOk result (LooksFor (D.drive device.old) table.now zone) }
+    ensures ok { IsTrue (D.drive device.new).clean → IfOk result (LooksFor (D.drive device.old) table.now zone) }
     // It fails only if the drive stops or memory runs out. Whatever it answers, zones hold what they held.
     ensures err { IfErr result (IsInterruption (D.drive device.new)) }
     ensures kept { KeepsZones (D.drive device.old) (D.drive device.new) }

@@ -1,9 +1,9 @@
 ghost use Rattle.std.specs.Prelude.{◌≡◌, ◌≢◌, ◌<◌, ◌≤◌, ◌^◌, ℕ, true, false, length, slice_get, slice_index_or};
-ghost use Rattle.std.specs.Prelude.{Some, IfErr, IfNone, IfOk, IfSome, OnOk};
+ghost use Rattle.std.specs.Prelude.{Some, IfErr, IfNone, IfOk, IfSome, IsTrue, OnOk};
 ghost use Rattle.drive_port.specs.Contents.{contents};
 ghost use Rattle.zone_choice.specs.Agreement.{IsShut};
 ghost use Rattle.drive_array.specs.ZoneLogs.{drive_logs, zone_tails};
-ghost use Rattle.remount.specs.Kept.{AreVacantEmpty, KeepsMountable, NotesNoneOpen};
+ghost use Rattle.remount.specs.Kept.{AreVacantEmpty, Fits, FitsStill, KeepsMountable, NotesNoneOpen, Stays};
 ghost use Rattle.drive_survey.specs.Known.{Knows};
 ghost use Rattle.remount.specs.Mount.{IsCleared, IsOnlyTorn};
 ghost use Rattle.remount.specs.Moving.{KeepsShut, SettlesOthers, SettlesZone};
@@ -27,19 +27,27 @@ fn finish_other<D: Device>(
     torn: u32,
     zone: u32,
 ) -> Result<(), MountFault>
-    // The survey knows the drive, whose vacant zones are Empty. Its only torn zone is `torn`.
-    requires known { (n : ℕ) × Knows (D.drive device.old) n (drive_logs (D.drive device.old)) survey.old }
-    requires vacant { AreVacantEmpty survey.old.zones.items (drive_logs (D.drive device.old)) }
-    requires torn { IsOnlyTorn (drive_logs (D.drive device.old))
-        (zone_tails (contents (D.drive device.old).zones)) torn }
+    // The report is true of all zones, and this is one of them.
+    requires fits { Fits (D.drive device.old) survey.old }
     requires in_range { zone < length survey.old.zones.items }
+    // While the drive is clean, the survey knows it, its vacant zones are Empty, and its only torn zone is `torn`.
+    requires known { IsTrue (D.drive device.old).clean
+        → (n : ℕ) × Knows (D.drive device.old) n (drive_logs (D.drive device.old)) survey.old }
+    requires vacant { IsTrue (D.drive device.old).clean
+        → AreVacantEmpty survey.old.zones.items (drive_logs (D.drive device.old)) }
+    requires torn { IsTrue (D.drive device.old).clean → IsOnlyTorn (drive_logs (D.drive device.old))
+        (zone_tails (contents (D.drive device.old).zones)) torn }
     // Done, this zone is finished if that was due. No batch has changed, and no zone was opened.
-    ensures ok { OnOk result ((n : ℕ) → Knows (D.drive device.old) n (drive_logs (D.drive device.old)) survey.old
+    ensures fits { OnOk result (FitsStill (D.drive device.new) survey.old survey.new) }
+    ensures ok { IsTrue (D.drive device.new).clean
+        → OnOk result ((n : ℕ) → Knows (D.drive device.old) n (drive_logs (D.drive device.old)) survey.old
         → SettlesZone n (D.drive device.old) (D.drive device.new) survey.old survey.new torn zone) }
     ensures noted { OnOk result (NotesNoneOpen survey.old.zones.items survey.new.zones.items) }
     // It fails only if the drive stops or memory runs out. A drive that can be mounted stays so, with the same array.
     ensures err { IfErr result (IsInterruption (D.drive device.new)) }
-    ensures kept { (n : ℕ) → KeepsMountable n (D.drive device.old) (D.drive device.new) }
+    ensures kept { IsTrue (D.drive device.new).clean
+        → (n : ℕ) → KeepsMountable n (D.drive device.old) (D.drive device.new) }
+    ensures stays { Stays (D.drive device.old) (D.drive device.new) }
 {
     if zone == torn {
         return Ok(());
@@ -57,18 +65,24 @@ pub(crate) fn finish_beside<D: Device>(
     survey: &mut Survey,
     torn: u32,
 ) -> Result<(), MountFault>
-    // The drive is cleared, and this is its one torn zone.
-    requires cleared { IsCleared (D.drive device.old) survey.old.given survey.old }
-    requires torn { IsOnlyTorn (drive_logs (D.drive device.old))
+    requires fits { Fits (D.drive device.old) survey.old }
+    // While the drive is clean, it is cleared, and this is its one torn zone.
+    requires cleared { IsTrue (D.drive device.old).clean → IsCleared (D.drive device.old) survey.old.given survey.old }
+    requires torn { IsTrue (D.drive device.old).clean → IsOnlyTorn (drive_logs (D.drive device.old))
         (zone_tails (contents (D.drive device.old).zones)) torn }
     // Done, it is still cleared, with the same batches. Only the torn zone may be opened or Closed.
-    ensures cleared { OnOk result (IsCleared (D.drive device.new) survey.old.given survey.new) }
-    ensures left { OnOk result (SettlesOthers (D.drive device.old) (D.drive device.new) torn) }
+    ensures fits { OnOk result (FitsStill (D.drive device.new) survey.old survey.new) }
+    ensures cleared { IsTrue (D.drive device.new).clean
+        → OnOk result (IsCleared (D.drive device.new) survey.old.given survey.new) }
+    ensures left { IsTrue (D.drive device.new).clean
+        → OnOk result (SettlesOthers (D.drive device.old) (D.drive device.new) torn) }
     ensures noted { OnOk result (NotesNoneOpen survey.old.zones.items survey.new.zones.items) }
     // It fails only if the drive stops or memory runs out.
     ensures err { IfErr result (IsInterruption (D.drive device.new)) }
-    // Whatever it answers, no command was refused. The drive can still be mounted, with the same array.
-    ensures kept { KeepsMountable survey.old.given (D.drive device.old) (D.drive device.new) }
+    // Whatever it answers, while the drive is clean no command was refused, and it can be mounted, with the same array.
+    ensures kept { IsTrue (D.drive device.new).clean
+        → KeepsMountable survey.old.given (D.drive device.old) (D.drive device.new) }
+    ensures stays { Stays (D.drive device.old) (D.drive device.new) }
 {
     for zone in 0..survey.zones.len() as u32 {
         finish_other(alloc, device, survey, torn, zone)?;

@@ -1,5 +1,5 @@
 ghost use Rattle.std.specs.Prelude.{◌≡◌, ◌++◌, [], ◌∷◌, ◌+◌, ◌*◌, ◌<◌, ◌≤◌, ◌^◌, ℕ, List, length, take, drop};
-ghost use Rattle.std.specs.Prelude.{slice_index_or, IfErr, IfOk, OnOk};
+ghost use Rattle.std.specs.Prelude.{slice_index_or, IfErr, IfOk, IsTrue, OnOk};
 ghost use Rattle.std.specs.List.{AllByRecursion, concat};
 ghost use Rattle.batch_log.specs.Header.{IsHeading, header_block};
 ghost use Rattle.batch_log.specs.Log.{batch_size, data_count};
@@ -8,16 +8,19 @@ ghost use Rattle.logical_map.specs.declared.place.Place.TheVariants as places;
 ghost use Rattle.zone_choice.specs.Builder.{IsBuilt, built};
 ghost use Rattle.zone_choice.specs.Tables.{size_of};
 ghost use Rattle.drive_survey.specs.Heads.{no_heads, with_heading};
-ghost use Rattle.remount.specs.Kept.{KeepsMountable};
-ghost use Rattle.remount.specs.Moving.{CanTake, IsAtMove, IsBlockAt, IsBuiltAs, IsReadableAt, TakesFirst, TakesSome};
+ghost use Rattle.remount.specs.Kept.{KeepsMountable, Stays};
+ghost use Rattle.remount.specs.Moving.{Adds, CanCopy, CanTake, Extends, IsAtMove, IsBlockAt, IsBuiltAs, IsNamed, IsReadableAt, IsSafe, IsShaped, IsTakeable, TakesFirst, TakesSome};
 ghost use Rattle.remount.specs.Moving.{blocks_listed, move_by, move_count, moved_data, moved_entries, named_by};
 ghost use Rattle.remount.specs.Moving.{placed_entry, said_at, size_by, source_of};
+ghost use Rattle.remount.specs.Torn.{data_count_at};
+ghost use Rattle.zone_states.specs.Geometry.{IsInRange};
 ghost use Rattle.drive_survey.specs.Reported.{IsKnown, KeepsZones};
 ghost use Rattle.drive_survey.specs.Scan.{IsInterruption, readable_at};
 
 use batch_log::{Kind, read_header};
-use drive_port::{Device, append};
-use drive_survey::{MountFault, ReadableZone, ReportedZone, ZoneHeads, fault_of, read_block};
+use drive_port::{Device, append, read};
+use crate::refused::fault_or_damaged;
+use drive_survey::{MountFault, ReadableZone, ReportedZone, ZoneHeads};
 use logical_map::Place;
 use std::alloc::{AllocError, Global};
 use zone_choice::{BatchBuilder, Tables};
@@ -73,7 +76,7 @@ fn name_record(batch: &mut BatchBuilder, block: u32, place: Place) -> Result<(),
 
 /// Adds an entry for each of these blocks: data or a trim, by its place.
 fn name_records(batch: &mut BatchBuilder, tables: &Tables, blocks: &[u32]) -> Result<(), AllocError>
-    requires { AllByRecursion (λ block. (block < size_of tables.now) × (block + 1 < 2 ^ 32)) blocks.now }
+    requires { AllByRecursion (IsNamed tables.now) blocks.now }
     ensures { OnOk result (batch.new.heading ≡ record batch.old.heading {
       entries = batch.old.heading.entries ++ moved_entries tables.now.map.places blocks.now;
     }) }
@@ -91,26 +94,38 @@ fn copy_record<D: Device>(
     place: Place,
     next: &mut NextMove,
 ) -> Result<(), MountFault>
-    // The zone is as reported, and the place, if it has data, is one of its readable blocks.
-    requires known { IsKnown (D.drive device.old) zone.number zone.reported }
-    requires place { IsBlockAt (zone.number * (D.drive device.old).geometry.size) zone.reported.blocks place }
-    // Done, the data is added: a whole block, or nothing for a trim.
-    ensures bytes { OnOk result (next.new.batch.bytes ≡ next.old.batch.bytes ++ concat
+    // Done, as many bytes are added as the record has, and while the drive is clean its data, if its place can be read.
+    ensures bytes { IsTrue (D.drive device.new).clean → IsKnown (D.drive device.old) zone.number zone.reported
+        → IsBlockAt (zone.number * (D.drive device.old).geometry.size) zone.reported.blocks place
+        → OnOk result (Adds next.old.batch.bytes (D.drive device.old).geometry.block
         (blocks_listed (said_at (readable_at (D.drive device.old) zone.number)
-        (zone.number * (D.drive device.old).geometry.size) place))) }
-    ensures whole { OnOk result (AllByRecursion (λ block. length block ≡ (D.drive device.old).geometry.block)
-        (blocks_listed (said_at (readable_at (D.drive device.old) zone.number)
-        (zone.number * (D.drive device.old).geometry.size) place))) }
-    // It fails only if the drive stops or memory runs out. The heading is the same, and zones hold what they held.
-    ensures err { IfErr result (IsInterruption (D.drive device.new)) }
+        (zone.number * (D.drive device.old).geometry.size) place)) next.new.batch.bytes) }
+    ensures grown { OnOk result (Extends next.old.batch.bytes next.new.batch.bytes
+        (data_count_at place * (D.drive device.old).geometry.block)) }
+    // If its place can be read, it fails only if the drive stops or memory runs out, and zones hold what they held.
+    ensures err { IsKnown (D.drive device.old) zone.number zone.reported
+        → IsBlockAt (zone.number * (D.drive device.old).geometry.size) zone.reported.blocks place
+        → IfErr result (IsInterruption (D.drive device.new)) }
     ensures heading { next.new.batch.heading ≡ next.old.batch.heading }
-    ensures kept { KeepsZones (D.drive device.old) (D.drive device.new) }
+    ensures kept { IsKnown (D.drive device.old) zone.number zone.reported
+        → KeepsZones (D.drive device.old) (D.drive device.new) }
+    ensures stays { Stays (D.drive device.old) (D.drive device.new) }
 {
+    let geometry = device.geometry();
     let Place::At(address) = place else {
         return Ok(());
     };
-    let start = device.geometry().start_of(zone.number);
-    read_block(device, zone, (address - start) as u32, &mut next.block)?;
+    let start = geometry.start_of(zone.number);
+    if address < start {
+        return Err(MountFault::NoSpare);
+    }
+    let offset = address - start;
+    if offset >= zone.reported.blocks as u64 {
+        return Err(MountFault::NoSpare);
+    }
+    if let Err(fault) = read(device, address, 1, &mut next.block) {
+        return Err(fault_or_damaged(fault));
+    }
     next.batch.copy(&next.block)?;
     Ok(())
 }
@@ -123,20 +138,27 @@ fn copy_records<D: Device>(
     blocks: &[u32],
     next: &mut NextMove,
 ) -> Result<(), MountFault>
-    // The zone is as reported, and all places with data are readable blocks of it.
-    requires known { IsKnown (D.drive device.old) zone.number zone.reported }
-    requires places { AllByRecursion (IsReadableAt tables.now
-        (zone.number * (D.drive device.old).geometry.size) zone.reported.blocks) blocks.now }
-    // Done, the data of all these blocks is added, each a whole block.
-    ensures bytes { OnOk result (next.new.batch.bytes ≡ next.old.batch.bytes ++ concat
-        (moved_data (source_of (D.drive device.old) tables.now zone.number) blocks.now)) }
-    ensures whole { OnOk result (AllByRecursion (λ block. length block ≡ (D.drive device.old).geometry.block)
-        (moved_data (source_of (D.drive device.old) tables.now zone.number) blocks.now)) }
-    // It fails only if the drive stops or memory runs out. The heading is the same, and zones hold what they held.
-    ensures err { IfErr result (IsInterruption (D.drive device.new)) }
+    // The tables have all these blocks.
+    requires named { AllByRecursion (IsNamed tables.now) blocks.now }
+    // Done, as many bytes are added as they have, and while the drive is clean their data, if their places can be read.
+    ensures bytes { IsTrue (D.drive device.new).clean → IsKnown (D.drive device.old) zone.number zone.reported
+        → AllByRecursion (IsReadableAt tables.now (zone.number * (D.drive device.old).geometry.size)
+        zone.reported.blocks) blocks.now
+        → OnOk result (Adds next.old.batch.bytes (D.drive device.old).geometry.block
+        (moved_data (source_of (D.drive device.old) tables.now zone.number) blocks.now) next.new.batch.bytes) }
+    ensures grown { OnOk result (Extends next.old.batch.bytes next.new.batch.bytes
+        (data_count (moved_entries tables.now.map.places blocks.now) * (D.drive device.old).geometry.block)) }
+    // If their places can be read, it fails only if the drive stops or memory runs out, and zones hold what they held.
+    ensures err { IsKnown (D.drive device.old) zone.number zone.reported
+        → AllByRecursion (IsReadableAt tables.now (zone.number * (D.drive device.old).geometry.size)
+        zone.reported.blocks) blocks.now
+        → IfErr result (IsInterruption (D.drive device.new)) }
     ensures heading { next.new.batch.heading ≡ next.old.batch.heading }
-    ensures kept { KeepsZones (D.drive device.old) (D.drive device.new) }
+    ensures kept { IsKnown (D.drive device.old) zone.number zone.reported
+        → KeepsZones (D.drive device.old) (D.drive device.new) }
+    ensures stays { Stays (D.drive device.old) (D.drive device.new) }
 {
+    let _size = device.geometry().size;
     for block in blocks {
         copy_record(device, zone, tables.place_of(*block), next)?;
     }
@@ -154,7 +176,7 @@ fn part(numbers: &[u32], from: usize, most: usize) -> &[u32]
 
 impl MovePlan {
     /// How many Moves there are. It is at least one.
-    fn count(&self) -> usize
+    pub(crate) fn count(&self) -> usize
         requires { 1 ≤ self.now.most }
         ensures { result ≡ move_count self.now }
     {
@@ -195,28 +217,34 @@ fn build_move<D: Device>(
     number: usize,
     next: &mut NextMove,
 ) -> Result<(), MountFault>
-    // The plan has this Move, with a sequence in range, data that can be read, and a header that fits.
-    requires known { IsKnown (D.drive device.old) plan.now.torn plan.now.reported }
+    // The plan has this Move, with a sequence in range, blocks that the tables have, and a header that fits.
     requires most { 1 ≤ plan.now.most }
     requires few { number < move_count plan.now }
     requires last { plan.now.next + number < 2 ^ 63 }
-    requires places { AllByRecursion (IsReadableAt tables.now
-        (plan.now.torn * (D.drive device.old).geometry.size) plan.now.reported.blocks) (named_by plan.now number) }
+    requires named { AllByRecursion (IsNamed tables.now) (named_by plan.now number) }
+    requires range { IsInRange (D.drive device.old).geometry }
     requires heading { IsHeading (D.drive device.old).geometry.block
         (move_by (source_of (D.drive device.old) tables.now plan.now.torn) plan.now number).heading }
-    // Done, the bytes are exactly this Move.
-    ensures built { OnOk result (IsBuiltAs (D.drive device.old).geometry.block
+    // Done, the bytes are a batch with the heading of this Move, and exactly this Move while the drive is clean.
+    ensures shaped { OnOk result (IsShaped (D.drive device.old).geometry.block
+        (move_by (source_of (D.drive device.old) tables.now plan.now.torn) plan.now number).heading next.new.batch) }
+    ensures built { IsTrue (D.drive device.new).clean → CanCopy (D.drive device.old) tables.now plan.now number
+        → OnOk result (IsBuiltAs (D.drive device.old).geometry.block
         (move_by (source_of (D.drive device.old) tables.now plan.now.torn) plan.now number) next.new.batch) }
-    // It fails only if the drive stops or memory runs out. Whatever it answers, zones hold what they held.
-    ensures err { IfErr result (IsInterruption (D.drive device.new)) }
-    ensures kept { KeepsZones (D.drive device.old) (D.drive device.new) }
+    // If its data can be read, it fails only if the drive stops or memory runs out, and zones hold what they held.
+    ensures err { CanCopy (D.drive device.old) tables.now plan.now number
+        → IfErr result (IsInterruption (D.drive device.new)) }
+    ensures kept { CanCopy (D.drive device.old) tables.now plan.now number
+        → KeepsZones (D.drive device.old) (D.drive device.new) }
+    ensures stays { Stays (D.drive device.old) (D.drive device.new) }
 {
+    let block_bytes = device.geometry().block;
     let blocks = plan.blocks_of(number);
     let sequence = plan.next + number as u64;
     next.batch
         .start(Kind::Move, sequence, plan.torn, plan.size_of(number));
     name_records(&mut next.batch, tables, blocks)?;
-    next.batch.encode(device.geometry().block)?;
+    next.batch.encode(block_bytes)?;
     let zone = ReadableZone {
         number: plan.torn,
         reported: plan.reported,
@@ -244,6 +272,23 @@ fn push_built(
     }
 }
 
+/// Whether the header of a batch can be added to those of its zone: its entries and blocks still fit 32 bits.
+#[tactic(auto, using(crate::proofs::MoveBuildLaws::few_data))]
+fn can_push(heads: &ZoneHeads, batch: &BatchBuilder) -> bool
+    ensures yes { IsTrue result → (length heads.now.entries + length batch.now.heading.entries < 2 ^ 32)
+        × (heads.now.blocks + 1 + data_count batch.now.heading.entries < 2 ^ 32) }
+    ensures no { length heads.now.entries + length batch.now.heading.entries < 2 ^ 31
+        → heads.now.blocks + 1 + data_count batch.now.heading.entries < 2 ^ 31 → IsTrue result }
+{
+    if heads.entries().len() >= 1 << 31 {
+        return false;
+    }
+    if batch.entries().len() >= 1 << 31 {
+        return false;
+    }
+    heads.blocks() < 1 << 31
+}
+
 /// Appends a batch to a zone.
 fn append_move<D: Device>(
     alloc: Global,
@@ -251,21 +296,26 @@ fn append_move<D: Device>(
     zone: u32,
     batch: &BatchBuilder,
 ) -> Result<(), MountFault>
-    requires can { CanTake (D.drive device.old) zone batch.now }
+    // It is a batch that fits in one transfer. While the drive is clean, the drive takes it.
+    requires takeable { IsTakeable (D.drive device.old).geometry batch.now }
+    requires can { IsTrue (D.drive device.old).clean → CanTake (D.drive device.old) zone batch.now }
     // Done, the zone has the whole batch.
-    ensures ok { OnOk result (TakesFirst (D.drive device.old) (D.drive device.new) zone
+    ensures ok { IsTrue (D.drive device.new).clean
+        → OnOk result (TakesFirst (D.drive device.old) (D.drive device.new) zone
         (built (D.drive device.old).geometry.block batch.now)
         (batch_size (built (D.drive device.old).geometry.block batch.now))) }
     // Else the zone has a front of it, or the drive can be mounted as before, with the same array.
-    ensures left { IfErr result (λ _. TakesSome (D.drive device.old) (D.drive device.new) zone
+    ensures left { IsTrue (D.drive device.new).clean
+        → IfErr result (λ _. TakesSome (D.drive device.old) (D.drive device.new) zone
         (built (D.drive device.old).geometry.block batch.now)) }
-    // It fails only if the drive stops or memory runs out.
-    ensures err { IfErr result (IsInterruption (D.drive device.new)) }
+    // While the drive is clean it fails only if the drive stops or memory runs out.
+    ensures err { IsTrue (D.drive device.new).clean → IfErr result (IsInterruption (D.drive device.new)) }
+    ensures stays { Stays (D.drive device.old) (D.drive device.new) }
 {
     let start = device.geometry().start_of(zone);
     match append(alloc, device, start, batch.bytes()) {
         Ok(_) => Ok(()),
-        Err(fault) => Err(fault_of(fault)),
+        Err(fault) => Err(fault_or_damaged(fault)),
     }
 }
 
@@ -279,22 +329,29 @@ fn make_move<D: Device>(
     number: usize,
     moves: &mut Moves,
 ) -> Result<(), MountFault>
-    // All Moves before it are made, and it is one of the plan.
-    requires at { (n : ℕ) × (start : DriveState)
-        × IsAtMove n start (D.drive device.old) tables.now plan.now number moves.old.heads }
+    // It is a Move of the plan, whatever the Reads returned. While the drive is clean, all before it are made.
+    requires safe { IsSafe (D.drive device.old).geometry tables.now plan.now }
     requires few { number < move_count plan.now }
-    // Done, it is made, too, and its header is known.
-    ensures ok { OnOk result ((n : ℕ) (start : DriveState)
+    requires at { IsTrue (D.drive device.old).clean → (n : ℕ) × (start : DriveState)
+        × IsAtMove n start (D.drive device.old) tables.now plan.now number moves.old.heads }
+    // Done, it is made, too, if all before it were, and its header is known.
+    ensures ok { (n : ℕ) (start : DriveState) → IsTrue (D.drive device.new).clean
         → IsAtMove n start (D.drive device.old) tables.now plan.now number moves.old.heads
-        → IsAtMove n start (D.drive device.new) tables.now plan.now (number + 1) moves.new.heads) }
+        → OnOk result (IsAtMove n start (D.drive device.new) tables.now plan.now (number + 1) moves.new.heads) }
     // It fails only if the drive stops or memory runs out. A drive that can be mounted stays so, with the same array.
-    ensures err { IfErr result (IsInterruption (D.drive device.new)) }
-    ensures kept { (n : ℕ) (start : DriveState)
+    ensures err { (n : ℕ) (start : DriveState) → IsTrue (D.drive device.new).clean
+        → IsAtMove n start (D.drive device.old) tables.now plan.now number moves.old.heads
+        → IfErr result (IsInterruption (D.drive device.new)) }
+    ensures kept { (n : ℕ) (start : DriveState) → IsTrue (D.drive device.new).clean
         → IsAtMove n start (D.drive device.old) tables.now plan.now number moves.old.heads
         → KeepsMountable n start (D.drive device.new) }
+    ensures stays { Stays (D.drive device.old) (D.drive device.new) }
 {
     build_move(device, plan, tables, number, &mut moves.next)?;
     let block_bytes = device.geometry().block;
+    if !can_push(&moves.heads, &moves.next.batch) {
+        return Err(MountFault::NoSpare);
+    }
     push_built(&mut moves.heads, &moves.next.batch, block_bytes)?;
     append_move(alloc, device, plan.into, &moves.next.batch)
 }
@@ -306,24 +363,33 @@ pub(crate) fn make_moves<D: Device>(
     plan: &MovePlan,
     tables: &Tables,
 ) -> Result<ZoneHeads, MountFault>
-    // The plan repairs the drive, and no Move is made yet.
-    requires at { (n : ℕ) × IsAtMove n (D.drive device.old) (D.drive device.old) tables.now plan.now 0 no_heads }
+    // The plan is safe, whatever the Reads returned. While the drive is clean, it is a repair, and no Move is made yet.
+    requires safe { IsSafe (D.drive device.old).geometry tables.now plan.now }
+    requires at { IsTrue (D.drive device.old).clean → (n : ℕ)
+        × IsAtMove n (D.drive device.old) (D.drive device.old) tables.now plan.now 0 no_heads }
     // Done, the zone of the Moves holds all of them, and no torn tail.
-    ensures ok { IfOk result (λ heads. (n : ℕ)
+    ensures ok { (n : ℕ) → IsTrue (D.drive device.new).clean
         → IsAtMove n (D.drive device.old) (D.drive device.old) tables.now plan.now 0 no_heads
-        → IsAtMove n (D.drive device.old) (D.drive device.new) tables.now plan.now (move_count plan.now) heads) }
+        → IfOk result (λ heads. IsAtMove n (D.drive device.old) (D.drive device.new) tables.now plan.now
+        (move_count plan.now) heads) }
     // It fails only if the drive stops or memory runs out. A drive that can be mounted stays so, with the same array.
-    ensures err { IfErr result (IsInterruption (D.drive device.new)) }
-    ensures kept { (n : ℕ) → IsAtMove n (D.drive device.old) (D.drive device.old) tables.now plan.now 0 no_heads
+    ensures err { (n : ℕ) → IsTrue (D.drive device.new).clean
+        → IsAtMove n (D.drive device.old) (D.drive device.old) tables.now plan.now 0 no_heads
+        → IfErr result (IsInterruption (D.drive device.new)) }
+    ensures kept { (n : ℕ) → IsTrue (D.drive device.new).clean
+        → IsAtMove n (D.drive device.old) (D.drive device.old) tables.now plan.now 0 no_heads
         → KeepsMountable n (D.drive device.old) (D.drive device.new) }
+    ensures stays { Stays (D.drive device.old) (D.drive device.new) }
 {
+    let heads = ZoneHeads::new(alloc);
     let mut moves = Moves {
-        heads: ZoneHeads::new(alloc),
+        heads,
         next: NextMove {
             batch: BatchBuilder::new(alloc),
             block: Vec::new(alloc),
         },
     };
+    let _size = device.geometry().size;
     for number in 0..plan.count() {
         make_move(alloc, device, plan, tables, number, &mut moves)?;
     }

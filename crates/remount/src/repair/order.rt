@@ -1,13 +1,17 @@
-ghost use Rattle.std.specs.Prelude.{◌≡◌, ◌<◌, ◌^◌, ◌++◌, [], ◌∷◌, List, length, map, IfErr, IfOk, OnOk};
+ghost use Rattle.std.specs.Prelude.{◌≡◌, ◌<◌, ◌≤◌, ◌+◌, ◌^◌, ◌++◌, [], ◌∷◌, List, length, map, IfErr, IfOk, IfSome, IsTrue, OnOk};
+ghost use Rattle.std.specs.List.{list_any};
+ghost use Rattle.std.specs.Prelude.{◌==◌};
 ghost use Rattle.batch_log.specs.Log.{Batch};
 ghost use Rattle.drive_port.specs.Contents.{contents};
 ghost use Rattle.drive_array.specs.ZoneLogs.{drive_logs, sequences, zone_tails};
 ghost use Rattle.drive_survey.specs.Heads.{greatest_sequence, heads_of};
 ghost use Rattle.drive_survey.specs.Known.{Finds, Knows};
-ghost use Rattle.remount.specs.Mount.{IsCleared, IsRepairPlan};
-ghost use Rattle.remount.specs.Moving.{IsMovePlan, early_size, others, ordered};
-ghost use Rattle.drive_survey.specs.Reported.{KeepsZones};
-ghost use Rattle.drive_survey.specs.Scan.{IsInterruption, heads_in};
+ghost use Rattle.batch_log.specs.Header.{IsSize};
+ghost use Rattle.remount.specs.Kept.{Fits};
+ghost use Rattle.remount.specs.Mount.{IsCleared, IsListed, IsRepairPlan};
+ghost use Rattle.remount.specs.Moving.{IsMovePlan, IsSafe, early_size, is_last_in, others, ordered};
+ghost use Rattle.drive_survey.specs.Reported.{IsKnown, KeepsZones};
+ghost use Rattle.drive_survey.specs.Scan.{AreKnown, IsInterruption, heads_in};
 
 use crate::repair::Repair;
 use crate::repair::moves::MovePlan;
@@ -32,11 +36,14 @@ fn why_needed<D: Device>(
     survey: &Survey,
     zone: u32,
 ) -> Result<Finding, MountFault>
-    // The survey knows the drive with all its batches, and this is one of its zones.
-    requires known { Knows (D.drive device.old) survey.now.given (drive_logs (D.drive device.old)) survey.now }
-    requires zone { zone < length (D.drive device.old).zones }
+    // The report is true of all zones, and this is one of them. While the drive is clean, the survey knows all batches.
+    requires zones { AreKnown (D.drive device.old) survey.now.zones.items }
+    requires in_range { zone < length survey.now.scanned.items }
+    requires known { IsTrue (D.drive device.old).clean
+        → Knows (D.drive device.old) survey.now.given (drive_logs (D.drive device.old)) survey.now }
     // Done, the finding is right for the batches of the drive.
-    ensures ok { IfOk result (Finds (D.drive device.old).geometry.block survey.now.given
+    ensures ok { IsTrue (D.drive device.new).clean
+        → IfOk result (Finds (D.drive device.old).geometry.block survey.now.given
         (drive_logs (D.drive device.old)) zone) }
     // It fails only if the drive stops or memory runs out. Whatever it answers, zones hold what they held.
     ensures err { IfErr result (IsInterruption (D.drive device.new)) }
@@ -46,6 +53,42 @@ fn why_needed<D: Device>(
         return Ok(Finding::NotMoves);
     }
     examine_zone(alloc, device, survey, zone)
+}
+
+/// Whether a block is one of these.
+fn has(blocks: &[u32], last: u32) -> bool
+    ensures { result ≡ list_any (λ block. block == last) blocks.now }
+{
+    blocks.iter().any(|block| *block == last)
+}
+
+/// Whether the block that the zone is needed for, if any, is one of these.
+fn is_last_in(blocks: &[u32], why: Finding) -> bool
+    ensures { result ≡ is_last_in blocks.now why }
+{
+    match why {
+        Finding::NeedsBlock(last) => has(blocks, last),
+        _ => true,
+    }
+}
+
+/// Whether a header can say this size.
+fn is_size(size: Option<u32>) -> bool
+    ensures yes { IsTrue result → IfSome size IsSize }
+    ensures no { IfSome size IsSize → IsTrue result }
+{
+    match size {
+        Some(size) => 1 <= size && size <= 1 << 31,
+        None => true,
+    }
+}
+
+/// Whether sequences are left for this many Moves.
+fn lasts(next: u64, count: usize) -> bool
+    ensures yes { IsTrue result → next + count ≤ 2 ^ 63 }
+    ensures no { next + count ≤ 2 ^ 63 → IsTrue result }
+{
+    next <= 1 << 63 && count as u64 <= (1 << 63) - next
 }
 
 /// These blocks without `last`.
@@ -96,27 +139,50 @@ pub(crate) fn plan_moves<D: Device>(
     repair: &Repair,
     into: u32,
 ) -> Result<MovePlan, MountFault>
-    // The drive is cleared, and the repair is planned for its one torn zone.
-    requires cleared { IsCleared (D.drive device.old) survey.now.given survey.now }
-    requires plan { IsRepairPlan (D.drive device.old).geometry survey.now.given (drive_logs (D.drive device.old))
+    // The report is true of all zones, and the blocks of the repair are those that its tables place in its zone.
+    requires fits { Fits (D.drive device.old) survey.now }
+    requires listed { IsListed (length survey.now.zones.items) repair.now }
+    // While the drive is clean, it is cleared, and the repair is planned for its one torn zone.
+    requires cleared { IsTrue (D.drive device.old).clean → IsCleared (D.drive device.old) survey.now.given survey.now }
+    requires plan { IsTrue (D.drive device.old).clean
+        → IsRepairPlan (D.drive device.old).geometry survey.now.given (drive_logs (D.drive device.old))
         (zone_tails (contents (D.drive device.old).zones)) repair.now }
-    // Done, these Moves have all that is live in that zone. It is not half clean until the last is made.
-    ensures ok { IfOk result (IsMovePlan (D.drive device.old) survey.now.given survey.now repair.now into) }
-    // It fails only if the drive stops or memory runs out. Whatever it answers, zones hold what they held.
-    ensures err { IfErr result (IsInterruption (D.drive device.new)) }
+    // Done, these Moves can be built and sent. While the drive is clean, they have all that is live in that zone. It
+    // is not half clean until the last is made.
+    ensures safe { IfOk result (IsSafe (D.drive device.old).geometry repair.now.tables) }
+    ensures torn { IfOk result (λ plan. (plan.torn ≡ repair.now.zone) × (plan.into ≡ into)) }
+    ensures known { IfOk result (λ plan. IsKnown (D.drive device.new) plan.torn plan.reported) }
+    ensures ok { IsTrue (D.drive device.new).clean
+        → IfOk result (IsMovePlan (D.drive device.old) survey.now.given survey.now repair.now into) }
+    // While the drive is clean it fails only if the drive stops or memory runs out. Zones hold what they held.
+    ensures err { IsTrue (D.drive device.new).clean → IfErr result (IsInterruption (D.drive device.new)) }
     ensures kept { KeepsZones (D.drive device.old) (D.drive device.new) }
 {
     let why = why_needed(alloc, device, survey, repair.zone)?;
+    if !is_last_in(&repair.blocks, why) {
+        return Err(MountFault::NoSpare);
+    }
     let size = survey.scanned[repair.zone as usize].heads.size();
+    if !is_size(size) {
+        return Err(MountFault::NoSpare);
+    }
     let order = ordered(alloc, &repair.blocks, why)?;
-    Ok(MovePlan {
+    let most = batch_most(&device.geometry());
+    let next = greatest_sequence(&survey.scanned).saturating_add(1);
+    let early = early_size(size, why);
+    let plan = MovePlan {
         torn: repair.zone,
         reported: survey.zones[repair.zone as usize],
         into,
         blocks: order,
-        most: batch_most(&device.geometry()),
-        next: greatest_sequence(&survey.scanned) + 1,
-        early: early_size(size, why),
+        most,
+        next,
+        early,
         size,
-    })
+    };
+    let count = plan.count();
+    if !lasts(next, count) {
+        return Err(MountFault::NoSpare);
+    }
+    Ok(plan)
 }

@@ -9,8 +9,9 @@ ghost use Rattle.zone_choice.specs.Tables.{size_of};
 ghost use Rattle.drive_array.specs.ZoneLogs.{zone_tails};
 ghost use Rattle.drive_survey.specs.declared.fault.MountFault.TheVariants as faults;
 ghost use Rattle.drive_survey.specs.Known.{Knows};
-ghost use Rattle.remount.specs.Mount.{CannotRepair, PlansRepair};
-ghost use Rattle.remount.specs.Torn.{IsNextTorn, WasSurveyed, data_count_at, data_in, is_torn_in, is_torn_zone};
+ghost use Rattle.remount.specs.Mount.{CannotRepair, IsListed, PlansRepair};
+ghost use Rattle.remount.specs.Torn.{IsNextTorn, data_count_at, data_in, is_torn_in, is_torn_zone};
+ghost use Rattle.zone_states.specs.Geometry.{IsInRange};
 
 use crate::repair::Repair;
 use crate::tables::places::place_records;
@@ -98,11 +99,14 @@ pub fn plan_repair(
     survey: &Survey,
     geometry: &Geometry,
 ) -> Result<Option<Repair>, MountFault>
-    requires surveyed { WasSurveyed geometry.now survey.now.given survey.now }
+    requires range { IsInRange geometry.now }
+    requires long { length survey.now.scanned.items ≡ geometry.now.zones }
     // Done, this is the repair that the surveyed drive needs, if any, and it can be carried out.
     ensures ok { IfOk result (λ plan. (drive : DriveState) (logs : List (List Batch))
         → drive.geometry ≡ geometry.now → Knows drive survey.now.given logs survey.now
         → PlansRepair geometry.now survey.now.given logs (zone_tails (contents drive.zones)) plan) }
+    // The blocks of a repair are those that its tables place in its zone, whatever the Reads returned.
+    ensures listed { IfOk result (λ plan. IfSome plan (IsListed (length survey.now.scanned.items))) }
     // It fails only if memory runs out or the drive cannot be repaired. The fault says why.
     ensures err { IfErr result (λ fault. (fault ≡ faults.OutOfMemory)
         ⊎ ((drive : DriveState) (logs : List (List Batch)) → drive.geometry ≡ geometry.now

@@ -132,7 +132,8 @@ pub fn place_records(
     ensures placed { IfOk result (λ tables. (drive : DriveState) (logs : List (List Batch))
         → drive.geometry ≡ geometry.now → Knows drive survey.now.given logs survey.now
         → IsPlaced geometry.now survey.now.given logs tables) }
-    // The number of zones is from the geometry, and the given number from the survey.
+    // The number of zones is from the geometry, and the given number from the survey. There are few blocks.
+    ensures few { IfOk result (λ tables. size_of tables ≤ 2 ^ 31) }
     ensures zones { IfOk result (λ tables. tables.map.zones ≡ geometry.now.zones) }
     ensures given { IfOk result (λ tables. tables.given ≡ survey.now.given) }
 {

@@ -10,7 +10,7 @@ pub returns-in_err-records-clause-kept : goal.returns-in_err-records-clause-kept
 returns-in_err-records-clause-kept g c = keeps-none _ c.requires.zones.lawful
 
 pub returns-clause-ok : goal.returns-clause-ok
-returns-clause-ok g c =
+returns-clause-ok g c clean =
     finding-ok (TellsFinding (g.D.Device.drive c.args.device.now) c.args.survey.now.given c.args.survey.now c.in_ok-records.records c.args.zone) (FindsOf (g.D.Device.drive c.args.device.now) c.args.survey.now.given c.args.survey.now c.args.zone) c.examine_by.result
     (λ finding tells. examine-one (g.D.Device.drive c.args.device.now) c.args.survey.now.given c.args.survey.now c.in_ok-records.records c.args.zone finding c.in_ok-records.ensures.covers c.in_ok-records.ensures.holds tells)
-    c.examine_by.ensures.ok
+    (c.examine_by.ensures.ok clean)

@@ -1,4 +1,4 @@
-use Rattle.std.proofs.Common.{List, ℕ, ◌≡◌, true, false, refl, sym, ap, subst, ◌∙◌, arith}
+use Rattle.std.proofs.Common.{List, ℕ, length, ◌≡◌, true, false, refl, sym, ap, subst, ◌∙◌, arith}
 use Rattle.zone_states.specs.declared.geometry.Geometry.{Geometry}
 use Rattle.drive_port.specs.Contents.{contents}
 use Rattle.drive_array.specs.Reserve.{FitsReserve}
@@ -14,20 +14,20 @@ use Rattle.drive_survey.proofs.CountLaws.{kept-count, known-count}
 use Rattle.drive_survey.proofs.survey.survey_drive.Goals as goal
 
 pub returns-in_err-scanned-clause-err : goal.returns-in_err-scanned-clause-err
-returns-in_err-scanned-clause-err g c =
+returns-in_err-scanned-clause-err g c clean =
     if-fault c.from_residual-in_err-scanned.result c.in_err-scanned.field-0.0 _ c.from_residual-in_err-scanned.ensures.1
-    (scan-refused (g.D.Device.drive c.args.device.now) (g.D.Device.drive c.usable_zones.new.device) (g.D.Device.drive c.scan_zones.new.device) c.args.given _ c.usable_zones.ensures.kept c.in_ok-zones.ensures.ok.0 c.in_err-scanned.ensures.err)
+    (scan-refused (g.D.Device.drive c.args.device.now) (g.D.Device.drive c.usable_zones.new.device) (g.D.Device.drive c.scan_zones.new.device) c.args.given _ c.usable_zones.ensures.kept c.in_ok-zones.ensures.ok.0 (c.in_err-scanned.ensures.err clean))
 
 pub returns-in_err-scanned-clause-kept : goal.returns-in_err-scanned-clause-kept
 returns-in_err-scanned-clause-kept g c = keeps-both _ _ _ c.usable_zones.ensures.kept c.scan_zones.ensures.kept
 
 pub returns-then-not-fits_reserve-clause-err : goal.returns-then-not-fits_reserve-clause-err
-returns-then-not-fits_reserve-clause-err g c =
+returns-then-not-fits_reserve-clause-err g c clean =
     let old = g.D.Device.drive c.args.device.now in
     let middle = g.D.Device.drive c.usable_zones.new.device in
     let last = g.D.Device.drive c.scan_zones.new.device in
     let scanned = c.in_ok-scanned.scanned.items in
-    let scans : ScansAll old.geometry (contents old.zones) scanned = scans-kept old middle scanned c.usable_zones.ensures.kept c.in_ok-scanned.ensures.ok in
+    let scans : ScansAll old.geometry (contents old.zones) scanned = scans-kept old middle scanned c.usable_zones.ensures.kept (c.in_ok-scanned.ensures.ok clean) in
     let kept = keeps-both old middle last c.usable_zones.ensures.kept c.scan_zones.ensures.kept in
     let geometry : c.geometry.result ≡ old.geometry = c.geometry.ensures.value ∙ kept.geometry in
     let found : c.found_size-size.result ≡ size_or c.args.given (greatest_in (heads_in scanned)) = c.found_size-size.ensures ∙ ap (λ (zs : List ScannedZone). size_or c.args.given (greatest_in (heads_in zs))) c.deref-2.ensures.value in
@@ -39,12 +39,12 @@ pub returns-then-not-fits_reserve-clause-kept : goal.returns-then-not-fits_reser
 returns-then-not-fits_reserve-clause-kept g c = keeps-both _ _ _ c.usable_zones.ensures.kept c.scan_zones.ensures.kept
 
 pub returns-then-not-are_below-clause-err : goal.returns-then-not-are_below-clause-err
-returns-then-not-are_below-clause-err g c =
+returns-then-not-are_below-clause-err g c clean =
     let old = g.D.Device.drive c.args.device.now in
     let middle = g.D.Device.drive c.usable_zones.new.device in
     let last = g.D.Device.drive c.scan_zones.new.device in
     let scanned = c.in_ok-scanned.scanned.items in
-    let scans : ScansAll old.geometry (contents old.zones) scanned = scans-kept old middle scanned c.usable_zones.ensures.kept c.in_ok-scanned.ensures.ok in
+    let scans : ScansAll old.geometry (contents old.zones) scanned = scans-kept old middle scanned c.usable_zones.ensures.kept (c.in_ok-scanned.ensures.ok clean) in
     let kept = keeps-both old middle last c.usable_zones.ensures.kept c.scan_zones.ensures.kept in
     let geometry : c.geometry.result ≡ old.geometry = c.geometry.ensures.value ∙ kept.geometry in
     let found : c.found_size-size.result ≡ size_or c.args.given (greatest_in (heads_in scanned)) = c.found_size-size.ensures ∙ ap (λ (zs : List ScannedZone). size_or c.args.given (greatest_in (heads_in zs))) c.deref-2.ensures.value in
@@ -57,12 +57,12 @@ pub returns-then-not-are_below-clause-kept : goal.returns-then-not-are_below-cla
 returns-then-not-are_below-clause-kept g c = keeps-both _ _ _ c.usable_zones.ensures.kept c.scan_zones.ensures.kept
 
 pub returns-clause-ok : goal.returns-clause-ok
-returns-clause-ok g c =
+returns-clause-ok g c clean =
     let old = g.D.Device.drive c.args.device.now in
     let middle = g.D.Device.drive c.usable_zones.new.device in
     let last = g.D.Device.drive c.scan_zones.new.device in
     let scanned = c.in_ok-scanned.scanned.items in
-    let scans : ScansAll old.geometry (contents old.zones) scanned = scans-kept old middle scanned c.usable_zones.ensures.kept c.in_ok-scanned.ensures.ok in
+    let scans : ScansAll old.geometry (contents old.zones) scanned = scans-kept old middle scanned c.usable_zones.ensures.kept (c.in_ok-scanned.ensures.ok clean) in
     let kept = keeps-both old middle last c.usable_zones.ensures.kept c.scan_zones.ensures.kept in
     let geometry : c.geometry.result ≡ old.geometry = c.geometry.ensures.value ∙ kept.geometry in
     let found : c.found_size-size.result ≡ size_or c.args.given (greatest_in (heads_in scanned)) = c.found_size-size.ensures ∙ ap (λ (zs : List ScannedZone). size_or c.args.given (greatest_in (heads_in zs))) c.deref-2.ensures.value in
@@ -127,3 +127,12 @@ pub returns-clause-reads : goal.returns-clause-reads
 returns-clause-reads g c =
     let zones = ap blocks_reported c.deref.ensures.value in
     omega (arith, zones, c.usable_zones.ensures.completed, c.in_ok-scanned.ensures.reads)
+
+pub returns-clause-reported : goal.returns-clause-reported
+returns-clause-reported g c = record {
+  can = c.in_ok-zones.ensures.ok.0;
+  given_is = refl;
+  zones = known-kept (g.D.Device.drive c.usable_zones.new.device) (g.D.Device.drive c.scan_zones.new.device) c.in_ok-zones.zones.items c.scan_zones.ensures.kept c.in_ok-zones.ensures.ok.1;
+  shut = c.in_ok-zones.ensures.ok.2;
+  scanned = c.in_ok-scanned.ensures.count ∙ ap length c.deref.ensures.value;
+}

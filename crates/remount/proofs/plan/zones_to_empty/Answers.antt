@@ -1,5 +1,5 @@
 use Rattle.std.proofs.Common.{refl, arith}
-use Rattle.remount.proofs.ToEmptyLaws.{found-all, found-one, found-other}
+use Rattle.remount.proofs.ToEmptyLaws.{found-all, found-inside, found-one, found-other}
 use Rattle.remount.proofs.plan.zones_to_empty.Goals.{then-is_to_empty+in_ok-push, else-is_to_empty}
 use Rattle.remount.proofs.plan.zones_to_empty.Goals as goal
 
@@ -9,5 +9,8 @@ loop-zone-preserved c = elim c.if-is_to_empty.branch [
   | else-is_to_empty w ↦ rw w.zones-is (found-other c.args.survey.now c.loop-zone.zones.items c.loop-zone.zone c.loop-zone.invariant (w.if-is_to_empty.ensures.never refl))
 ]
 
-pub returns : goal.returns
-returns c = λ logs heads long. found-all c.args.survey.now c.loop-zone.zones.items c.loop-zone.zone logs c.loop-zone.invariant (omega (arith, c.loop-zone-test.false, c.len-zone-end.ensures)) (omega (arith, c.loop-zone.auto.zone-end, c.len-zone-end.ensures)) heads long
+pub returns-clause-right : goal.returns-clause-right
+returns-clause-right c = λ logs heads long. found-all c.args.survey.now c.loop-zone.zones.items c.loop-zone.zone logs c.loop-zone.invariant (omega (arith, c.loop-zone-test.false, c.len-zone-end.ensures)) (omega (arith, c.loop-zone.auto.zone-end, c.len-zone-end.ensures)) heads long
+
+pub returns-clause-inside : goal.returns-clause-inside
+returns-clause-inside c = found-inside c.args.survey.now c.loop-zone.zones.items c.loop-zone.zone _ c.loop-zone.invariant (omega (arith, c.loop-zone.auto.zone-end, c.len-zone-end.ensures))

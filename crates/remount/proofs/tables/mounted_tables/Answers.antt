@@ -2,7 +2,7 @@ use Rattle.std.proofs.Common.{◌∙◌, ap, length, sym}
 use Rattle.zone_choice.specs.Roles.{RolesView}
 use Rattle.remount.proofs.MountedLaws.{mounted-agrees, roles-mounted}
 use Rattle.remount.proofs.MountingLaws.{length-empties}
-use Rattle.remount.proofs.NotedLaws.{fillings-noted}
+use Rattle.remount.proofs.NotedLaws.{fillings-noted, fillings-short}
 use Rattle.remount.proofs.tables.mounted_tables.Goals as goal
 
 pub begin-requires : goal.begin-requires
@@ -23,3 +23,8 @@ pub returns-clause-noted : goal.returns-clause-noted
 returns-clause-noted c =
     let mounts = rw c.deref.ensures.value at c.in_ok-roles.ensures in
     rw c.begin.ensures (fillings-noted c.args.survey.now.zones.items c.args.geometry.now.zones c.in_ok-roles.roles mounts)
+
+pub returns-clause-sane : goal.returns-clause-sane
+returns-clause-sane c short least =
+    let mounts = rw c.deref.ensures.value at c.in_ok-roles.ensures in
+    rw c.begin.ensures (record { short = c.in_ok-tables.ensures.few; next = least; fillings_are = fillings-short c.args.survey.now.zones.items c.args.geometry.now c.in_ok-roles.roles mounts short })

@@ -23,4 +23,4 @@ returns-clause-reads g c =
 pub returns-clause-ok : goal.returns-clause-ok
 returns-clause-ok g c =
     let stored = rw (← c.disk.view_is) at c.requires in
-    rw (← c.disk.view_is) (c.in_default.ensures.read.shown.bytes ∙ ap (λ (bytes : List ℕ). c.args.batch.now.bytes ++ bytes) (fetch_shown (g.D.Device.drive c.disk.inside.device) c.disk.inside.tables c.args.block c.args.address stored))
+    rw (← c.disk.view_is) (c.in_default.ensures.read.shown.bytes c.vouch.ensures ∙ ap (λ (bytes : List ℕ). c.args.batch.now.bytes ++ bytes) (fetch_shown (g.D.Device.drive c.disk.inside.device) c.disk.inside.tables c.args.block c.args.address stored))

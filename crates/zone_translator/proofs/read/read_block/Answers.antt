@@ -40,7 +40,7 @@ returns-clause-ok g c =
     let agrees = rw (← c.disk.view_is) at c.requires.agrees in
     let in_range = rw (← c.disk.view_is) at c.requires.in_range in
     rw (← c.disk.view_is)
-    (c.in_default-read_extending.ensures.shown.bytes ∙ ap (λ (bytes : List ℕ). c.args.into.now.items ++ bytes) (place_shown (g.D.Device.drive c.disk.inside.device) c.disk.inside.tables c.args.block c.in-At.address _ agrees in_range c.in-At.ensures refl))
+    (c.in_default-read_extending.ensures.shown.bytes c.vouch.ensures ∙ ap (λ (bytes : List ℕ). c.args.into.now.items ++ bytes) (place_shown (g.D.Device.drive c.disk.inside.device) c.disk.inside.tables c.args.block c.in-At.address _ agrees in_range c.in-At.ensures refl))
 
 pub returns-clause-kept : goal.returns-clause-kept
 returns-clause-kept g c =

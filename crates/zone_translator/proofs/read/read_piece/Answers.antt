@@ -55,7 +55,7 @@ returns-clause-ok g c =
     let in_range = rw (← c.disk.view_is) at c.requires.in_range in
     let row = rw (← c.disk.view_is) at c.neighbours-count.ensures.row in
     rw (← c.disk.view_is)
-    (c.in_default-read_extending.ensures.shown.bytes ∙ ap (λ (bytes : List ℕ). c.args.into.now.items ++ bytes) (row_shown (g.D.Device.drive c.disk.inside.device) c.disk.inside.tables c.args.block c.in-At.address c.neighbours-count.result agrees c.neighbours-count.ensures.some (omega (arith, in_range, c.neighbours-count.ensures.few)) row))
+    (c.in_default-read_extending.ensures.shown.bytes c.vouch.ensures ∙ ap (λ (bytes : List ℕ). c.args.into.now.items ++ bytes) (row_shown (g.D.Device.drive c.disk.inside.device) c.disk.inside.tables c.args.block c.in-At.address c.neighbours-count.result agrees c.neighbours-count.ensures.some (omega (arith, in_range, c.neighbours-count.ensures.few)) row))
 
 pub returns-clause-piece : goal.returns-clause-piece
 returns-clause-piece g c =

@@ -13,7 +13,7 @@ pub returns-in-Ok-clause-says : goal.returns-in-Ok-clause-says
 returns-in-Ok-clause-says g c =
     let drive = g.D.Device.drive c.args.self.now.device in
     let reads = reads-block drive c.args.number c.args.offset _ c.requires.range c.geometry.ensures.lawful c.requires.there (ap (λ (k : ℕ). k + c.args.offset) c.start_of.ensures ∙ ap (λ (x : Geometry). c.args.number * x.size + c.args.offset) c.geometry.ensures.value) in
-    read-gives drive c.args.number c.args.offset _ _ reads c.in-Ok.ensures.shown.bytes
+    read-gives drive c.args.number c.args.offset _ _ reads (c.in-Ok.ensures.shown.bytes c.vouch.ensures)
 
 pub returns-in-Err-clause-kept : goal.returns-in-Err-clause-kept
 returns-in-Err-clause-kept g c =

@@ -7,7 +7,7 @@ use Rattle.drive_survey.proofs.clearing.block_records.hold_moved.Goals as goal
 pub loop-number-preserved-then-not-is_moved : goal.loop-number-preserved-then-not-is_moved
 loop-number-preserved-then-not-is_moved c = (
   c.loop-number.invariant.0,
-  λ few. covers-skip c.args.scanned.now c.loop-number.number c.in-Ok.zone c.loop-number.table c.in-Ok.ensures.1 (rw c.if-not-is_moved.true at c.is_moved.ensures) (c.loop-number.invariant.1 few),
+  λ few. covers-skip c.args.scanned.now c.loop-number.number c.in-Ok.zone c.loop-number.table c.in-Ok.ensures.1 (rw c.if-not-is_moved.true at c.is_moved.ensures.right) (c.loop-number.invariant.1 few),
   c.loop-number.invariant.2,
   c.loop-number.invariant.3,
 )

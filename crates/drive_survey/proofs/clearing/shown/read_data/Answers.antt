@@ -7,7 +7,7 @@ pub returns-in_default-clause-kept : goal.returns-in_default-clause-kept
 returns-in_default-clause-kept g c = keeps-none _ c.requires.zones.lawful
 
 pub returns-then-found-reported-clause-ok : goal.returns-then-found-reported-clause-ok
-returns-then-found-reported-clause-ok g c = λ zone_lt.
+returns-then-found-reported-clause-ok g c clean = λ zone_lt.
     not-readable (g.D.Device.drive c.args.device.now) c.in-Some.reported.now c.args.found.zone c.args.found.offset _
     (c.requires.zones.each c.args.found.zone c.in-Some.reported.now (there c.args.zones.now c.args.found.zone c.in-Some.reported.now c.in-Some.ensures.lookup.3.0 c.in-Some.ensures.lookup.1)) c.if-found-reported.true
 

@@ -12,15 +12,15 @@ pub returns-in_err-read_shown-2-clause-kept : goal.returns-in_err-read_shown-2-c
 returns-in_err-read_shown-2-clause-kept g c = keeps-both _ _ _ c.read_shown.ensures.kept c.read_shown-2.ensures.kept
 
 pub returns-then-eq-clause-ok : goal.returns-then-eq-clause-ok
-returns-then-eq-clause-ok g c =
-    both-same (g.D.Device.drive c.args.device.now) (g.D.Device.drive c.read_shown.new.device) (Some c.args.rivals.newest) c.args.rivals.other c.read_shown.new.into.items c.read_shown-2.new.into.items c.read_shown.ensures.kept c.in_ok-read_shown.ensures.ok c.in_ok-read_shown-2.ensures.ok (same_text _ _ c.if-eq.ensures)
+returns-then-eq-clause-ok g c clean =
+    both-same (g.D.Device.drive c.args.device.now) (g.D.Device.drive c.read_shown.new.device) (Some c.args.rivals.newest) c.args.rivals.other c.read_shown.new.into.items c.read_shown-2.new.into.items c.read_shown.ensures.kept (c.in_ok-read_shown.ensures.ok (c.read_shown-2.ensures.kept.trusted clean)) (c.in_ok-read_shown-2.ensures.ok clean) (same_text _ _ c.if-eq.ensures)
 
 pub returns-then-eq-clause-kept : goal.returns-then-eq-clause-kept
 returns-then-eq-clause-kept g c = keeps-both _ _ _ c.read_shown.ensures.kept c.read_shown-2.ensures.kept
 
 pub returns-clause-ok : goal.returns-clause-ok
-returns-clause-ok g c =
-    both-differ (g.D.Device.drive c.args.device.now) (g.D.Device.drive c.read_shown.new.device) (Some c.args.rivals.newest) c.args.rivals.other c.read_shown.new.into.items c.read_shown-2.new.into.items c.read_shown.ensures.kept c.in_ok-read_shown.ensures.ok c.in_ok-read_shown-2.ensures.ok (other_text _ _ c.if-eq.ensures)
+returns-clause-ok g c clean =
+    both-differ (g.D.Device.drive c.args.device.now) (g.D.Device.drive c.read_shown.new.device) (Some c.args.rivals.newest) c.args.rivals.other c.read_shown.new.into.items c.read_shown-2.new.into.items c.read_shown.ensures.kept (c.in_ok-read_shown.ensures.ok (c.read_shown-2.ensures.kept.trusted clean)) (c.in_ok-read_shown-2.ensures.ok clean) (other_text _ _ c.if-eq.ensures)
 
 pub returns-clause-kept : goal.returns-clause-kept
 returns-clause-kept g c = keeps-both _ _ _ c.read_shown.ensures.kept c.read_shown-2.ensures.kept

@@ -1,4 +1,4 @@
-use Rattle.std.proofs.Common.{ℕ, false, set, refl, sym, ap, ◌∙◌}
+use Rattle.std.proofs.Common.{arith, ℕ, false, set, refl, sym, ap, ◌∙◌}
 use Rattle.drive_survey.specs.declared.scan.ScannedZone.{ScannedZone}
 use Rattle.drive_survey.specs.Heads.{HeadsView}
 use Rattle.remount.specs.Moving.{usage_with}
@@ -8,10 +8,10 @@ use Rattle.remount.proofs.repair.settle.note_repair.Goals as goal
 
 pub returns-clause-known : goal.returns-clause-known
 returns-clause-known c =
-    λ n start new made capacity heads known e.
+    λ n start new made some capacity heads known e.
     noted-knows n start new c.args.plan.now made c.args.heads c.filled_zone-written.result c.args.survey.now _ e heads
     (record {
-      usage = c.filled_zone-written.ensures.usage ∙ ap (λ (cap : ℕ). usage_with cap c.blocks-2.result) (sym capacity) ∙ ap (usage_with start.geometry.capacity) c.blocks-2.ensures;
+      usage = c.filled_zone-written.ensures.usage (omega (arith, some, c.blocks-2.ensures)) ∙ ap (λ (cap : ℕ). usage_with cap c.blocks-2.result) (sym capacity) ∙ ap (usage_with start.geometry.capacity) c.blocks-2.ensures;
       blocks = c.filled_zone-written.ensures.blocks ∙ c.blocks-2.ensures;
       opened = c.filled_zone-written.ensures.opened;
     })

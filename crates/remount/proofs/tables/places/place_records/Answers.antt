@@ -1,4 +1,4 @@
-use Rattle.std.proofs.Common.{◌≡◌, ◌≤◌, List, length, replicate, ap, ◌∙◌}
+use Rattle.std.proofs.Common.{◌≡◌, ◌≤◌, arith, List, length, replicate, ap, ◌∙◌}
 use Rattle.std.proofs.lemmas.List.{length-replicate}
 use Rattle.logical_map.specs.declared.place.Place.{Place}
 use Rattle.logical_map.specs.declared.place.Place.TheVariants as places
@@ -23,3 +23,10 @@ returns-clause-placed c drive logs same knows =
       zone_size = kept.zone_size ∙ ap (λ (t : TablesView). t.map.zone_size) begun ∙ fresh.zone_size;
       given = kept.given ∙ ap (λ (t : TablesView). t.given) begun ∙ fresh.given;
     }
+
+pub returns-clause-few : goal.returns-clause-few
+returns-clause-few c =
+    let fresh = c.in_ok-tables.ensures in
+    let begun : c.reserve_zones.new.tables ≡ c.in_ok-tables.tables = c.reserve_zones.ensures in
+    let places_are : c.reserve_zones.new.tables.map.places ≡ replicate c.min-size.result places.None = ap (λ (t : TablesView). t.map.places) begun ∙ fresh.places in
+    omega (arith, c.in_ok-place_batches.ensures.kept.size, ap (λ (ps : List Place). length ps) places_are, length-replicate c.min-size.result places.None, c.min-size.ensures)
