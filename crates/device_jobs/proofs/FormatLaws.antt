@@ -1,26 +1,22 @@
 -- Zones that are reported, and reset one after the other.
-use Rattle.std.proofs.Common.{◌≡◌, ◌≢◌, ◌⊎◌, inl, inr, ℕ, zero, suc, ◌+◌, ◌*◌, ◌/◌, ◌<◌, ◌≤◌, Bool, true, false, cond, List, [], ◌∷◌, length, get_or, set, Some, refl, sym, ap, subst, ◌∙◌, arith}
+use Rattle.std.proofs.Common.{◌≡◌, ◌≢◌, ◌⊎◌, inl, inr, ℕ, ◌+◌, ◌*◌, ◌/◌, ◌<◌, ◌≤◌, false, List, [], length, get_or, set, Some, refl, sym, ap, subst, ◌∙◌, arith}
 use Rattle.std.specs.Prelude.{slice_get, count_by, Result, Ok, Err}
 use Rattle.std.proofs.Math.Nat.{mul-div_cancel}
 use Rattle.std.proofs.lemmas.Bool.{cases_eq, cases_lt}
 use Rattle.std.proofs.lemmas.List.{get_or-set_same, get_or-set_other}
-use Rattle.std.proofs.lemmas.List.Sums.{sum_by-cons}
 use Rattle.std.proofs.lemmas.Option.{slice_get-get_or}
-use Rattle.nvme_wire.specs.declared.zone_state.ZoneState.{ZoneState}
-use Rattle.nvme_wire.specs.declared.zone_state.ZoneState.TheVariants as states
 use Rattle.zone_states.specs.declared.geometry.Geometry.{Geometry}
 use Rattle.zone_states.specs.Geometry.{IsInRange}
-use Rattle.zone_states.specs.Zone.{Zone}
 use Rattle.drive_port.specs.Answering.{ResetAnswers}
 use Rattle.drive_port.specs.Calls.{ResetKeeps, ResetZone}
-use Rattle.drive_port.specs.Contents.{Content, Resets, Usage, active, content_at, content_of, contents, empty, emptied, full, nothing, unusable, usage_of}
+use Rattle.drive_port.specs.Contents.{Content, Resets, content_at, contents, empty, emptied, nothing, usage_of}
 use Rattle.drive_port.specs.Drive.{DriveState, IsLawful}
 use Rattle.drive_port.specs.declared.calls.PortFault.{PortFault}
 use Rattle.drive_port.specs.declared.calls.PortFault.TheVariants as port
 use Rattle.drive_port.proofs.ClosingLaws.{contents-closing, length-closing}
 use Rattle.drive_survey.proofs.ReadLaws.{kept-contents}
 use Rattle.drive_survey.specs.declared.reported.ReportedZone.{ReportedZone}
-use Rattle.drive_survey.specs.Reported.{AreReported, KeepsZones, ReportsZones}
+use Rattle.drive_survey.specs.Reported.{KeepsZones, ReportsZones}
 use Rattle.drive_inspection.specs.Written.{AreAllEmpty, AreEmptyBelow, is_used, is_written}
 use Rattle.drive_inspection.proofs.WrittenLaws.{all-empty, reported-count, reported-usage, reported-written, unused}
 use Rattle.device_jobs.specs.Formats.{AreUsages, OnlyEmpties}

@@ -1,7 +1,7 @@
 -- A format of the drive behind a device.
 use Rattle.std.specs.Prelude.{◌≡◌, ◌⊎◌, ℕ, ◌<◌, Bool, true, false, not, List, length, count_by, slice_get, Some, ⊤}
 use Rattle.zone_states.specs.Geometry.{IsInRange}
-use Rattle.drive_port.specs.Contents.{Usage, content_at, contents, empty, emptied, is_usable, unusable, usage_of}
+use Rattle.drive_port.specs.Contents.{content_at, contents, emptied, is_usable, unusable, usage_of}
 use Rattle.drive_port.specs.Drive.{DriveState, IsLawful}
 use Rattle.drive_survey.specs.Reported.{KeepsZones}
 use Rattle.drive_survey.specs.declared.fault.MountFault.{MountFault}

@@ -1,5 +1,5 @@
 -- What a file holds that a format would destroy.
-use Rattle.std.proofs.Common.{◌≡◌, sym, subst}
+use Rattle.std.proofs.Common.{subst}
 use Rattle.std.specs.Prelude.{List, ℕ, IfSome}
 use Rattle.drive_images.specs.declared.fault.ImageFault.TheVariants as images
 use Rattle.drive_inspection.specs.Written.{AreAllEmpty, IsWritten}
@@ -7,7 +7,6 @@ use Rattle.drive_inspection.specs.declared.written.Written.{Written}
 use Rattle.drive_journal.specs.FileFaults.{IsFileFault}
 use Rattle.drive_journal.specs.declared.fault.ReadFault.{ReadFault}
 use Rattle.drive_journal.specs.declared.fault.ReadFault.TheVariants as files
-use Rattle.drive_port.specs.Drive.{DriveState}
 use Rattle.disk_runs.specs.Run.{Known}
 use Rattle.zone_drive.specs.Habits.{MemoryDrive}
 use Rattle.zone_drive.specs.declared.habit.Habit.{Habit}

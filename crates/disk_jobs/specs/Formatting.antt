@@ -1,5 +1,5 @@
 -- A format of the file of an image.
-use Rattle.std.specs.Prelude.{◌≡◌, ◌⊎◌, Bool, true, false, List, [], ◌∷◌, Some, None, Result, Ok, Err, IfSome, ⊤}
+use Rattle.std.specs.Prelude.{◌≡◌, ◌⊎◌, Bool, true, false, [], ◌∷◌, Some, None, Result, Ok, Err, IfSome, ⊤}
 use Rattle.std.specs.Io.KnownBytes.{Appends}
 use Rattle.drive_images.specs.declared.fault.ImageFault.TheVariants.{Magic, OutOfMemory}
 use Rattle.drive_inspection.specs.Written.{AreAllEmpty, IsWritten}
