@@ -140,7 +140,7 @@ fn reads_the_words(rt: HostRuntime) -> Result<(), Fail> {
 }
 
 /// Which other words are refused, and how.
-const OTHER_WORDS: [(&str, Option<ErrorKind>); 34] = [
+const OTHER_WORDS: [(&str, Option<ErrorKind>); 35] = [
     ("zonedisk run --zones --blocks=9 --image=a/b", None),
     (
         "zonedisk run --image b --blocks 9 --statistics --zones",
@@ -179,8 +179,12 @@ const OTHER_WORDS: [(&str, Option<ErrorKind>); 34] = [
     ),
     ("zonedisk nbd --image b --fail 7 --fail-odds 5", None),
     (
-        "zonedisk nbd --image b --fail-odds 0 --fail 7 --read-only --idle",
+        "zonedisk nbd --image b --fail-odds 0 --fail 7 --read-only",
         None,
+    ),
+    (
+        "zonedisk nbd --image b --read-only --idle",
+        Some(ErrorKind::ArgumentConflict),
     ),
     (
         "zonedisk nbd --image b --fail 7 --fail-odds 100 --forget 7 --cut-after 9 --stop-after 9 --habit lazy",
@@ -262,7 +266,7 @@ fn says_why_words_are_refused(rt: HostRuntime) -> Result<(), Fail> {
         panic!(rt; "the words were taken");
     };
     let text = format!(in rt.alloc(); "{error}")?;
-    let front = "error: invalid value '+5' for '--blocks': a number in decimal digits alone\n";
+    let front = "error: invalid value '+5' for '--blocks': a whole number, as 4096\n";
     assert!(rt; text.starts_with(front));
     Ok(())
 }
@@ -653,8 +657,8 @@ const RUN_KEPT: &str = "zonedisk run --image kept.image --blocks 9";
 
 /// A folder is where no image can be, and in the way of the new file, which gets another name.
 const BESIDE_A_FOLDER: [(&str, &[u8], &[u8]); 6] = [
-    (FORMAT_MISSING, b"", b"ok\nfault file\n"),
-    (FORMAT_FOLDER, b"", b"ok\nfault file\n"),
+    (FORMAT_MISSING, b"", b"fault file\n"),
+    (FORMAT_FOLDER, b"", b"fault file\n"),
     (
         "zonedisk run --image kept.image.new --blocks 9",
         b"",
@@ -773,15 +777,40 @@ const FORCE_TEXT: &str =
 #[test]
 fn formats_no_other_file(rt: HostRuntime) -> Result<(), Fail> {
     fs::write(&rt, "text.image", b"not an image".as_slice())?;
-    check_written(&rt, rt.alloc(), &[(FORMAT_TEXT, b"", b"ok\nfault file\n")]);
+    check_written(&rt, rt.alloc(), &[(FORMAT_TEXT, b"", b"fault file\n")]);
     assert_eq!(rt; fs::metadata(&rt, "text.image")?.len(), 12);
     let file = fs::open(&rt, "text.image")?;
     file.lock_shared()?;
-    check_written(&rt, rt.alloc(), &[(FORCE_TEXT, b"", b"ok\nfault file\n")]);
+    check_written(&rt, rt.alloc(), &[(FORCE_TEXT, b"", b"fault file\n")]);
     assert_eq!(rt; fs::metadata(&rt, "text.image")?.len(), 12);
     file.unlock()?;
     check_written(&rt, rt.alloc(), &[(FORCE_TEXT, b"", b"ok\n")]);
     assert_eq!(rt; fs::metadata(&rt, "text.image")?.len(), 96);
+    fs::remove_file(&rt, "text.image")?;
+    Ok(())
+}
+
+const RUN_TEXT: &str = "zonedisk run --image text.image --blocks 9";
+
+/// A drive in which a block is written is replaced only by force, and so is a damaged one. Why is told.
+#[test]
+fn formats_no_written_drive(rt: HostRuntime) -> Result<(), Fail> {
+    let alloc = rt.alloc();
+    let written: [(&str, &[u8], &[u8]); 3] = [
+        (FORMAT_TEXT, b"", b"ok\n"),
+        (RUN_TEXT, b"fill 0 1 AA\n", b"ok\n"),
+        (FORMAT_TEXT, b"", b"fault file\n"),
+    ];
+    check_written(&rt, alloc, &written);
+    let told = "text.image: it holds a disk of 9 logical blocks, which can be mounted; zones that are not Empty: 1. \
+        format --force destroys that";
+    check_told(&rt, alloc, &[(FORMAT_TEXT, b"", told)]);
+    check_written(&rt, alloc, &[(RUN_TEXT, b"read 0 1\n", b"0 aa*512\nok\n")]);
+    let image = fs::read(&rt, "text.image")?;
+    fs::write(&rt, "text.image", &image[..image.len() - 1])?;
+    let told = "text.image: no drive is read in it (the image ends too early). format --force destroys that";
+    check_told(&rt, alloc, &[(FORMAT_TEXT, b"", told)]);
+    check_written(&rt, alloc, &[(FORCE_TEXT, b"", b"ok\n")]);
     fs::remove_file(&rt, "text.image")?;
     Ok(())
 }

@@ -140,7 +140,7 @@ For more information, try '--help'.
     ),
     (
         "zonedisk run --image a --blocks +9",
-        "error: invalid value '+9' for '--blocks': a number in decimal digits alone
+        "error: invalid value '+9' for '--blocks': a whole number, as 4096
 
 Usage: zonedisk run [OPTIONS] --blocks <N>
 

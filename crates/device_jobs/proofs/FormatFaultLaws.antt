@@ -13,11 +13,12 @@ use Rattle.drive_survey.specs.Reported.{KeepsZones}
 use Rattle.drive_survey.specs.Scan.{IsInterruption}
 use Rattle.tool_jobs.specs.declared.fault.ToolFault.{ToolFault}
 use Rattle.tool_jobs.specs.declared.fault.ToolFault.TheVariants as tools
-use Rattle.device_jobs.specs.Formats.{AreAllEmpty, AreEmptyBelow, AreUsages, IsResetOf, IsUnformatted, IsUnlisted, IsUnlooked, IsUnreset, IsUnsaid, IsUnusable, IsUnusableAt, IsWritten, NoneIsUnusable, is_used, unlooked, unreported}
+use Rattle.drive_inspection.specs.Written.{AreAllEmpty, AreEmptyBelow, IsWritten, is_used}
+use Rattle.device_jobs.specs.Formats.{AreUsages, IsResetOf, IsUnformatted, IsUnlisted, IsUnlooked, IsUnreset, IsUnsaid, IsUnusable, IsUnusableAt, NoneIsUnusable, unlooked, unreported}
 use Rattle.device_jobs.specs.Looks.{IsUnasked}
 use Rattle.device_jobs.specs.declared.format_fault.FormatFault.{FormatFault}
 use Rattle.device_jobs.specs.declared.format_fault.FormatFault.TheVariants as faults
-use Rattle.device_jobs.specs.declared.format_fault.Written.{Written}
+use Rattle.drive_inspection.specs.declared.written.Written.{Written}
 
 -- ---- looks
 

@@ -1,59 +1,27 @@
 -- Zones that are reported, and reset one after the other.
-use Rattle.std.proofs.Common.{◌≡◌, ◌≢◌, ◌⊎◌, inl, inr, ℕ, zero, suc, ◌+◌, ◌*◌, ◌/◌, ◌<◌, ◌≤◌, Bool, true, false, cond, List, [], ◌∷◌, length, get_or, set, Some, refl, sym, ap, subst, ◌∙◌, arith}
+use Rattle.std.proofs.Common.{◌≡◌, ◌≢◌, ◌⊎◌, inl, inr, ℕ, ◌+◌, ◌*◌, ◌/◌, ◌<◌, ◌≤◌, false, List, [], length, get_or, set, Some, refl, sym, ap, subst, ◌∙◌, arith}
 use Rattle.std.specs.Prelude.{slice_get, count_by, Result, Ok, Err}
 use Rattle.std.proofs.Math.Nat.{mul-div_cancel}
 use Rattle.std.proofs.lemmas.Bool.{cases_eq, cases_lt}
 use Rattle.std.proofs.lemmas.List.{get_or-set_same, get_or-set_other}
-use Rattle.std.proofs.lemmas.List.Sums.{sum_by-cons}
 use Rattle.std.proofs.lemmas.Option.{slice_get-get_or}
-use Rattle.nvme_wire.specs.declared.zone_state.ZoneState.{ZoneState}
-use Rattle.nvme_wire.specs.declared.zone_state.ZoneState.TheVariants as states
 use Rattle.zone_states.specs.declared.geometry.Geometry.{Geometry}
 use Rattle.zone_states.specs.Geometry.{IsInRange}
-use Rattle.zone_states.specs.Zone.{Zone}
 use Rattle.drive_port.specs.Answering.{ResetAnswers}
 use Rattle.drive_port.specs.Calls.{ResetKeeps, ResetZone}
-use Rattle.drive_port.specs.Contents.{Content, Resets, Usage, active, content_at, content_of, contents, empty, emptied, full, nothing, unusable, usage_of}
+use Rattle.drive_port.specs.Contents.{Content, Resets, content_at, contents, empty, emptied, nothing, usage_of}
 use Rattle.drive_port.specs.Drive.{DriveState, IsLawful}
 use Rattle.drive_port.specs.declared.calls.PortFault.{PortFault}
 use Rattle.drive_port.specs.declared.calls.PortFault.TheVariants as port
 use Rattle.drive_port.proofs.ClosingLaws.{contents-closing, length-closing}
 use Rattle.drive_survey.proofs.ReadLaws.{kept-contents}
 use Rattle.drive_survey.specs.declared.reported.ReportedZone.{ReportedZone}
-use Rattle.drive_survey.specs.Reported.{AreReported, KeepsZones, ReportsZones}
-use Rattle.device_jobs.specs.Formats.{AreAllEmpty, AreEmptyBelow, AreUsages, OnlyEmpties, is_used, is_written}
+use Rattle.drive_survey.specs.Reported.{KeepsZones, ReportsZones}
+use Rattle.drive_inspection.specs.Written.{AreAllEmpty, AreEmptyBelow, is_used, is_written}
+use Rattle.drive_inspection.proofs.WrittenLaws.{all-empty, reported-count, reported-usage, reported-written, unused}
+use Rattle.device_jobs.specs.Formats.{AreUsages, OnlyEmpties}
 
 -- ---- what was reported
-
-reported-count : (geometry : Geometry) (zones : List Zone) (reported : List ReportedZone) → AreReported geometry zones reported → length reported ≡ length zones
-reported-count geometry [] [] are = refl
-reported-count geometry [] (r ∷ rs) are = absurd are
-reported-count geometry (z ∷ zs) [] are = absurd are
-reported-count geometry (z ∷ zs) (r ∷ rs) are = ap suc (reported-count geometry zs rs are.1)
-
--- a zone is used as it was reported
-reported-usage : (geometry : Geometry) (zones : List Zone) (reported : List ReportedZone) (i : ℕ) (r : ReportedZone) → AreReported geometry zones reported → slice_get reported i ≡ Some r
-    → (content_at (contents zones) i).usage ≡ usage_of r.state
-reported-usage geometry [] [] i r are there = absurd (cc)
-reported-usage geometry [] (x ∷ xs) i r are there = absurd are
-reported-usage geometry (z ∷ zs) [] i r are there = absurd are
-reported-usage geometry (z ∷ zs) (x ∷ xs) zero r are there = let same : x ≡ r = cc in rw (← same) (ap usage_of (sym are.0.state))
-reported-usage geometry (z ∷ zs) (x ∷ xs) (suc i) r are there = reported-usage geometry zs xs i r are.1 there
-
--- one more of each is counted, or none
-count-both : (x : ReportedZone) (y : Content) (xs : List ReportedZone) (ys : List Content) → is_written x ≡ is_used y.usage → count_by is_written xs ≡ count_by (λ (c : Content). is_used c.usage) ys
-    → count_by is_written (x ∷ xs) ≡ count_by (λ (c : Content). is_used c.usage) (y ∷ ys)
-count-both x y xs ys one rest =
-    let here : cond {A = ℕ} (is_written x) 1 0 ≡ cond (is_used y.usage) 1 0 = rw one refl in
-    omega (arith, here, rest, sum_by-cons (λ z. cond {A = ℕ} (is_written z) 1 0) x xs, sum_by-cons (λ (z : Content). cond {A = ℕ} (is_used z.usage) 1 0) y ys)
-
--- as many zones are not Empty as were reported so
-reported-written : (geometry : Geometry) (zones : List Zone) (reported : List ReportedZone) → AreReported geometry zones reported
-    → count_by is_written reported ≡ count_by (λ (c : Content). is_used c.usage) (contents zones)
-reported-written geometry [] [] are = refl
-reported-written geometry [] (r ∷ rs) are = absurd are
-reported-written geometry (z ∷ zs) [] are = absurd are
-reported-written geometry (z ∷ zs) (r ∷ rs) are = count-both r (content_of z) rs (contents zs) (ap (λ (s : ZoneState). is_used (usage_of s)) are.0.state) (reported-written geometry zs rs are.1)
 
 -- after a report of all zones
 pub are-usages : (old new : DriveState) (reported : List ReportedZone) → IsInRange old.geometry → KeepsZones old new → ReportsZones old reported new → AreUsages new reported
@@ -143,38 +111,12 @@ module _ (geometry : Geometry) (reported : List ReportedZone) (i : ℕ) (d : Rep
 
 -- ---- all zones
 
--- a zone that is not used is Empty
-unused : (usage : Usage) → is_used usage ≡ false → usage ≡ empty
-unused empty none = refl
-unused active none = absurd (cc none)
-unused full none = absurd (cc none)
-unused unusable none = absurd (cc none)
-
 below-empty : (geometry : Geometry) (reported : List ReportedZone) (i : ℕ) (now : DriveState) → ResetsBelow geometry reported i now → AreEmptyBelow i now
 below-empty geometry reported i now so = λ zone lt. unused (content_at (contents now.zones) zone).usage (so.below zone lt)
 
--- where none is counted, none is written
-none-written : (reported : List ReportedZone) → count_by is_written reported ≡ 0 → (zone : ℕ) (one : ReportedZone) → slice_get reported zone ≡ Some one → is_written one ≡ false
-none-written [] none zone one there = absurd (cc)
-none-written (r ∷ rs) none zero one there =
-    let same : r ≡ one = cc in
-    let counted = sum_by-cons (λ z. cond {A = ℕ} (is_written z) 1 0) r rs in
-    rw (← same) (at (is_written r) refl (omega (arith, none, counted)))
-  where
-    at : (b : Bool) → is_written r ≡ b → cond {A = ℕ} (is_written r) 1 0 ≡ 0 → is_written r ≡ false
-    at true is zero_is = absurd (omega (arith, subst (λ (b : Bool). cond {A = ℕ} b 1 0 ≡ 0) is zero_is))
-    at false is zero_is = is
-none-written (r ∷ rs) none (suc zone) one there =
-    let counted = sum_by-cons (λ z. cond {A = ℕ} (is_written z) 1 0) r rs in
-    none-written rs (omega (arith, none, counted)) zone one there
-
 -- if no zone was reported that is to be reset, each is Empty
-pub all-empty : (drive : DriveState) (reported : List ReportedZone) → AreUsages drive reported → count_by is_written reported ≡ 0 → AreAllEmpty drive
-all-empty drive reported are none = λ zone lt.
-    let within : zone < length reported = omega (arith, lt, are.count, are.lawful.count) in
-    let one : ReportedZone = record { state = states.Empty; blocks = 0 } in
-    let there = slice_get-get_or reported zone one within in
-    unused (content_at (contents drive.zones) zone).usage (ap is_used (are.used zone (get_or reported zone one) there) ∙ none-written reported none zone (get_or reported zone one) there)
+pub none-reported : (drive : DriveState) (reported : List ReportedZone) → AreUsages drive reported → count_by is_written reported ≡ 0 → AreAllEmpty drive
+none-reported drive reported are none = all-empty drive (sym are.written ∙ none)
 
 -- ---- looks
 

@@ -29,10 +29,10 @@ Hardens flushes syncs old (Ok done) new = FlushesBy flushes old (Ok tt) new × (
 Hardens flushes syncs old (Err (faults.Drive fault)) new = FlushesBy flushes old (Err fault) new × (syncs.after ≡ syncs.before)
 Hardens flushes syncs old (Err faults.Medium) new = FlushesBy flushes old (Ok tt) new × (syncs.before ≤ syncs.after)
 
--- A session is served over a device, read only if the job says so, and what was forgotten is told. Then the drive is flushed where a sync of its
--- medium is that.
-pub record ServesAndFlushes (job : NbdJob) (bytes : Streams) (syncs : SyncsDone) (old : DriveState)
-    (ended : Result (Unit {0}) NbdFault) (told : Option Forgotten) (flushed : Result (Unit {0}) PortFault) (new : DriveState) : Type 0 where
+-- A session is served over a device, read only if the job says so, and what was forgotten is told. Then what the drive has completed is made durable.
+pub record ServesAndHardens (job : NbdJob) (bytes : Streams) (syncs : SyncsDone) (old : DriveState)
+    (ended : Result (Unit {0}) NbdFault) (told : Option Forgotten) (hardened : Result (Unit {0}) HardenFault) (new : DriveState) : Type 0 where
   pub left : DriveState
-  pub serves : ServesStopping job.read_only job bytes syncs (stopping job.stop old) ended told left
-  pub flushes : FlushesBy syncs.flushes left flushed new
+  pub middle : ℕ
+  pub serves : ServesStopping job.read_only job bytes (record syncs { after = middle }) (stopping job.stop old) ended told left
+  pub hardens : Hardens syncs.flushes (record { before = middle; after = syncs.after }) left hardened new

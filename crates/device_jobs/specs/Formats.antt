@@ -1,7 +1,7 @@
 -- A format of the drive behind a device.
-use Rattle.std.specs.Prelude.{◌≡◌, ◌⊎◌, ℕ, ◌<◌, Bool, true, false, not, List, length, count_by, slice_get, Some, None, Result, Ok, Err, ⊤}
+use Rattle.std.specs.Prelude.{◌≡◌, ◌⊎◌, ℕ, ◌<◌, Bool, true, false, not, List, length, count_by, slice_get, Some, ⊤}
 use Rattle.zone_states.specs.Geometry.{IsInRange}
-use Rattle.drive_port.specs.Contents.{Usage, content_at, contents, empty, emptied, is_usable, unusable, usage_of}
+use Rattle.drive_port.specs.Contents.{content_at, contents, emptied, is_usable, unusable, usage_of}
 use Rattle.drive_port.specs.Drive.{DriveState, IsLawful}
 use Rattle.drive_survey.specs.Reported.{KeepsZones}
 use Rattle.drive_survey.specs.declared.fault.MountFault.{MountFault}
@@ -10,26 +10,13 @@ use Rattle.drive_survey.specs.declared.reported.ReportedZone.{ReportedZone}
 use Rattle.disk_files.specs.Output.{AppendsFront}
 use Rattle.disk_files.specs.Reply.{ok_text}
 use Rattle.disk_runs.specs.Run.{Known}
-use Rattle.drive_inspection.specs.declared.info.DriveInfo.{DriveInfo}
-use Rattle.drive_inspection.specs.declared.info.Info.{Info}
+use Rattle.drive_inspection.specs.Written.{AreAllEmpty, AreEmptyBelow, IsWritten, is_written, written_count}
 use Rattle.tool_jobs.specs.declared.fault.ToolFault.{ToolFault}
 use Rattle.tool_jobs.specs.declared.fault.ToolFault.TheVariants as tools
-use Rattle.device_jobs.specs.Looks.{HoldsInfo}
 use Rattle.device_jobs.specs.declared.format_fault.FormatFault.{FormatFault}
 use Rattle.device_jobs.specs.declared.format_fault.FormatFault.TheVariants as faults
-use Rattle.device_jobs.specs.declared.format_fault.Holding.{Holding}
-use Rattle.device_jobs.specs.declared.format_fault.Holding.TheVariants as holdings
-use Rattle.device_jobs.specs.declared.format_fault.Written.{Written}
 
 -- ---- zones
-
--- whether a zone that is used so is other than Empty
-abbrev pub is_used : Usage → Bool
-is_used empty = false
-is_used usage = true
-
-abbrev pub is_written : ReportedZone → Bool
-is_written one = is_used (usage_of one.state)
 
 -- whether a zone was reported Read Only or Offline
 abbrev pub is_unusable : ReportedZone → Bool
@@ -41,17 +28,6 @@ IsUnusable reported zone = (one : ReportedZone) × (slice_get reported zone ≡ 
 
 abbrev pub NoneIsUnusable : List ReportedZone → Type 0
 NoneIsUnusable reported = (zone : ℕ) (one : ReportedZone) → slice_get reported zone ≡ Some one → is_unusable one ≡ false
-
--- how many zones are not Empty
-abbrev pub written_count : DriveState → ℕ
-written_count drive = count_by (λ content. is_used content.usage) (contents drive.zones)
-
--- each zone below this number is Empty
-abbrev pub AreEmptyBelow : ℕ → DriveState → Type 0
-AreEmptyBelow end drive = (zone : ℕ) → zone < end → (content_at (contents drive.zones) zone).usage ≡ empty
-
-abbrev pub AreAllEmpty : DriveState → Type 0
-AreAllEmpty drive = AreEmptyBelow (length drive.zones) drive
 
 -- this zone is Read Only or Offline
 abbrev pub IsUnusableAt : DriveState → ℕ → Type 0
@@ -69,28 +45,6 @@ pub record AreUsages (drive : DriveState) (reported : List ReportedZone) : Type 
   pub count : length reported ≡ drive.geometry.zones
   pub written : count_by is_written reported ≡ written_count drive
   pub used : (zone : ℕ) (one : ReportedZone) → slice_get reported zone ≡ Some one → (content_at (contents drive.zones) zone).usage ≡ usage_of one.state
-
--- ---- what a drive holds
-
--- what is told of a drive: the size that its headers say, or that none says one; or why it is not mounted
-abbrev pub ShowsHolding : Result Info MountFault → Holding → Type 0
-ShowsHolding (Ok info) (holdings.Disk blocks) = info.holdings.said ≡ Some blocks
-ShowsHolding (Ok info) holdings.Unsized = info.holdings.said ≡ None
-ShowsHolding (Err fault) (holdings.Unmounted cause) = cause ≡ fault
-ShowsHolding found holding = ⊥
-
-pub record IsHolding (drive : DriveState) (holding : Holding) : Type 0 where
-  pub info : DriveInfo
-  pub holds : HoldsInfo drive info
-  pub shows : ShowsHolding info.found holding
-
--- How many zones are not Empty, and what they hold. The drive was looked at, which keeps its zones.
-pub record IsWritten (drive : DriveState) (written : Written) : Type 0 where
-  pub count : written.zones ≡ written_count drive
-  pub some : 0 < written.zones
-  pub seen : DriveState
-  pub keeps : KeepsZones drive seen
-  pub holding : IsHolding seen written.holding
 
 -- ---- why a drive is not formatted
 

@@ -1,24 +1,14 @@
 -- What is found of the drive behind a device that is only looked at.
 use Rattle.std.specs.Prelude.{◌≡◌, ℕ, Bool, true, is_none, ⊤}
-use Rattle.zone_states.specs.Geometry.{IsInRange}
 use Rattle.drive_port.specs.Drive.{DriveState}
-use Rattle.drive_array.specs.Reserve.{most_size}
 use Rattle.drive_inspection.specs.Findings.{AreFindings}
 use Rattle.drive_inspection.specs.declared.finding.Findings.{Findings}
-use Rattle.drive_inspection.specs.Info.{IsDriveInfo}
-use Rattle.drive_inspection.specs.declared.info.DriveInfo.{DriveInfo}
 use Rattle.tool_jobs.specs.declared.fault.ToolFault.{ToolFault}
 use Rattle.tool_jobs.specs.declared.fault.ToolFault.TheVariants.{Memory, Stopped}
 
 -- these are all faults of the drive, and this is whether a mount of it would be done
 abbrev pub AreFindingsOf : DriveState → ℕ → Bool → Findings → Type 0
 AreFindingsOf drive blocks mountable findings = AreFindings drive blocks findings × (mountable ≡ is_none findings.refusal)
-
--- This is what the drive holds. If it does not say how many logical blocks it has, it is taken to have as many as it can serve.
-pub record HoldsInfo (drive : DriveState) (info : DriveInfo) : Type 0 where
-  pub blocks : ℕ
-  pub most : IsInRange drive.geometry → blocks ≡ most_size drive.geometry
-  pub is_info : IsDriveInfo drive blocks info
 
 -- why a drive was not asked to its end: memory ran out, or it has stopped
 abbrev pub IsUnasked : DriveState → ToolFault → Type 0

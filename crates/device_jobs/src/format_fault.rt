@@ -1,8 +1,8 @@
 use crate::devices::DriveName;
+use drive_inspection::Written;
 use drive_port::PortFault;
 use std::fmt;
 use thiserror::Error;
-use zone_translator::MountFault;
 
 /// The drive behind a device, as people are told of it.
 #[derive(Clone, Copy, Debug)]
@@ -25,52 +25,6 @@ impl fmt::Display for NamedDrive<'_> {
             f,
             "{path}: {model}, serial number {serial}, of {bytes} bytes"
         )
-    }
-}
-
-/// What is in the zones of a drive that are not Empty.
-#[derive(Clone, Copy, Debug, PartialEq, Eq)]
-pub enum Holding {
-    /// A disk of that many logical blocks, which can be mounted.
-    Disk(u32),
-    /// What can be mounted. No header says a size.
-    Unsized,
-    /// What is not mounted as a disk, for this reason. It may be a disk that is damaged.
-    Unmounted(MountFault),
-}
-
-impl fmt::Display for Holding {
-    fn fmt<W: fmt::Write>(&self, f: &mut fmt::Formatter<W>) -> fmt::Result {
-        match self {
-            Holding::Disk(blocks) => write!(
-                f,
-                "a disk of {blocks} logical blocks, which can be mounted"
-            ),
-            Holding::Unsized => write!(
-                f,
-                "what can be mounted as a disk, in which no size is written"
-            ),
-            Holding::Unmounted(fault) => write!(
-                f,
-                "what cannot be mounted as a disk ({fault}; zonedisk check shows all faults)"
-            ),
-        }
-    }
-}
-
-/// What a format of a drive destroys.
-#[derive(Clone, Copy, Debug, PartialEq, Eq)]
-pub struct Written {
-    /// How many zones are not Empty.
-    pub zones: usize,
-    /// What they hold.
-    pub holding: Holding,
-}
-
-impl fmt::Display for Written {
-    fn fmt<W: fmt::Write>(&self, f: &mut fmt::Formatter<W>) -> fmt::Result {
-        let Written { zones, holding } = self;
-        write!(f, "it holds {holding}; zones that are not Empty: {zones}")
     }
 }
 

@@ -1,46 +1,27 @@
 // A drive in which nothing is written, of the drive behind a device.
 
-ghost use Rattle.std.specs.Prelude.{◌≡◌, ℕ, ◌*◌, ◌<◌, ◌^◌, false, count_by, length};
+ghost use Rattle.std.specs.Prelude.{◌≡◌, ℕ, ◌*◌, ◌<◌, ◌^◌, false, length};
 ghost use Rattle.std.specs.Prelude.{IfErr, IfNone, IfOk, IfSome, OnOk};
 ghost use Rattle.drive_port.specs.Calls.{ResetZone};
 ghost use Rattle.std.specs.Io.KnownBytes.{Appends};
 ghost use Rattle.drive_port.specs.Drive.{IsLawful};
 ghost use Rattle.drive_survey.specs.Reported.{KeepsZones};
 ghost use Rattle.disk_files.specs.Reply.{ok_text};
-ghost use Rattle.device_jobs.specs.Formats.{AreAllEmpty, AreUsages, IsHolding, IsResetOf, IsUnformatted, IsUnlisted};
+ghost use Rattle.drive_inspection.specs.Written.{AreAllEmpty, IsHolding};
+ghost use Rattle.device_jobs.specs.Formats.{AreUsages, IsResetOf, IsUnformatted, IsUnlisted};
 ghost use Rattle.device_jobs.specs.Formats.{IsUnlooked, IsUnreset, IsUnsaid, IsUnusable, IsUnusableAt, NoneIsUnusable};
-ghost use Rattle.device_jobs.specs.Formats.{OnlyEmpties, SaysNoOk, ShowsHolding, is_unusable, is_written, unlooked, unreported};
+ghost use Rattle.device_jobs.specs.Formats.{OnlyEmpties, SaysNoOk, is_unusable, unlooked, unreported};
 
-use crate::format_fault::{FormatFault, Holding, NamedDrive, Written};
+use crate::format_fault::{FormatFault, NamedDrive};
 use crate::looking::look;
 use disk_files::{ok_reply, write_out};
-use drive_inspection::DriveInfo;
+use drive_inspection::{Holding, Written, count_written, holding_of, is_written};
 use drive_port::{Device, Honest, reset};
 use drive_survey::{MountFault, ReportedZone, report_zones};
 use nvme_wire::ZoneState;
 use std::alloc::Global;
 use std::io::Write;
 use tool_jobs::ToolFault;
-
-/// Whether a zone is other than Empty.
-fn is_written(zone: ReportedZone) -> bool
-    ensures { result ≡ is_written zone }
-{
-    zone.state != ZoneState::Empty
-}
-
-/// How many zones are not Empty.
-fn count_written(zones: &[ReportedZone]) -> usize
-    ensures { result ≡ count_by is_written zones.now }
-{
-    let mut count = 0;
-    for zone in zones {
-        if is_written(*zone) {
-            count += 1;
-        }
-    }
-    count
-}
 
 /// Whether a zone is Read Only or Offline.
 fn is_unusable(zone: ReportedZone) -> bool
@@ -63,19 +44,6 @@ fn find_unusable(zones: &[ReportedZone]) -> Option<u32>
     None
 }
 
-/// What is told of a drive that was looked at.
-fn holding_of(info: &DriveInfo) -> Holding
-    ensures { ShowsHolding info.now.found result }
-{
-    match &info.found {
-        Ok(held) => match held.holdings.said {
-            Some(blocks) => Holding::Disk(blocks),
-            None => Holding::Unsized,
-        },
-        Err(fault) => Holding::Unmounted(*fault),
-    }
-}
-
 /// What the fault of a look is to a format.
 fn unlooked(fault: ToolFault) -> FormatFault
     ensures { result ≡ unlooked fault }
@@ -93,7 +61,7 @@ fn find_holding<D: Device + Honest>(alloc: Global, device: &mut D) -> Result<Hol
     ensures kept { KeepsZones (D.drive device.old) (D.drive device.new) }
 {
     match look(alloc, device) {
-        Ok(info) => Ok(holding_of(&info)),
+        Ok(info) => Ok(holding_of(&info.found)),
         Err(fault) => Err(unlooked(fault)),
     }
 }

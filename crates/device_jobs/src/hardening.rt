@@ -19,7 +19,7 @@ pub enum HardenFault {
 }
 
 /// Flushes a drive, if that is asked for.
-pub(crate) fn flush_if<D: Device>(
+fn flush_if<D: Device>(
     alloc: Global,
     flushes: bool,
     device: &mut D,

@@ -23,8 +23,8 @@
 //!   read, or all with a Flush after each that changes the drive (`specs/Runs.antt`). Then the zones of the drive are
 //!   shown by a report of it, if they are asked for.
 //! * [`serve_device`] serves the drive as `nbd_session` promises, read only where that is asked for. Each sync of the
-//!   session is one of the medium, or a Flush of the drive that the medium counts. [`serve_flushed`] also flushes such
-//!   a drive at the end.
+//!   session is one of the medium, or a Flush of the drive that the medium counts. [`serve_hardened`] also makes
+//!   durable at the end what the drive has completed. Whether the drive had stopped by itself is told.
 //! * [`export_device`] exports the blocks of the disk (`specs/Copies.antt`). The array stays. `import_mounted` of
 //!   `disk_copies` imports them.
 //! * [`check_device`] finds all faults of the drive, and [`inform_device`] what it holds (`specs/Looks.antt`).
@@ -44,7 +44,7 @@
 //! # What is not proved
 //!
 //! * [`send_lines`], which sends entries as they are and believes no answer, and [`serve_client`], which is
-//!   [`serve_flushed`] between buffers.
+//!   [`serve_hardened`] between buffers.
 //! * What a format tells on standard error before the first Reset, that it ends where that cannot be told, and which
 //!   zone is named where several cannot be used.
 //! * Which drive a way opens or makes, and that it does so.
@@ -73,7 +73,7 @@ pub use copying::export_device;
 pub use devices::{Devices, DriveName, OpenDevice, RawDrive, RawFault};
 pub use explanation::{explain_run, explain_sent};
 pub use fault::{DeviceFault, StartCommand, write_device_fault};
-pub use format_fault::{FormatFault, Holding, NamedDrive, Written};
+pub use format_fault::{FormatFault, NamedDrive};
 pub use formatting::format_device;
 pub use hardening::{HardenFault, harden};
 pub use job::{ConvertJob, DeviceJob, DeviceRun};
@@ -82,5 +82,5 @@ pub use no_devices::{NoDevices, NoRawDrive};
 pub use raw::{SendFault, send_lines};
 pub use reporting::answer_report;
 pub use running::{run_device, run_fault};
-pub use serving::{Flushed, Served, serve_client, serve_device, serve_flushed};
+pub use serving::{Hardened, Served, serve_client, serve_device, serve_hardened};
 pub use showing::{ShownDrive, show_zones};

@@ -5,13 +5,14 @@ ghost use Rattle.drive_inspection.specs.Findings.{AreFindings};
 ghost use Rattle.drive_survey.specs.Reported.{KeepsZones};
 ghost use Rattle.tool_jobs.specs.Telling.{TellsFound, TellsNothing};
 ghost use Rattle.tool_jobs.specs.Plans.{IsPlanOf, IsUnplanned};
-ghost use Rattle.device_jobs.specs.Looks.{AreFindingsOf, HoldsInfo, IsUnasked};
+ghost use Rattle.drive_inspection.specs.Written.{HoldsInfo};
+ghost use Rattle.device_jobs.specs.Looks.{AreFindingsOf, IsUnasked};
 
-use drive_inspection::{DriveInfo, Findings, check_drive, inspect_drive};
+use drive_inspection::{DriveInfo, Findings, blocks_taken, check_drive, inspect_drive};
 use drive_port::{Device, Honest};
 use std::alloc::Global;
 use std::io::Write;
-use tool_jobs::{Form, PlanRows, ToolFault, blocks_taken, interrupted, plan_of, tell};
+use tool_jobs::{Form, PlanRows, ToolFault, interrupted, plan_of, tell};
 use write_plan::Aim;
 use zone_states::Geometry;
 

@@ -4,11 +4,11 @@ ghost use Rattle.std.specs.Prelude.{◌≡◌, is_some};
 ghost use Rattle.drive_port.specs.Stop.{drive_of};
 ghost use Rattle.nbd_session.specs.Streams.{streams};
 ghost use Rattle.job_drives.specs.Stop.{stopping};
-ghost use Rattle.nbd_jobs.specs.Serving.{ServesStopping, TellsSession};
-ghost use Rattle.device_jobs.specs.Durable.{ServesAndFlushes};
+ghost use Rattle.nbd_jobs.specs.Serving.{ServesStopping, TellsSession, sent_end};
+ghost use Rattle.device_jobs.specs.Durable.{ServesAndHardens};
 
-use crate::hardening::flush_if;
-use drive_port::{Device, Honest, PortFault};
+use crate::hardening::{HardenFault, harden};
+use drive_port::{Device, Honest};
 use job_drives::KeepFault;
 use nbd_jobs::{
     BUFFER, Ended, Kept, NbdFault, NbdJob, SessionTold, are_sent, sent_end, serve_stopping,
@@ -22,8 +22,10 @@ use std::io::{BufReader, BufWriter, Read, Write};
 pub struct Served {
     /// Of the session, with all replies that it sent.
     pub told: SessionTold,
-    /// Whether the drive was flushed at the end, if that is what a sync of its medium is.
-    pub flushed: Result<(), PortFault>,
+    /// Whether the drive had stopped by itself: it failed, or answered what does not fit.
+    pub stopped: bool,
+    /// Whether what the drive completed was made durable at the end.
+    pub hardened: Result<(), HardenFault>,
 }
 
 /// Mounts the drive behind a device, and serves it to a client, read only if the job says so. Each sync is one of the
@@ -55,39 +57,56 @@ pub fn serve_device<D: Device + Honest + Drop, M: Medium + Drop, R: Client, W: W
     serve_stopping(alloc, job, kept, reader, writer)
 }
 
-/// A session over the drive behind a device, and the Flush of the drive after it.
+/// A session over the drive behind a device, and whether what the drive completed was made durable after it.
 #[derive(Drop)]
-pub struct Flushed<D: Device + Drop, M: Medium + Drop> {
+pub struct Hardened<D: Device + Drop, M: Medium + Drop> {
     pub ended: Ended<D, M>,
-    /// Whether the drive was flushed, if that is what a sync of its medium is.
-    pub flushed: Result<(), PortFault>,
+    pub hardened: Result<(), HardenFault>,
 }
 
-/// The same, and flushes the drive at the end where a sync of its medium is that, also after a fault.
-pub fn serve_flushed<D: Device + Honest + Drop, M: Medium + Drop, R: Client, W: Write>(
+/// The same, and makes durable at the end what the drive has completed, also after a fault.
+pub fn serve_hardened<D: Device + Honest + Drop, M: Medium + Drop, R: Client, W: Write>(
     alloc: Global,
     job: &NbdJob,
     device: D,
     medium: M,
     reader: &mut R,
     writer: &mut W,
-) -> Flushed<D, M>
-    ensures serves { ServesAndFlushes job.now
+) -> Hardened<D, M>
+    ensures serves { ServesAndHardens job.now
         (streams (R.remaining reader.old) (R.remaining reader.new) (W.contents writer.old) (W.contents writer.new))
         (record {
           before = M.syncs medium;
           after = M.syncs result.ended.medium;
           flushes = M.flushes medium;
         })
-        (D.drive device) result.ended.told.result result.ended.told.forgotten result.flushed
+        (D.drive device) result.ended.told.result result.ended.told.forgotten result.hardened
         (D.drive result.ended.device) }
     ensures tells { TellsSession job.now (drive_of (stopping job.now.stop (D.drive device)))
         result.ended.told.result (is_some result.ended.told.statistics) result.ended.told.disk }
 {
-    let flushes = medium.flushes();
     let mut ended = serve_device(alloc, job, device, medium, reader, writer);
-    let flushed = flush_if(alloc, flushes, &mut ended.device);
-    Flushed { ended, flushed }
+    let hardened = harden(alloc, &mut ended.device, &mut ended.medium);
+    Hardened { ended, hardened }
+}
+
+/// What is told of a session once its last replies were sent, if they could be.
+fn told_after<D: Device + Drop, M: Medium + Drop>(done: Hardened<D, M>, sent: bool) -> Served
+    ensures result { result.told.result ≡ sent_end done.ended.told.result sent }
+    ensures stopped { result.stopped ≡ (D.drive done.ended.device).stopped }
+    ensures hardened { result.hardened ≡ done.hardened }
+{
+    let Hardened { ended, hardened } = done;
+    let stopped = ended.device.stopped();
+    let told = SessionTold {
+        result: sent_end(ended.told.result, sent),
+        ..ended.told
+    };
+    Served {
+        told,
+        stopped,
+        hardened,
+    }
 }
 
 /// The same for a client that sends to `input` and gets what `output` takes, both through buffers.
@@ -105,10 +124,11 @@ pub fn serve_client<D: Device + Honest + Drop, M: Medium + Drop, R: Read + Drop,
     ) else {
         return Served {
             told: SessionTold::unserved(NbdFault::File(KeepFault::Memory)),
-            flushed: Ok(()),
+            stopped: false,
+            hardened: Ok(()),
         };
     };
-    let Flushed { ended, flushed } = serve_flushed(
+    let done = serve_hardened(
         alloc,
         job,
         device,
@@ -116,10 +136,5 @@ pub fn serve_client<D: Device + Honest + Drop, M: Medium + Drop, R: Read + Drop,
         &mut reader,
         &mut writer,
     );
-    let sent = are_sent(writer.flush());
-    let told = SessionTold {
-        result: sent_end(ended.told.result, sent),
-        ..ended.told
-    };
-    Served { told, flushed }
+    told_after(done, are_sent(writer.flush()))
 }

@@ -1,2 +1,3 @@
 mod MountLaws
 mod StoreLaws
+pub mod FormattingLaws

@@ -2,3 +2,4 @@ pub mod Mounted
 pub mod Saved
 pub mod FaultLine
 pub mod Asked
+pub mod Formatting

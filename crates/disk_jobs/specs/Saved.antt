@@ -16,7 +16,6 @@ use Rattle.zone_drive.specs.declared.habit.Habit.TheVariants.{Lazy}
 use Rattle.drive_array.specs.Reserve.{most_size}
 use Rattle.drive_survey.specs.declared.fault.MountFault.TheVariants as mounts
 use Rattle.disk_files.specs.Output.{AppendsFront}
-use Rattle.disk_files.specs.Reply.{ok_text}
 use Rattle.drive_journal.specs.File.{IsStored}
 use Rattle.drive_journal.specs.FileFaults.{IsFileFault}
 use Rattle.disk_runs.specs.RawLines.{raw}
@@ -85,13 +84,9 @@ FailsToWrite Before IsText (program.Run runs.Output) old new = (text : List ℕ)
 FailsToWrite Before IsText (program.Run runs.Memory) old new = new ≡ old
 FailsToWrite Before IsText fault old new = Before fault × (new ≡ old)
 
--- a drive that was just made is told
-abbrev pub IsOk : List ℕ → Type 0
-IsOk text = text ≡ ok_text
-
--- Why a job leaves no drive. A fault of the file comes before anything is written. Of `ok` a beginning may be written, and of a report one of it.
+-- Why a job leaves no drive. A fault of the file comes before anything is written. Of a report a beginning may be written.
 abbrev pub HasNoDrive : Job → Known → ProgramFault → Known → Known → Type 0
-HasNoDrive (jobs.Format path geometry force) file fault old new = FailsToWrite (IsNotFresh geometry) IsOk fault old new
+HasNoDrive (jobs.Format path geometry force) file fault old new = IsNotFresh geometry fault × (new ≡ old)
 HasNoDrive (jobs.Run path blocks zones statistics stop habit sync read_only progress) file fault old new = IsNotRead file fault × (new ≡ old)
 HasNoDrive (jobs.Report path) file fault old new = FailsToWrite (IsNotRead file) (IsSavedText file) fault old new
 HasNoDrive (jobs.Nvme path explain habit sync) file fault old new = IsNotRead file fault × (new ≡ old)
@@ -103,15 +98,10 @@ abbrev pub ShowsReport : Job → Known → Known → Known → Type 0
 ShowsReport (jobs.Report path) file old new = WritesText (IsSavedText file) old new
 ShowsReport job file old new = ⊥
 
--- what is written before the lines: a drive that was just made is told
-abbrev pub SaysFirst : Job → Known → Known → Type 0
-SaysFirst (jobs.Format path geometry force) old new = Appends old new ok_text
-SaysFirst job old new = new ≡ old
-
 -- a job has this drive before its lines; a report has none, and is done
 abbrev pub HasDrive : Job → Known → Option Begun → Known → Known → Type 0
 HasDrive job file None old new = ShowsReport job file old new
-HasDrive job file (Some begun) old new = BeginsOn job file begun × SaysFirst job old new
+HasDrive job file (Some begun) old new = BeginsOn job file begun × (new ≡ old)
 
 -- ---- what the lines make of it
 
@@ -224,9 +214,7 @@ pub record LeftByLines (job : Job) (file : Known) (bytes : Exchange) (ended : Re
   pub first : Begun
   pub begins : BeginsOn job file first
   pub was_image : answered.left.was_image ≡ first.is_image
-  pub told : Known
-  pub says : SaysFirst job bytes.written told
-  pub leaves : LeavesDrive job (record bytes { written = told }) first.drive.state ended answered before held failed
+  pub leaves : LeavesDrive job bytes first.drive.state ended answered before held failed
 
 -- ---- the file
 
@@ -234,8 +222,3 @@ pub record LeftByLines (job : Job) (file : Known) (bytes : Exchange) (ended : Re
 abbrev pub left_to_save : Job → Option Answered → Option Left
 left_to_save job None = None
 left_to_save job (Some answered) = if reads_only job then None else Some answered.left
-
--- a fresh drive is saved only if its `ok` was sent
-abbrev pub fresh_to_save : Result (Unit {0}) ProgramFault → Option Answered → Option MemoryDrive
-fresh_to_save (Ok sent) (Some answered) = Some answered.left.drive
-fresh_to_save sent answered = None

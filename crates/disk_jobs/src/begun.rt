@@ -1,16 +1,13 @@
 // The drive that a job begins with: a fresh one, or the one in a file.
 
 ghost use Rattle.std.specs.Prelude.{◌≡◌, IfErr, IfOk, OnOk, true};
-ghost use Rattle.std.specs.Io.KnownBytes.{Appends};
-ghost use Rattle.zone_drive.specs.declared.habit.Habit.TheVariants.{Lazy};
-ghost use Rattle.disk_files.specs.Reply.{ok_text};
-ghost use Rattle.disk_jobs.specs.Saved.{FailsToWrite, HasDrive, HasNoDrive, IsNotFresh, IsNotRead, IsOk, IsSavedText};
+ghost use Rattle.disk_jobs.specs.Saved.{FailsToWrite, HasDrive, HasNoDrive, IsNotFresh, IsNotRead, IsSavedText};
 ghost use Rattle.disk_jobs.specs.Saved.{ThenShows, WritesText, fresh_drive};
 ghost use Rattle.disk_jobs.specs.declared.fault.ProgramFault.TheVariants as program;
 
 use crate::fault::ProgramFault;
 use crate::job::Job;
-use disk_files::{ok_reply, write_out};
+use disk_files::write_out;
 use disk_runs::RunFault;
 use drive_port::Device;
 use job_drives::{Begun, restarted_drive, saved_drive};
@@ -21,7 +18,12 @@ use zone_drive::{Drive, DriveFault, Habit};
 use zone_report::{report_bytes, report_text};
 use zone_states::Geometry;
 
-fn fresh_drive(alloc: Global, geometry: Geometry, habit: Habit) -> Result<Drive, RunFault>
+/// A drive in which nothing is written.
+pub(crate) fn fresh_drive(
+    alloc: Global,
+    geometry: Geometry,
+    habit: Habit,
+) -> Result<Drive, RunFault>
     ensures ok { IfOk result (λ drive. drive ≡ fresh_drive geometry habit) }
     ensures err { IfErr result (λ fault. IsNotFresh geometry (program.Run fault)) }
 {
@@ -63,24 +65,6 @@ pub(crate) fn show_zones<W: Write>(
     Ok(())
 }
 
-/// Makes a fresh drive, and says so.
-fn format<W: Write>(
-    alloc: Global,
-    geometry: Geometry,
-    output: &mut W,
-) -> Result<Drive, ProgramFault>
-    ensures ok { IfOk result (λ drive. drive ≡ fresh_drive geometry Lazy) }
-    ensures says { OnOk result (Appends (W.contents output.old) (W.contents output.new) ok_text) }
-    ensures err { IfErr result (λ fault. FailsToWrite (IsNotFresh geometry) IsOk fault
-        (W.contents output.old) (W.contents output.new)) }
-{
-    let drive = fresh_drive(alloc, geometry, Habit::Lazy)?;
-    let mut reply = Vec::new(alloc);
-    ok_reply(&mut reply)?;
-    write_out(output, &reply)?;
-    Ok(drive)
-}
-
 /// Shows the zones of a drive as it was saved.
 fn report<I: Read, W: Write>(
     alloc: Global,
@@ -110,7 +94,11 @@ pub(crate) fn begin<I: Read, W: Write>(
         (W.contents output.old) (W.contents output.new)) }
 {
     match job {
-        Job::Format { geometry, .. } => Ok(Some(Begun::fresh(format(alloc, *geometry, output)?))),
+        Job::Format { geometry, .. } => Ok(Some(Begun::fresh(fresh_drive(
+            alloc,
+            *geometry,
+            Habit::Lazy,
+        )?))),
         Job::Run { habit, .. } | Job::Nvme { habit, .. } => {
             Ok(Some(restarted_drive(alloc, file, *habit)?))
         }

@@ -5,8 +5,10 @@ use crate::line_problem::{LineProblem, raw_problem, trace_problem};
 use crate::mounting::Mounting;
 use disk_files::LONGEST_LINE;
 use disk_runs::RunFault;
+use job_drives::unread_note;
 use std::alloc::{AllocError, Global};
 use std::io::Read;
+use zone_states::{Geometry, GeometryFault};
 use zone_translator::{DiskFault, MountFault};
 
 /// What the lines of a job are, as far as that explains a fault of them.
@@ -151,9 +153,28 @@ pub fn explain_lines<R: Read + Drop>(
         ProgramFault::Reserve { most } => {
             format!(in alloc; "the drive has room for 1 to {most} logical blocks")
         }
-        ProgramFault::Image(fault) => format!(in alloc; "{path}: {fault}"),
+        ProgramFault::Image(fault) => {
+            let note = unread_note(fault);
+            format!(in alloc; "{path}: {fault}{note}")
+        }
         ProgramFault::File(fault) => format!(in alloc; "{path} {fault}"),
+        ProgramFault::Holds(holding) => {
+            format!(in alloc; "{path}: {holding}. format --force destroys that")
+        }
     }
+}
+
+/// One line for people that says why a new drive cannot have a shape, without a line feed.
+pub fn explain_geometry(
+    alloc: Global,
+    geometry: Geometry,
+    fault: GeometryFault,
+) -> Result<String, AllocError> {
+    let Geometry { active, open, .. } = geometry;
+    if fault == GeometryFault::Open && open > active {
+        return format!(in alloc; "--open {open} is above --active {active}");
+    }
+    format!(in alloc; "{fault}")
 }
 
 /// The same for the lines of a job.
@@ -164,6 +185,11 @@ pub fn explain<R: Read + Drop>(
     input: &mut JobInput<'_, R>,
     mounting: Mounting,
 ) -> Result<String, AllocError> {
+    if let ProgramFault::Run(RunFault::Geometry(cause)) = fault
+        && let Some(geometry) = job.geometry()
+    {
+        return explain_geometry(alloc, geometry, cause);
+    }
     let path = job.image().unwrap_or("the file");
     explain_lines(alloc, path, AskedLines::of(job), fault, input, mounting)
 }

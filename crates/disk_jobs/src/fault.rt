@@ -4,6 +4,7 @@ ghost use Rattle.disk_runs.specs.declared.fault.RunFault.TheVariants.{Memory, Ou
 ghost use Rattle.disk_jobs.specs.FaultLine.{IsUnwritten, program_text, read_fault_text};
 ghost use Rattle.disk_jobs.specs.declared.fault.ProgramFault.TheVariants as program;
 
+use crate::holding::FileHolding;
 use disk_files::{WriteFault, write_out};
 use disk_runs::{RunFault, write_fault};
 use drive_images::{ImageFault, image_fault_line};
@@ -30,6 +31,9 @@ pub enum ProgramFault {
     /// The file of the image is not used, or the drive is not saved in it.
     #[error("File")]
     File(FileFault),
+    /// The file holds what a format would destroy, and that was not forced.
+    #[error("Holds")]
+    Holds(FileHolding),
 }
 
 impl From<RunFault> for ProgramFault {
@@ -95,6 +99,7 @@ pub fn write_program_fault<W: Write>(
         ProgramFault::Reserve { .. } => write_fault(alloc, RESERVE, output)?,
         ProgramFault::Image(fault) => write_out(output, &read_fault_line(alloc, fault)?)?,
         ProgramFault::File(_) => write_out(output, b"fault file\n")?,
+        ProgramFault::Holds(_) => write_out(output, b"fault file\n")?,
     }
     Ok(())
 }

@@ -1,24 +1,31 @@
+ghost use Rattle.std.specs.Prelude.{◌≡◌, ◌⊎◌};
+ghost use Rattle.disk_runs.specs.declared.fault.RunFault.TheVariants as runs;
+ghost use Rattle.disk_jobs.specs.declared.fault.ProgramFault.TheVariants as program;
+
+use crate::begun::fresh_drive;
 use crate::fault::ProgramFault;
+use crate::formatting::format_file;
 use crate::input::JobInput;
 use crate::job::Job;
 use crate::lines::Answered;
 use crate::mounting::Mounting;
 use crate::program::run_job;
-use crate::saving::{Access, file_access, fresh_to_save, left_to_save, sent_after};
+use crate::saving::{Access, file_access, left_to_save, sent_after};
 use crate::sending::{Ran, run_sending, send};
 use disk_files::LineReader;
 use disk_runs::RunFault;
 use drive_journal::Unknown;
 use job_drives::{
-    ChangesFile, ChangesOutput, DriveFile, FileFault, Finished, ImageFile, Saved, Saving, finish,
-    first_told, image_to_read, image_to_save, open_to_format, save,
+    ChangesFile, ChangesOutput, DriveFile, FileFault, Finished, ImageFile, LockedFile, Saved,
+    Saving, finish, first_told, image_to_format, image_to_read, image_to_save,
 };
 use std::alloc::Global;
 use std::fs::File;
 use std::io;
 use std::io::{BufReader, Read, Write};
 use std::rt::Files;
-use zone_drive::Drive;
+use zone_drive::{Drive, Habit};
+use zone_states::Geometry;
 
 /// How a job ended, and how its drive was saved. Both can fail.
 #[derive(Clone, Copy, Debug, PartialEq, Eq)]
@@ -59,7 +66,9 @@ fn mounting(answered: &Option<Answered>) -> Mounting {
 }
 
 /// What a fault of a file is to the program: that memory ran out is told as in a run.
-fn file_told(fault: FileFault) -> ProgramFault {
+pub(crate) fn file_told(fault: FileFault) -> ProgramFault
+    ensures { (result ≡ program.Run runs.Memory) ⊎ (result ≡ program.File fault) }
+{
     if fault.is_memory() {
         return ProgramFault::Run(RunFault::Memory);
     }
@@ -135,38 +144,48 @@ fn run_with_changes<F: Files<File = File>, R: Read + Drop, W: Write>(
     }
 }
 
-/// Opens the file of a fresh drive, and saves the drive in it. A file that was made for it is removed after a fault.
-fn save_fresh<F: Files<File = File>>(
+/// Opens the file of a fresh drive, or makes it, and saves the drive there. A file that was made for it is removed
+/// after a fault.
+fn save_fresh<F: Files<File = File>, W: Write>(
     saving: &Saving<'_, F>,
     path: &str,
     force: bool,
     drive: &Drive,
-) -> Result<Saved, FileFault> {
-    let image = open_to_format(saving.files, saving.alloc, path, force)?;
-    let saved = save(saving, drive, &image);
-    if saved.is_err() {
-        image.discard(saving.files);
+    output: &mut W,
+) -> Result<Saved, ProgramFault> {
+    let opened = image_to_format(saving.files, saving.alloc, path, force);
+    let (image, mut bytes) = opened.map_err(file_told)?;
+    let mut file = LockedFile::new(saving, image);
+    let formatted = format_file(saving.alloc, force, drive, &mut bytes, &mut file, output);
+    if formatted.is_err() {
+        file.discard();
     }
-    saved
+    formatted
 }
 
-/// Makes a fresh drive, says `ok`, and saves the drive. The file is opened after the `ok`, so its faults follow it.
-fn format<F: Files<File = File>, R: Read + Drop, W: Write>(
+/// Makes a fresh drive in the file of a path, and then says `ok`.
+fn format<F: Files<File = File>, W: Write>(
     saving: &Saving<'_, F>,
-    job: &Job,
-    input: &mut JobInput<'_, R>,
+    path: &str,
+    force: bool,
+    geometry: Geometry,
     output: &mut W,
-) -> LinesDone {
-    let (answered, sent) = run_without_file(saving.alloc, job, &mut input.lines, output);
-    let drive = fresh_to_save(sent, answered);
-    let (Job::Format { image, force, .. }, Some(drive)) = (job, &drive) else {
-        return LinesDone::unsaved(sent);
-    };
-    let saved = save_fresh(saving, image, *force, drive);
-    LinesDone {
-        job: sent,
-        saved: saved.map_err(file_told),
-        mounting: Mounting::NONE,
+) -> Result<Saved, ProgramFault> {
+    let drive = fresh_drive(saving.alloc, geometry, Habit::Lazy)?;
+    let saved = save_fresh(saving, path, force, &drive, output)?;
+    send(output)?;
+    Ok(saved)
+}
+
+/// How a format ended.
+fn formatted(done: Result<Saved, ProgramFault>) -> LinesDone {
+    match done {
+        Ok(saved) => LinesDone {
+            job: Ok(()),
+            saved: Ok(saved),
+            mounting: Mounting::NONE,
+        },
+        Err(fault) => LinesDone::unsaved(Err(fault)),
     }
 }
 
@@ -190,8 +209,13 @@ pub fn do_job<F: Files<File = File>, R: Read + Drop, W: Write>(
         };
     };
     let saving = Saving { files, alloc };
-    if let Job::Format { .. } = job {
-        return format(&saving, job, input, output);
+    if let Job::Format {
+        geometry,
+        force,
+        ..
+    } = job
+    {
+        return formatted(format(&saving, path, *force, *geometry, output));
     }
     match open_image(files, alloc, job, path) {
         Ok(opened) => run_with_changes(&saving, job, opened, input, output),

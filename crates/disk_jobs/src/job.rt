@@ -133,6 +133,16 @@ impl Job {
         }
     }
 
+    /// The shape of the drive that the job makes, if it makes one.
+    pub fn geometry(&self) -> Option<Geometry> {
+        match self {
+            Job::Format { geometry, .. }
+            | Job::Fresh { geometry, .. }
+            | Job::FreshRaw { geometry, .. } => Some(*geometry),
+            _ => None,
+        }
+    }
+
     /// The path of the image file, if the job has one.
     pub fn image(&self) -> Option<&str>
         ensures path { IfSome result (λ path. image_asked self.now ≡ Some path.now) }

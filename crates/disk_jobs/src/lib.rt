@@ -40,17 +40,24 @@
 //!   why: the geometry or the bytes of the file have it, the writer failed, or memory ran out. Nothing is written
 //!   before a fault of the file (`HasNoDrive`). A report shows the zones as they were saved, without a restart
 //!   (`ShowsReport`).
-//! * The output is `ok` of `format`, then the replies, and after a completed run the zones, if they are asked for.
-//!   With `--statistics` some text is between, and all else is as without it (`SaysFirst`, `ThenShows`,
-//!   `RunsCounted`).
-//! * What is saved in a file is the drive of the job, also after a fault, unless the job only reads; a fresh drive
-//!   only if its `ok` was sent. Nothing is saved if a change could not be written (`left_to_save`, `fresh_to_save`).
-//! * [`write_program_fault`] writes the line of each fault, or a beginning of it (`specs/FaultLine.antt`).
+//! * The output is the replies, and after a completed run the zones, if they are asked for. With `--statistics` some
+//!   text is between, and all else is as without it (`ThenShows`, `RunsCounted`).
+//! * What is saved in a file is the drive of the job, also after a fault, unless the job only reads. Nothing is saved
+//!   if a change could not be written (`left_to_save`).
+//!
+//! Of [`format_file`], over every file (`specs/Formatting.antt`):
+//!
+//! * Without force a file is replaced only if it has no byte, or if its drive has no zone that is not Empty once it is
+//!   restarted. Any other stays as it is, whatever is answered, and is told by what it holds (`MayReplace`, `IsHeld`).
+//! * `ok` is written last: the file then has the fresh drive, and its name (`EndsFormat`).
+//!
+//! Of each fault: [`write_program_fault`] writes its line, or a beginning of it (`specs/FaultLine.antt`).
 //!
 //! # What is not proved
 //!
 //! * [`do_job`]: that the file of the path takes the changes, gets the image of that drive, and keeps what it holds if
-//!   the save fails. std's `Files` says nothing of what a path holds.
+//!   the save fails; that a format looks at the bytes of the file that it replaces. std's `Files` says nothing of what
+//!   a path holds.
 //! * The lock, held from before the image is read until the drive is saved; that a save keeps mode, owner, symbolic
 //!   link, and every other file; that a file which failed says so, and keeps the first changes (`tools/two_programs`).
 //! * When replies are sent, and that the changes before them are in the file by then (`tools/kill_runs`).
@@ -70,6 +77,8 @@ mod begun;
 mod explanation;
 mod fault;
 mod file;
+mod formatting;
+mod holding;
 mod input;
 mod job;
 mod line_count;
@@ -84,9 +93,11 @@ mod statistics;
 mod status_words;
 mod watched;
 
-pub use explanation::{AskedLines, explain, explain_lines, place};
+pub use explanation::{AskedLines, explain, explain_geometry, explain_lines, place};
 pub use fault::{ProgramFault, write_program_fault};
 pub use file::{LinesDone, do_job};
+pub use formatting::format_file;
+pub use holding::FileHolding;
 pub use input::JobInput;
 pub use job::Job;
 pub use job_drives::{DiskSize, DriveFile, FileFault, Gate, Saved, Stop, SystemError};
@@ -97,5 +108,5 @@ pub use notes::{restored_note, size_notes};
 pub use program::{run_job, run_told};
 pub use statistics::run_counted;
 pub use status_words::Explained;
-pub use watched::{Counted, Watched};
+pub use watched::{Counted, Watched, is_terminal};
 pub use zone_drive::Habit;

@@ -1,12 +1,10 @@
 ghost use Rattle.std.specs.Prelude.{◌≡◌};
 ghost use Rattle.disk_jobs.specs.Asked.{file_access, sent_after};
-ghost use Rattle.disk_jobs.specs.Saved.{fresh_to_save, left_to_save};
+ghost use Rattle.disk_jobs.specs.Saved.{left_to_save};
 
-use crate::fault::ProgramFault;
 use crate::job::Job;
 use crate::lines::Answered;
 use job_drives::{Left, SentAfter};
-use zone_drive::Drive;
 
 /// How the file of a drive is opened.
 #[derive(Clone, Copy, Debug, PartialEq, Eq)]
@@ -49,19 +47,4 @@ pub(crate) fn left_to_save(job: &Job, answered: Option<Answered>) -> Option<Left
         return None;
     }
     Some(answered.left)
-}
-
-/// The fresh drive that a job hands over to be saved. If its reply `ok` could not be sent, there
-/// is none.
-pub(crate) fn fresh_to_save(
-    sent: Result<(), ProgramFault>,
-    answered: Option<Answered>,
-) -> Option<Drive>
-    ensures { result ≡ fresh_to_save sent answered }
-{
-    if sent.is_err() {
-        return None;
-    }
-    let answered = answered?;
-    Some(answered.left.drive)
 }

@@ -4,3 +4,4 @@ pub mod CountLaws
 pub mod HoldLaws
 pub mod WorkLaws
 pub mod InspectLaws
+pub mod WrittenLaws

@@ -3,3 +3,4 @@ pub mod Lists
 pub mod Findings
 pub mod Found
 pub mod Info
+pub mod Written

@@ -43,7 +43,12 @@
 //! * `inspect_and_rehearse` does both (`IsInspected`), and drops the drive. The commands that it counts are as many as
 //!   the mount completes, whether it is done or refused.
 //!
-//! Of a check and of an inspection:
+//! Of what a format would destroy (`specs/Written.antt`):
+//!
+//! * [`find_written`] tells how many zones are not Empty, and what they hold (`IsWritten`). It tells nothing exactly
+//!   where each zone is Empty.
+//!
+//! Of all these:
 //!
 //! * No command was refused and nothing was appended. The zones are as before, but that the controller may have closed
 //!   some (`KeepsZones` in drive_survey/specs/Reported). Each ends early only by a stop or a failed allocation.
@@ -74,6 +79,7 @@ mod lists;
 mod reading;
 mod rehearsing;
 mod work;
+mod written;
 
 pub use checking::check_drive;
 pub use finding::{Findings, PastEnd, Repeat, ZoneFault};
@@ -84,3 +90,6 @@ pub use info::{
 };
 pub use inspecting::inspect_drive;
 pub use rehearsing::{inspect_and_rehearse, rehearse_mount};
+pub use written::{
+    Holding, Written, blocks_taken, count_written, find_written, holding_of, is_written,
+};

@@ -55,7 +55,7 @@ pub enum FileFault {
     #[error("is in use by another program")]
     InUse,
     /// Its folder cannot be synchronized, so no save of it would be durable. Nothing was read or changed.
-    #[error("is not opened, since its folder cannot be synchronized: {0}")]
+    #[error("is not opened, since its folder is missing or cannot be synchronized: {0}")]
     Folder(SystemError),
     /// A change cannot be written to it. It has all changes before that one.
     #[error("takes no more changes: {0}")]

@@ -11,7 +11,7 @@ use crate::new_file::sync_name;
 use drive_images::{ImageFault, read_image};
 use std::alloc::Global;
 use std::fs::{File, Metadata, OpenOptions, TryLockError};
-use std::io::{BufReader, ErrorKind, Read};
+use std::io::{BufReader, ErrorKind, Read, Seek, SeekFrom};
 use std::os::unix::fs::MetadataExt;
 use std::rt::Files;
 use std::{fs, io};
@@ -194,13 +194,14 @@ pub fn new_image<F: Files<File = File>>(
 fn begins_as_image(alloc: Global, mut file: &File) -> io::Result<bool> {
     let mut head = [0; 64];
     file.read(&mut head)?;
+    file.seek(SeekFrom::Start(0))?;
     let read = read_image(alloc, &mut head.as_slice());
     Ok(!matches!(read, Err(ImageFault::Magic)))
 }
 
-/// Opens the file in which a fresh drive will be saved, or makes it. What it holds will be lost.
-/// So without `force` it has to be empty, or to begin as an image does.
-pub fn open_to_format<F: Files<File = File>>(
+/// Opens the file in which a fresh drive will be saved, or makes it. Without `force` it has to be empty, or to begin as
+/// an image does.
+fn open_to_format<F: Files<File = File>>(
     files: &F,
     alloc: Global,
     path: &str,
@@ -218,6 +219,19 @@ pub fn open_to_format<F: Files<File = File>>(
         return Err(FileFault::NotImage);
     }
     Ok(image)
+}
+
+/// The file in which a fresh drive will be saved, opened or made, and its bytes. What it holds will be lost. Without
+/// `force` it has to be empty, or to begin as an image does.
+pub fn image_to_format<F: Files<File = File>>(
+    files: &F,
+    alloc: Global,
+    path: &str,
+    force: bool,
+) -> Result<(ImageFile, BufReader<File>), FileFault> {
+    let image = open_to_format(files, alloc, path, force)?;
+    let bytes = reader_of(alloc, &image.file)?;
+    Ok((image, bytes))
 }
 
 impl ImageFile {

@@ -2,6 +2,7 @@ ghost use Rattle.std.specs.Prelude.{◌≡◌};
 ghost use Rattle.job_drives.specs.declared.keep_fault.KeepFault.TheVariants.{Image};
 
 use crate::file_fault::FileFault;
+use drive_images::ImageFault;
 use drive_journal::ReadFault;
 use std::alloc::{AllocError, Global};
 use thiserror::Error;
@@ -38,11 +39,24 @@ impl From<FileFault> for KeepFault {
     }
 }
 
+/// What else people should know of a file in which no drive is read, by the fault of its bytes.
+pub fn unread_note(fault: ReadFault) -> &'static str {
+    match fault {
+        ReadFault::Image(ImageFault::Magic) => {
+            ". If a format --in-place or a convert was killed while it made this file, it holds nothing: remove it"
+        }
+        _ => "",
+    }
+}
+
 impl KeepFault {
     /// One line for people that says what the fault is, of the file of this path, without a line feed.
     pub fn explain(self, alloc: Global, path: &str) -> Result<String, AllocError> {
         match self {
-            KeepFault::Image(fault) => format!(in alloc; "{path}: {fault}"),
+            KeepFault::Image(fault) => {
+                let note = unread_note(fault);
+                format!(in alloc; "{path}: {fault}{note}")
+            }
             KeepFault::File(fault) => format!(in alloc; "{path} {fault}"),
             KeepFault::Memory => String::from_str(alloc, "out of memory"),
         }

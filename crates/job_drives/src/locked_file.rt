@@ -35,6 +35,11 @@ impl<'a, F: Files<File = File>> LockedFile<'a, F> {
         }
     }
 
+    /// Removes the file if this program made it, and saved nothing in it.
+    pub fn discard(self) {
+        self.image.discard(self.saving.files);
+    }
+
     /// Goes to its end.
     fn go_to_end(&mut self) -> Result<(), SystemError>
         ensures { self.new.is_named ≡ self.old.is_named }

@@ -1,8 +1,6 @@
 // What the drive in a file holds, and what a mount of it takes.
 
-ghost use Rattle.std.specs.Prelude.{◌≡◌, IfErr, IfOk, OnOk};
-ghost use Rattle.zone_states.specs.Geometry.{IsInRange};
-ghost use Rattle.drive_array.specs.Reserve.{most_size};
+ghost use Rattle.std.specs.Prelude.{IfErr, IfOk, OnOk};
 ghost use Rattle.tool_jobs.specs.Checks.{AsksNone};
 ghost use Rattle.tool_jobs.specs.Infos.{FindsInfo};
 ghost use Rattle.tool_jobs.specs.Telling.{TellsFound, TellsNothing};
@@ -11,15 +9,13 @@ use crate::checking::interrupted;
 use crate::fault::ToolFault;
 use crate::form::{Form, as_line};
 use crate::telling::tell;
-use drive_array::most_blocks;
-use drive_inspection::{DriveInfo, InspectedDrive, inspect_and_rehearse};
+use drive_inspection::{DriveInfo, InspectedDrive, blocks_taken, inspect_and_rehearse};
 use drive_port::Device;
 use job_drives::restarted_drive;
 use std::alloc::{AllocError, Global};
 use std::io::{Read, Write};
 use tool_forms::{info_json, info_text, unmounted_json, unmounted_text};
 use zone_drive::Habit;
-use zone_states::Geometry;
 
 /// How what is found of a drive is shown.
 #[derive(Clone, Copy, Debug, PartialEq, Eq)]
@@ -54,16 +50,6 @@ impl Form<DriveInfo> for InfoForm {
             InfoForm::Json => as_line(unmounted_json(alloc, found)?),
         }
     }
-}
-
-/// How many logical blocks a drive is taken to have that does not say it: as many as it can serve.
-pub fn blocks_taken(geometry: &Geometry) -> u64
-    ensures { IsInRange geometry.now → result ≡ most_size geometry.now }
-{
-    if geometry.check().is_err() {
-        return 1;
-    }
-    most_blocks(geometry)
 }
 
 /// What the drive holds that is restarted from the bytes of a file.

@@ -65,7 +65,7 @@ pub use fault::ToolFault;
 pub use file::do_tool_job;
 pub use form::Form;
 pub use images::{drive_in_image, make_image};
-pub use informing::{InfoForm, answer_info, blocks_taken};
+pub use informing::{InfoForm, answer_info};
 pub use job::{CheckJob, InfoJob, PlanJob, PlannedDrive, ToolJob, ZonesJob};
 pub use notes::tool_note;
 pub use picturing::{Picture, PicturedDrive, answer_picture, find_live};

@@ -3,14 +3,17 @@
 use device_jobs::{DeviceFault, DeviceJob, NoDevices, StartCommand};
 use disk_jobs::SystemError;
 use std::alloc::Global;
+use std::fs::File;
 use std::io;
 use std::process::ExitCode;
+use std::rt::Files;
 use std::test::Fail;
+use std::time::Clock;
 use zone_states::GeometryFault;
 use zonedisk_program::do_device;
 
 /// A format of a device, in a program that has no way to any.
-fn show_no_way<R: Eprint + Input + Print>(rt: &R, alloc: Global) -> Result<(), Fail> {
+fn show_no_way<R: Clock + Eprint + Files<File = File> + Input + Print>(rt: &R, alloc: Global) -> Result<(), Fail> {
     let job = DeviceJob::Format {
         device: String::from_str(alloc, "/dev/ng0n1")?,
         force: true,
@@ -23,7 +26,7 @@ fn show_no_way<R: Eprint + Input + Print>(rt: &R, alloc: Global) -> Result<(), F
 }
 
 /// Shows each reason.
-pub fn show_faults<R: Eprint + Input + Print>(rt: &R, alloc: Global) -> Result<(), Fail> {
+pub fn show_faults<R: Clock + Eprint + Files<File = File> + Input + Print>(rt: &R, alloc: Global) -> Result<(), Fail> {
     for fault in [
         DeviceFault::NoWay,
         DeviceFault::Unopened(SystemError::from(io::Error::from_raw_os_error(13))),

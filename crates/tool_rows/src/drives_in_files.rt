@@ -9,6 +9,7 @@ use std::fs::File;
 use std::process::ExitCode;
 use std::rt::Files;
 use std::test::Fail;
+use std::time::Clock;
 use zonedisk_program::{do_task, task_of};
 
 /// Drives in memory stand for the drives in these files. `other` begins with another version, and `made` is an image
@@ -36,7 +37,7 @@ const LINES: [&str; 18] = [
 ];
 
 /// Does what a line asks for. No device is reached.
-fn show_task<R: Eprint + Files<File = File> + Input + Print, F: Devices>(
+fn show_task<R: Clock + Eprint + Files<File = File> + Input + Print, F: Devices>(
     rt: &R,
     alloc: Global,
     line: &str,
@@ -54,7 +55,7 @@ fn show_task<R: Eprint + Files<File = File> + Input + Print, F: Devices>(
 }
 
 /// Shows how each task ends in a program without a way to such drives, and in one with a way.
-pub fn show_in_place<R: Eprint + Files<File = File> + Input + Print>(
+pub fn show_in_place<R: Clock + Eprint + Files<File = File> + Input + Print>(
     rt: &R,
     alloc: Global,
 ) -> Result<(), Fail> {

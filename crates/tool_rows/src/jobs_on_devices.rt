@@ -11,10 +11,11 @@ use std::fs::File;
 use std::process::ExitCode;
 use std::rt::Files;
 use std::test::Fail;
+use std::time::Clock;
 use zonedisk_program::{Task, do_device, task_of};
 
 /// Does a job on a device, with the lines that it takes.
-fn show_job<R: Eprint + Input + Print>(
+fn show_job<R: Clock + Eprint + Files<File = File> + Input + Print>(
     rt: &R,
     alloc: Global,
     job: &DeviceJob,
@@ -50,7 +51,7 @@ fn show_refusal<R: Print>(rt: &R, alloc: Global, error: clap::Error) -> Result<(
 }
 
 /// Shows what words ask for.
-fn show_words<R: Eprint + Input + Print>(
+fn show_words<R: Clock + Eprint + Files<File = File> + Input + Print>(
     rt: &R,
     alloc: Global,
     line: &str,
@@ -68,7 +69,7 @@ fn show_words<R: Eprint + Input + Print>(
 }
 
 /// Does the jobs that the lines ask for, and shows what became of them.
-pub fn show_jobs<R: Eprint + Files<File = File> + Input + Print>(
+pub fn show_jobs<R: Clock + Eprint + Files<File = File> + Input + Print>(
     rt: &R,
     alloc: Global,
     text: &str,

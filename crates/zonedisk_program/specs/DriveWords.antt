@@ -1,5 +1,5 @@
 -- The jobs whose drive is in a file, or behind a device.
-use Rattle.std.specs.Prelude.{◌≡◌, ℕ, true, false, List, [], ◌∷◌, Option, Some, None, codes, min, string_bytes}
+use Rattle.std.specs.Prelude.{◌≡◌, ◌&&◌, ℕ, true, false, List, [], ◌∷◌, Option, Some, None, codes, min, string_bytes}
 use Rattle.clap.specs.Words.{Row, Text, first_of}
 use Rattle.disk_copies.specs.declared.job.CopyJob.{CopyJob}
 use Rattle.disk_copies.specs.declared.job.CopyJob.TheVariants as copies
@@ -42,6 +42,8 @@ pub record AsksForNbd (place : Place) (rows : List Row) (job : NbdJob) : Type 0 
   pub statistics : HasFlag rows (codes "statistics") job.statistics
   pub idle : HasFlag rows (codes "idle") job.idle
   pub read_only : HasFlag rows (codes "read-only") job.read_only
+  -- a drive that is only read takes no turn of cleaning
+  pub rests : (is_set rows (codes "idle") && is_set rows (codes "read-only")) ≡ false
 
 -- what a copy of blocks holds is what its options were given
 abbrev pub AsksForCopy : Place → Text → List Row → CopyJob → Type 0

@@ -1,8 +1,14 @@
 -- How the program ends.
-use Rattle.std.specs.Prelude.{◌≡◌, Bool, true, false, Option, Some, None, ⊤}
+use Rattle.std.specs.Prelude.{◌≡◌, ◌⊎◌, Bool, true, false, Option, Some, None, Result, Ok, codes, ⊤}
+use Rattle.std.specs.Io.KnownBytes.{Appends}
 use Rattle.std.specs.Process.{exit_status}
 use Rattle.zonedisk_program.specs.declared.task.Task.{Task}
 use Rattle.zonedisk_program.specs.declared.task.Task.TheVariants.{Convert, Device}
+use Rattle.disk_files.specs.Output.{AppendsFront}
+use Rattle.disk_runs.specs.Run.{Known}
+use Rattle.nbd_jobs.specs.declared.fault.NbdFault.{NbdFault}
+use Rattle.job_drives.specs.declared.new_file.Saved.{Saved}
+use Rattle.device_jobs.specs.declared.hardening.HardenFault.{HardenFault}
 use Rattle.device_jobs.specs.declared.job.DeviceJob.{DeviceJob}
 use Rattle.device_jobs.specs.declared.job.DeviceJob.TheVariants.{Create}
 use Rattle.std.specs.declared.process.ExitCode.{ExitCode}
@@ -56,3 +62,22 @@ EndsInPlace ways task ended = EndsJob ways (counterpart task) ended
 abbrev pub EndsAsked : Bool → Ways → Task → ExitCode → Type 0
 EndsAsked true ways task ended = EndsInPlace ways task ended
 EndsAsked false ways task ended = EndsTask ways task ended
+
+-- ---- how a job on a device ends
+
+-- A job that shows its faults by lines: one that is not done has shown its own. Where only the sync at its end failed, the line of a device is shown.
+abbrev pub EndsLines : Bool → Bool → Known → ExitCode → Known → Type 0
+EndsLines true true written ended contents = (exit_status ended ≡ 0) × (contents ≡ written)
+EndsLines true false written ended contents =
+    (exit_status ended ≡ 1) × (Appends written contents (codes "fault device\n") ⊎ AppendsFront written contents (codes "fault device\n"))
+EndsLines false synced written ended contents = (exit_status ended ≡ 1) × (contents ≡ written)
+
+-- A session that ended by a fault, or whose drive had stopped by itself, or after which something may not be durable, ends with the status 1.
+abbrev pub EndsServed : Result (Unit {0}) NbdFault → Bool → Result (Unit {0}) HardenFault → ExitCode → Type 0
+EndsServed (Ok done) false (Ok hardened) ended = ⊤
+EndsServed told stopped hardened ended = exit_status ended ≡ 1
+
+-- The same of one that ended by a fault, or whose drive is not saved in its image.
+abbrev pub EndsSaved : Result (Unit {0}) NbdFault → Result Saved NbdFault → ExitCode → Type 0
+EndsSaved (Ok done) (Ok saved) ended = ⊤
+EndsSaved told saved ended = exit_status ended ≡ 1

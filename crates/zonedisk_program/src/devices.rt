@@ -4,8 +4,9 @@ ghost use Rattle.std.specs.Prelude.{◌≡◌, ◌⊎◌, codes, false};
 ghost use Rattle.std.specs.Io.KnownBytes.{Appends};
 ghost use Rattle.std.specs.Process.{exit_status};
 ghost use Rattle.disk_files.specs.Output.{AppendsFront};
+ghost use Rattle.zonedisk_program.specs.Ends.{EndsLines, EndsServed};
 
-use crate::files::{counted, fail, tell_session, tell_size};
+use crate::files::{counted, fail, tell_imported, tell_session, tell_size, tell_terminal};
 use device_jobs::{
     DeviceFault, DeviceJob, DeviceRun, Devices, FormatFault, NamedDrive, OpenDevice, SendFault,
     Served, answer_report, check_device, explain_run, explain_sent, export_device, format_device,
@@ -23,9 +24,11 @@ use nbd_jobs::NbdJob;
 use nbd_session::{Medium, WriteThrough};
 use nvme_wire::ZoneState;
 use std::alloc::Global;
-use std::io;
 use std::io::Write;
 use std::process::ExitCode;
+use std::rt::Files;
+use std::time::Clock;
+use std::{fs, io};
 use tool_jobs::{CheckJob, InfoJob, PlanForm, ToolFault, ZonesJob};
 use write_plan::Aim;
 
@@ -59,26 +62,41 @@ fn send<W: Write>(output: &mut W) -> Result<(), ProgramFault> {
 }
 
 /// Says that what a drive has completed may not be durable.
-fn unsynced<R: Eprint>(rt: &R, path: &str) -> ExitCode {
+fn tell_unsynced<R: Eprint>(rt: &R, path: &str) {
     let _ = eprintln!(rt;
         "zonedisk: {path}: the sync at the end failed: a loss of power may lose what was done"
     );
-    ExitCode::FAILURE
 }
 
-/// Makes durable what a drive has completed, after a job that ended so. People are told if that fails.
-fn sync_after<R: Eprint, D: Device, M: Medium>(
+/// Makes durable what a drive has completed. People are told if that fails.
+fn is_synced<R: Eprint, D: Device, M: Medium>(
     rt: &R,
     alloc: Global,
     path: &str,
-    ended: ExitCode,
     drive: &mut D,
     medium: &mut M,
-) -> ExitCode {
+) -> bool {
     if harden(alloc, drive, medium).is_ok() {
-        return ended;
+        return true;
     }
-    unsynced(rt, path)
+    tell_unsynced(rt, path);
+    false
+}
+
+/// Ends a job that shows its faults by lines, once it is known whether what it did is durable. A job that is not done
+/// has shown its fault.
+fn end_lines<W: Write>(done: bool, synced: bool, output: &mut W) -> ExitCode
+    ensures { EndsLines done synced (W.contents output.old) result (W.contents output.new) }
+{
+    if !done {
+        return ExitCode::FAILURE;
+    }
+    if synced {
+        return ExitCode::SUCCESS;
+    }
+    let _ = write_device_fault(output);
+    let _ = output.flush();
+    ExitCode::FAILURE
 }
 
 /// Says why a drive is not formatted, or where that is not known to be done.
@@ -121,7 +139,8 @@ fn do_format<R: Eprint, D: Devices, W: Write>(
     if output.flush().is_err() {
         return refuse_format(rt, named, FormatFault::Output, output);
     }
-    sync_after(rt, alloc, path, ExitCode::SUCCESS, &mut drive, &mut medium)
+    let synced = is_synced(rt, alloc, path, &mut drive, &mut medium);
+    end_lines(true, synced, output)
 }
 
 /// Says that a drive was made in the file of this path.
@@ -157,34 +176,38 @@ fn run_end(ran: Result<(), RunFault>, geometry: &Geometry) -> Result<(), Program
     }
 }
 
-/// Answers a trace over a drive. Its lines are on standard input. The drive is given back.
-fn answer_lines<R: Eprint + Input, D: Device + Honest + Drop, W: Write>(
+/// Answers a trace over a drive. Its lines are on standard input. The drive is given back, with whether all was done.
+fn answer_lines<
+    R: Clock + Eprint + Files<File = fs::File> + Input,
+    D: Device + Honest + Drop,
+    W: Write,
+>(
     rt: &R,
     alloc: Global,
     drive: D,
     job: &DeviceRun,
     output: &mut W,
-) -> (D, ExitCode) {
+) -> (D, bool) {
     let gate = Gate::open();
     let count = LineCount::new();
     let counted = job.progress.then_some(Counted::Lines);
-    let reader = Watched::new(rt.reader(), rt, counted);
+    let reader = Watched::input(rt.reader(), rt, counted);
     let mut input = JobInput::new(alloc, &gate, &count, reader);
     let (drive, mounting, ran) = run_device(alloc, drive, job, input.reader(), output);
     let ended = run_end(ran, &drive.geometry()).and(send(output));
     tell_size(rt, alloc, &job.device, Some(job.blocks), mounting.disk);
     let Err(fault) = ended else {
-        return (drive, ExitCode::SUCCESS);
+        return (drive, true);
     };
-    let code = fail(alloc, fault, output);
+    let _status = fail(alloc, fault, output);
     if let Ok(text) = explain_run(alloc, job, fault, &mut input, mounting) {
         let _ = eprintln!(rt; "zonedisk: {text}");
     }
-    (drive, code)
+    (drive, false)
 }
 
 /// Mounts the drive in memory, and answers the lines of a trace that read.
-fn read_run<R: Eprint + Input, D: Devices, W: Write>(
+fn read_run<R: Clock + Eprint + Files<File = fs::File> + Input, D: Devices, W: Write>(
     rt: &R,
     alloc: Global,
     devices: &D,
@@ -194,13 +217,16 @@ fn read_run<R: Eprint + Input, D: Devices, W: Write>(
     ensures { D.has_way devices.now ≡ false → exit_status result ≡ 1 }
 {
     match devices.open_reader(alloc, &job.device, job.habit) {
-        Ok(drive) => answer_lines(rt, alloc, drive, job, output).1,
+        Ok(drive) => {
+            let (_drive, done) = answer_lines(rt, alloc, drive, job, output);
+            end_lines(done, true, output)
+        }
         Err(fault) => refuse_lines(rt, &job.device, fault, output),
     }
 }
 
 /// Mounts the drive, and answers a trace. It ends with a sync, unless the drive has to stop before.
-fn change_run<R: Eprint + Input, D: Devices, W: Write>(
+fn change_run<R: Clock + Eprint + Files<File = fs::File> + Input, D: Devices, W: Write>(
     rt: &R,
     alloc: Global,
     devices: &D,
@@ -216,19 +242,17 @@ fn change_run<R: Eprint + Input, D: Devices, W: Write>(
                 mut medium,
                 ..
             } = open;
-            let (mut drive, ended) = answer_lines(rt, alloc, drive, job, output);
-            if job.stop == Stop::NEVER {
-                sync_after(rt, alloc, &job.device, ended, &mut drive, &mut medium)
-            } else {
-                ended
-            }
+            let (mut drive, done) = answer_lines(rt, alloc, drive, job, output);
+            let synced = job.stop != Stop::NEVER
+                || is_synced(rt, alloc, &job.device, &mut drive, &mut medium);
+            end_lines(done, synced, output)
         }
         Err(fault) => refuse_lines(rt, &job.device, fault, output),
     }
 }
 
 /// Mounts the drive, and answers a trace, or the lines of it that read.
-fn do_run<R: Eprint + Input, D: Devices, W: Write>(
+fn do_run<R: Clock + Eprint + Files<File = fs::File> + Input, D: Devices, W: Write>(
     rt: &R,
     alloc: Global,
     devices: &D,
@@ -342,18 +366,41 @@ fn serve<R: Input + Print, D: Device + Honest + Drop, M: Medium + Drop>(
     serve_client(alloc, job, drive, medium, rt.reader(), &mut io::writer(rt))
 }
 
-/// Tells on standard error how a session ended.
-fn end_session<R: Eprint>(rt: &R, alloc: Global, job: &NbdJob, served: Served) -> ExitCode {
-    tell_size(rt, alloc, &job.image, job.blocks, served.told.disk);
-    let ended = tell_session(rt, alloc, job, served.told);
-    match served.flushed {
-        Ok(()) => ended,
-        Err(_) => unsynced(rt, &job.image),
+/// Says that a drive has stopped, though nobody asked for it.
+fn tell_stopped<R: Eprint>(rt: &R, path: &str) {
+    let _ = eprintln!(rt;
+        "zonedisk: {path}: the drive stopped by itself in the session: it failed, or it answered what does not fit"
+    );
+}
+
+/// Tells on standard error how a session ended: by its fault, or else that its drive had stopped by itself, or else
+/// that what was done may not be durable.
+fn end_session<R: Eprint>(rt: &R, alloc: Global, job: &NbdJob, served: Served) -> ExitCode
+    ensures { EndsServed served.told.result served.stopped served.hardened result }
+{
+    let Served {
+        told,
+        stopped,
+        hardened,
+    } = served;
+    tell_size(rt, alloc, &job.image, job.blocks, told.disk);
+    let is_done = told.result.is_ok();
+    let ended = tell_session(rt, alloc, job, told);
+    if is_done && stopped {
+        tell_stopped(rt, &job.image);
+        return ExitCode::FAILURE;
     }
+    if hardened.is_ok() {
+        return ended;
+    }
+    if !stopped {
+        tell_unsynced(rt, &job.image);
+    }
+    ExitCode::FAILURE
 }
 
 /// Serves the drive on the standard streams, or only reads it. What people are told goes to standard error.
-fn do_nbd<R: Eprint + Input + Print, D: Devices>(
+fn do_nbd<R: Eprint + Files<File = fs::File> + Input + Print, D: Devices>(
     rt: &R,
     alloc: Global,
     devices: &D,
@@ -361,6 +408,7 @@ fn do_nbd<R: Eprint + Input + Print, D: Devices>(
 ) -> ExitCode
     ensures { D.has_way devices.now ≡ false → exit_status result ≡ 1 }
 {
+    tell_terminal(rt);
     let served = if job.read_only {
         match devices.open_reader(alloc, &job.image, job.habit) {
             Ok(drive) => serve(rt, alloc, job, drive, WriteThrough::new()),
@@ -453,7 +501,7 @@ fn do_plan<R: Eprint, D: Devices, W: Write>(
 }
 
 /// Writes blocks of a drive to standard output.
-fn export<R: Eprint + Print, D: Device + Honest + Drop>(
+fn export<R: Clock + Eprint + Files<File = fs::File> + Print, D: Device + Honest + Drop>(
     rt: &R,
     alloc: Global,
     drive: D,
@@ -466,14 +514,15 @@ fn export<R: Eprint + Print, D: Device + Honest + Drop>(
 }
 
 /// Writes blocks of standard input to a drive, which is given back.
-fn import<R: Eprint + Input, D: Device + Honest + Drop>(
+fn import<R: Clock + Eprint + Files<File = fs::File> + Input, D: Device + Honest + Drop>(
     rt: &R,
     alloc: Global,
     drive: D,
     job: &ImportJob,
 ) -> (D, Result<(), CopyFault>) {
-    let mut input = Watched::new(rt.reader(), rt, counted(job.progress));
+    let mut input = Watched::input(rt.reader(), rt, counted(job.progress));
     let (drive, taken) = import_mounted(alloc, job, drive, &mut input);
+    tell_imported(rt, &job.image, taken);
     (drive, taken.map(|_count| ()))
 }
 
@@ -494,7 +543,7 @@ fn end_copy<R: Eprint>(
 }
 
 /// Opens the drive, and copies blocks into it. That ends with a sync.
-fn import_into<R: Eprint + Input, D: Devices>(
+fn import_into<R: Clock + Eprint + Files<File = fs::File> + Input, D: Devices>(
     rt: &R,
     alloc: Global,
     devices: &D,
@@ -512,14 +561,18 @@ fn import_into<R: Eprint + Input, D: Devices>(
             } = open;
             let (mut drive, imported) = import(rt, alloc, drive, asked);
             let ended = end_copy(rt, alloc, job, imported);
-            sync_after(rt, alloc, job.image(), ended, &mut drive, &mut medium)
+            if is_synced(rt, alloc, job.image(), &mut drive, &mut medium) {
+                ended
+            } else {
+                ExitCode::FAILURE
+            }
         }
         Err(fault) => refuse(rt, job.image(), fault),
     }
 }
 
 /// Copies blocks out of the drive, which is only read, or into it.
-fn do_copy<R: Eprint + Input + Print, D: Devices>(
+fn do_copy<R: Clock + Eprint + Files<File = fs::File> + Input + Print, D: Devices>(
     rt: &R,
     alloc: Global,
     devices: &D,
@@ -538,7 +591,11 @@ fn do_copy<R: Eprint + Input + Print, D: Devices>(
 
 /// Does a job on the drive behind a device, with this way to devices. A program that has none ends with the status of a
 /// fault.
-pub fn do_device<R: Eprint + Input + Print, D: Devices, W: Write>(
+pub fn do_device<
+    R: Clock + Eprint + Files<File = fs::File> + Input + Print,
+    D: Devices,
+    W: Write,
+>(
     rt: &R,
     alloc: Global,
     devices: &D,

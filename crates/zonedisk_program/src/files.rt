@@ -1,15 +1,22 @@
 // Jobs on drives in files, and those that have no drive.
 
-use disk_copies::{CopyJob, do_export, do_import};
+ghost use Rattle.std.specs.Prelude.{◌≡◌, OnErr};
+ghost use Rattle.std.specs.Process.{exit_status};
+ghost use Rattle.zonedisk_program.specs.Ends.{EndsSaved};
+
+use disk_copies::{CopyFault, CopyJob, do_export, do_import};
 use disk_jobs::{
     Counted, DiskSize, Explained, Gate, Job, JobInput, LineCount, LinesDone, ProgramFault, Saved,
-    Watched, do_job, explain, restored_note, size_notes, write_program_fault,
+    Watched, do_job, explain, is_terminal, restored_note, size_notes, write_program_fault,
 };
-use nbd_jobs::{Forgotten, NbdFault, NbdJob, SessionTold, do_nbd_job, failed_note, forgotten_note};
+use nbd_jobs::{
+    Forgotten, NbdFault, NbdJob, SessionDone, SessionTold, do_nbd_job, failed_note, forgotten_note,
+};
 use std::alloc::Global;
 use std::io::{Read, Write};
 use std::process::ExitCode;
 use std::rt::Files;
+use std::time::Clock;
 use std::{fs, io};
 use tool_jobs::{ToolJob, do_tool_job};
 
@@ -62,7 +69,7 @@ fn tell<R: Eprint, I: Read + Drop>(
 }
 
 /// Does a job whose lines are on standard input.
-pub(crate) fn do_lines<R: Eprint + Files<File = fs::File> + Input, W: Write>(
+pub(crate) fn do_lines<R: Clock + Eprint + Files<File = fs::File> + Input, W: Write>(
     rt: &R,
     alloc: Global,
     job: &Job,
@@ -71,7 +78,7 @@ pub(crate) fn do_lines<R: Eprint + Files<File = fs::File> + Input, W: Write>(
     let gate = Gate::open();
     let counted = job.shows_progress().then_some(Counted::Lines);
     let count = LineCount::new();
-    let reader = Watched::new(rt.reader(), rt, counted);
+    let reader = Watched::input(rt.reader(), rt, counted);
     let mut input = JobInput::new(alloc, &gate, &count, reader);
     let done = if job.explains() {
         do_job(rt, alloc, job, &mut input, &mut Explained::new(rt, output))
@@ -122,7 +129,9 @@ fn tell_failed<R: Eprint>(rt: &R, alloc: Global, job: &NbdJob, failed: Option<u6
 }
 
 /// Says on standard error why a drive is not served, or not saved.
-fn tell_fault<R: Eprint>(rt: &R, alloc: Global, job: &NbdJob, fault: NbdFault) -> ExitCode {
+fn tell_fault<R: Eprint>(rt: &R, alloc: Global, job: &NbdJob, fault: NbdFault) -> ExitCode
+    ensures { exit_status result ≡ 1 }
+{
     if let Ok(text) = nbd_jobs::explain(alloc, job, fault) {
         let _ = eprintln!(rt; "zonedisk: {text}");
     }
@@ -135,7 +144,9 @@ pub(crate) fn tell_session<R: Eprint>(
     alloc: Global,
     job: &NbdJob,
     told: SessionTold,
-) -> ExitCode {
+) -> ExitCode
+    ensures { OnErr told.result (exit_status result ≡ 1) }
+{
     if let Some(text) = &told.statistics {
         let _ = eprint!(rt; "{text}");
     }
@@ -147,6 +158,30 @@ pub(crate) fn tell_session<R: Eprint>(
     }
 }
 
+/// Tells on standard error how a session ended, and how its drive was saved.
+fn end_session<R: Eprint>(rt: &R, alloc: Global, job: &NbdJob, done: SessionDone) -> ExitCode
+    ensures { EndsSaved done.told.result done.saved result }
+{
+    let SessionDone { told, saved } = done;
+    tell_size(rt, alloc, &job.image, job.blocks, told.disk);
+    tell_saved(rt, alloc, &job.image, saved.unwrap_or(Saved::IN_PLACE));
+    let ended = tell_session(rt, alloc, job, told);
+    match saved {
+        Ok(_) => ended,
+        Err(fault) => tell_fault(rt, alloc, job, fault),
+    }
+}
+
+/// Says on standard error what a session waits for, if a terminal is where a client should be.
+pub(crate) fn tell_terminal<R: Eprint + Files<File = fs::File>>(rt: &R) {
+    if is_terminal(rt, "/dev/stdin") {
+        let _ = eprintln!(rt;
+            "zonedisk: nbd waits for a client on standard input, and answers it on standard output: let a client \
+            start it, as `nbdfuse disk --command zonedisk nbd --image P`"
+        );
+    }
+}
+
 /// Serves a drive on the standard streams. What people are told goes to standard error.
 pub(crate) fn do_nbd<R: Eprint + Files<File = fs::File> + Input, W: Write>(
     rt: &R,
@@ -154,14 +189,9 @@ pub(crate) fn do_nbd<R: Eprint + Files<File = fs::File> + Input, W: Write>(
     job: &NbdJob,
     output: &mut W,
 ) -> ExitCode {
+    tell_terminal(rt);
     let done = do_nbd_job(rt, alloc, job, rt.reader(), output);
-    tell_size(rt, alloc, &job.image, job.blocks, done.told.disk);
-    tell_saved(rt, alloc, &job.image, done.saved.unwrap_or(Saved::IN_PLACE));
-    let ended = tell_session(rt, alloc, job, done.told);
-    match done.saved {
-        Ok(_) => ended,
-        Err(fault) => tell_fault(rt, alloc, job, fault),
-    }
+    end_session(rt, alloc, job, done)
 }
 
 /// What is counted of a copy, if it is shown how far it is.
@@ -169,9 +199,16 @@ pub(crate) fn counted(progress: bool) -> Option<Counted> {
     progress.then_some(Counted::Mebibytes)
 }
 
+/// Says on standard error how many blocks were written, if all were.
+pub(crate) fn tell_imported<R: Eprint>(rt: &R, path: &str, taken: Result<u64, CopyFault>) {
+    if let Ok(count) = taken {
+        let _ = eprintln!(rt; "zonedisk: {path}: {count} blocks were written");
+    }
+}
+
 /// Copies blocks out of a drive to standard output, or from standard input into a drive. Why a copy is not whole goes
 /// to standard error.
-pub(crate) fn copy<R: Eprint + Files<File = fs::File> + Input + Print>(
+pub(crate) fn copy<R: Clock + Eprint + Files<File = fs::File> + Input + Print>(
     rt: &R,
     alloc: Global,
     job: &CopyJob,
@@ -182,7 +219,7 @@ pub(crate) fn copy<R: Eprint + Files<File = fs::File> + Input + Print>(
             [do_export(rt, alloc, job, output), Ok(())]
         }
         CopyJob::Import(job) => {
-            let input = Watched::new(rt.reader(), rt, counted(job.progress));
+            let input = Watched::input(rt.reader(), rt, counted(job.progress));
             let imported = do_import(rt, alloc, job, input);
             tell_saved(
                 rt,
@@ -190,6 +227,7 @@ pub(crate) fn copy<R: Eprint + Files<File = fs::File> + Input + Print>(
                 &job.image,
                 imported.saved.unwrap_or(Saved::IN_PLACE),
             );
+            tell_imported(rt, &job.image, imported.taken);
             [imported.taken.map(|_| ()), imported.saved.map(|_| ())]
         }
     };

@@ -40,6 +40,13 @@
 //! * [`in_place`] says which job on a drive that stays in its file a task on the image in that file stands for
 //!   (`specs/InPlace.antt`). One that stands for none is refused with the exit status 1.
 //!
+//! Of its end:
+//!
+//! * A session ends with the exit status 1 if it ended by a fault, if its drive had stopped by itself, or if what it
+//!   did may not be durable or is not saved (`EndsServed`, `EndsSaved` in `specs/Ends.antt`).
+//! * A run on a device, and a format of one, end with the line of a device and the exit status 1 if only the sync at
+//!   their end failed (`EndsLines`).
+//!
 //! What the replies are is promised by the crates of the jobs.
 //!
 //! # What is not proved
@@ -92,6 +99,7 @@ use std::env::Env;
 use std::io::BufWriter;
 use std::process::ExitCode;
 use std::rt::Files;
+use std::time::Clock;
 use std::{fs, io};
 pub use tool_jobs::do_tool_job;
 
@@ -123,7 +131,12 @@ fn is_new(job: &DeviceJob) -> bool
 }
 
 /// Does a job on a device, or makes a new drive in a file. It ends with the status of a fault if there is no way to it.
-fn do_named<R: Eprint + Input + Print, D: Devices, F: Devices, W: io::Write>(
+fn do_named<
+    R: Clock + Eprint + Files<File = fs::File> + Input + Print,
+    D: Devices,
+    F: Devices,
+    W: io::Write,
+>(
     rt: &R,
     alloc: Global,
     devices: &D,
@@ -142,7 +155,7 @@ fn do_named<R: Eprint + Input + Print, D: Devices, F: Devices, W: io::Write>(
 
 /// Does a task, whatever its file holds. What a job with lines writes goes through a buffer.
 fn do_as_it_is<
-    R: Eprint + Files<File = fs::File> + Input + Print,
+    R: Clock + Eprint + Files<File = fs::File> + Input + Print,
     D: Devices,
     F: Devices,
     W: io::Write,
@@ -161,7 +174,7 @@ fn do_as_it_is<
 
 /// Does a task. Where its file begins as a drive does that stays in it, the task is done on that drive.
 fn do_asked<
-    R: Eprint + Files<File = fs::File> + Input + Print,
+    R: Clock + Eprint + Files<File = fs::File> + Input + Print,
     D: Devices,
     F: Devices,
     W: io::Write,
@@ -189,7 +202,7 @@ fn do_asked<
 /// Does a task, with this way to devices, and this one to drives that stay in their files. A job on a device, or on a new
 /// drive in a file, ends with the status of a fault if there is no way to it.
 pub fn do_task<
-    R: Eprint + Files<File = fs::File> + Input + Print,
+    R: Clock + Eprint + Files<File = fs::File> + Input + Print,
     D: Devices,
     F: Devices,
     W: io::Write,
@@ -198,6 +211,16 @@ pub fn do_task<
 {
     let begins = begins_in_place(rt, &task);
     do_asked(rt, alloc, devices, files, begins, task, output)
+}
+
+/// Says on standard error how a drive in a file is named, where a subcommand was given a path without its option.
+fn tell_image<R: Eprint>(rt: &R, words: &[String], refusal: ErrorKind) {
+    let Some(path) = words.get(2) else {
+        return;
+    };
+    if refusal == ErrorKind::UnknownArgument && !path.as_str().starts_with('-') {
+        let _ = eprintln!(rt; "\nThe drive in a file is named by '--image {path}'.");
+    }
 }
 
 /// The task that the words of the command line ask for; or the exit status where there is none, which was told.
@@ -223,6 +246,7 @@ fn asked<R: Env + Alloc<A = Global> + Eprint, W: io::Write>(
         }
         Err(error) => {
             let _ = eprint!(rt; "{error}");
+            tell_image(rt, &words, error.kind());
             Err(ExitCode::from(REFUSED))
         }
     }
@@ -231,7 +255,7 @@ fn asked<R: Env + Alloc<A = Global> + Eprint, W: io::Write>(
 /// Does what the words of the command line ask for, with this way to devices, and this one to drives that stay in their
 /// files.
 pub fn run_program<
-    R: Env + Alloc<A = Global> + Eprint + Files<File = fs::File> + Input + Print,
+    R: Env + Alloc<A = Global> + Clock + Eprint + Files<File = fs::File> + Input + Print,
     D: Devices,
     F: Devices,
 >(rt: &R, devices: &D, files: &F) -> io::Result<ExitCode> {

@@ -16,7 +16,7 @@ const STATES: &str = "Empty, ImplicitlyOpened, ExplicitlyOpened, Closed, ReadOnl
 
 const COMMANDS: &str = "append, read, write, flush, close, finish, open, reset, offline, report";
 
-const DIGITS: &str = "a number in decimal digits alone";
+const DIGITS: &str = "a whole number, as 4096";
 
 const SIZE: &str = "a number, then K, M, G or T, or none of them";
 

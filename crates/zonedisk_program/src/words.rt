@@ -320,6 +320,9 @@ fn subcommand_job(alloc: Global, name: &str, matches: &ArgMatches<'_>) -> Result
 pub fn nbd_job(alloc: Global, place: Place, matches: &ArgMatches<'_>) -> Result<NbdJob, WordFault>
     ensures { Finds (AsksForNbd place (rows_of (found_of matches.now))) result }
 {
+    if is_set(matches, "idle") && is_set(matches, "read-only") {
+        return Err(WordFault::Both("idle", "read-only"));
+    }
     let blocks = number_if_given(matches, "blocks")?;
     let stop = stop_of(matches)?;
     let forget = forget_of(matches)?;

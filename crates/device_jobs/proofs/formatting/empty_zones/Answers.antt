@@ -1,6 +1,6 @@
 use Rattle.std.proofs.Common.{◌∙◌, arith, sym}
 use Rattle.drive_survey.proofs.ReadLaws.{keeps-none}
-use Rattle.device_jobs.proofs.FormatLaws.{all-empty, empties-both, empties-kept, empties-none, usages-kept}
+use Rattle.device_jobs.proofs.FormatLaws.{none-reported, empties-both, empties-kept, empties-none, usages-kept}
 use Rattle.device_jobs.specs.Formats.{IsUnformatted}
 use Rattle.device_jobs.proofs.FormatFaultLaws.{exit, unlooked-so}
 use Rattle.device_jobs.proofs.formatting.empty_zones.Goals as goal
@@ -20,7 +20,7 @@ returns-then-count-eq0-clause-empties g c = empties-none (g.D.Device.drive c.arg
 
 pub returns-then-count-eq0-clause-ok : goal.returns-then-count-eq0-clause-ok
 returns-then-count-eq0-clause-ok g c =
-    all-empty (g.D.Device.drive c.args.device.now) c.args.zones.now c.requires.reported (sym c.count_written-count.ensures ∙ c.if-count-eq0.true)
+    none-reported (g.D.Device.drive c.args.device.now) c.args.zones.now c.requires.reported (sym c.count_written-count.ensures ∙ c.if-count-eq0.true)
 
 pub reset_zones-requires : goal.reset_zones-requires
 reset_zones-requires g c =

@@ -9,8 +9,6 @@ pub returns-in-Ok-clause-left : goal.returns-in-Ok-clause-left
 returns-in-Ok-clause-left g c = record {
   first = c.in-Ok-Some.begun;
   begins = (rw c.in-Ok-Some.field-0-is at c.in-Ok-Some.ensures.ok).0;
-  told = g.W.Write.contents c.begin.new.output;
-  says = (rw c.in-Ok-Some.field-0-is at c.in-Ok-Some.ensures.ok).1;
   was_image = c.answer-answered.ensures.was_image;
-  leaves = rw c.in-Ok.is at c.answer-answered.ensures.leaves;
+  leaves = rw (c.in-Ok.is, (rw c.in-Ok-Some.field-0-is at c.in-Ok-Some.ensures.ok).1) at c.answer-answered.ensures.leaves;
 }

@@ -1,7 +1,7 @@
 use Rattle.std.proofs.Common.{◌≡◌, ◌≤◌, ◌+◌, drop}
 use Rattle.std.specs.List.{count_by}
-use Rattle.device_jobs.specs.Formats.{is_written}
-use Rattle.device_jobs.proofs.formatting.count_written.Given as goal
+use Rattle.drive_inspection.specs.Written.{is_written}
+use Rattle.drive_inspection.proofs.written.count_written.Given as goal
 
 abbrev pub invariant-loop-zone : goal.invariant-loop-zone
 invariant-loop-zone l = record {
