@@ -70,6 +70,7 @@ mod client;
 mod ending;
 mod failing;
 mod fault;
+mod group;
 pub mod laws;
 mod medium;
 mod option_answer;
@@ -81,6 +82,7 @@ mod requests;
 mod served_disk;
 mod serving;
 mod store;
+mod together;
 
 pub use asked::{Asked, MOST_BYTES};
 pub use client::Client;
