@@ -5,6 +5,7 @@ pub mod SpareLaws
 pub mod TurnLaws
 pub mod GroupLaws
 pub mod TogetherLaws
+pub mod OrderLaws
 pub mod RunLaws
 pub mod KeptLaws
 pub mod StoreLaws
