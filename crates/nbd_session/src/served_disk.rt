@@ -6,7 +6,6 @@ ghost use Rattle.nbd_session.specs.Store.{Syncs};
 use crate::fault::StoreFault;
 use crate::medium::Medium;
 use crate::store::Store;
-use drive_array::batch_most;
 use drive_port::Device;
 use std::marker::Model;
 use zone_translator::{Disk, DiskFault, DiskStatus, Entry};
@@ -143,7 +142,7 @@ impl<D: Device + Drop, M: Medium + Drop> Store for ServedDisk<D, M> {
 
     fn most_listed(&self) -> u64 {
         let geometry = self.disk.device().geometry();
-        u64::from(batch_most(&geometry))
+        u64::from(drive_array::batch_most(&geometry))
     }
 
     fn write_list(&mut self, entries: &[Entry], bytes: &[u8]) -> Result<(), DiskFault> {
