@@ -1,13 +1,15 @@
 -- What a store gives whose medium may fail besides: what the store below gives.
 use Rattle.std.proofs.Common.{◌≡◌, ℕ, List, [], Ok, Err, true, false, refl, ap, inl, inr}
 use Rattle.std.specs.Prelude.{◌||◌, Bool, Result}
+use Rattle.batch_log.specs.declared.header.Entry.{Entry}
+use Rattle.zone_translator.specs.Answers.{write_entries}
 use Rattle.zone_translator.specs.Flat.{Answer, Call, read, with_nothing}
 use Rattle.zone_translator.specs.declared.fault.DiskFault.{DiskFault}
 use Rattle.nbd_session.specs.declared.fault.StoreFault.{StoreFault}
 use Rattle.nbd_session.specs.declared.fault.StoreFault.TheVariants.{Disk, Medium}
 use Rattle.nbd_session.specs.Failing.{failing}
 use Rattle.nbd_session.specs.Pending.{Pending}
-use Rattle.nbd_session.specs.Store.{Calls, FailsSync, Hardens, KeepsBySync, KeepsMode, OrFails, ReadsBlocks, Rests, RestsBy, Shows, Spares, StoreView, SyncsBy, Writes}
+use Rattle.nbd_session.specs.Store.{Calls, FailsSync, Hardens, KeepsBySync, KeepsMode, OrFails, ReadsBlocks, Rests, RestsBy, Shows, Spares, StoreView, SyncsBy, Writes, WritesList}
 
 -- what the store below may do, the store may
 below-fails : (may below : Bool) → below ≡ true → (may || below) ≡ true
@@ -99,6 +101,15 @@ pub read_failing : (may : Bool) (old : StoreView) (first n : ℕ) (bytes : List 
 read_failing may old first n bytes result new =
     or-fails (λ answer. Shows old first n answer bytes new) (λ answer. Shows (failing may old) first n answer bytes (failing may new)) ((bytes ≡ []) × Spares old first n new) ((bytes ≡ []) × Spares (failing may old) first n (failing may new)) result
     (λ answer. shows-failing may old first n answer bytes new) (λ s. (s.0, spares-failing may old first n new s.1))
+
+-- a list of the store below
+pub list_failing : (may : Bool) (old : StoreView) (entries : List Entry) (bytes : List ℕ) (answer : Answer) (new : StoreView) → WritesList old entries bytes answer new → WritesList (failing may old) entries bytes answer (failing may new)
+list_failing may old entries bytes answer new w = record {
+  calls = calls-failing may old (write_entries old.disk entries bytes) answer new w.calls;
+  turns = w.turns;
+  due = w.due;
+  through = w.through;
+}
 
 -- ---- syncs
 

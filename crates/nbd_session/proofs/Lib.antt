@@ -3,6 +3,9 @@ pub mod SyncLaws
 pub mod ReplyLaws
 pub mod SpareLaws
 pub mod TurnLaws
+pub mod GroupLaws
+pub mod TogetherLaws
+pub mod OrderLaws
 pub mod RunLaws
 pub mod KeptLaws
 pub mod StoreLaws
@@ -13,4 +16,5 @@ pub mod ModeLaws
 pub mod SafeLaws
 pub mod FailureLaws
 pub mod FailingLaws
+pub mod MostLaws
 pub mod DoneLaws

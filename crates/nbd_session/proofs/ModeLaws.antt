@@ -92,6 +92,7 @@ mode_kept = record {
   same = self_grows;
   again = grows_again;
   asked = λ old request bytes reply new. asked_grows old request (asked_of_store old request) bytes reply new;
+  grouped = λ old askings done new several group w. call_grows old _ _ new w.calls;
   rests = λ old new. rests_grows (old.cleans && not old.read_only) old new;
 }
 

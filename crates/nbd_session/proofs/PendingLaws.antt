@@ -1,10 +1,13 @@
 -- Blocks that are pending above a disk: what of an array they do not change, and what a write of them may leave.
-use Rattle.std.proofs.Common.{◌≡◌, ◌≢◌, ℕ, zero, suc, ◌+◌, ◌<◌, ◌≤◌, List, [], ◌∷◌, length, get_or, set, take, refl, ap, inl, inr, ◌∙◌, arith, get_or-set_other}
-use Rattle.std.specs.Prelude.{◌⊎◌, Contains}
-use Rattle.zone_translator.specs.Flat.{IsFront, replaced}
+use Rattle.std.proofs.Common.{◌≡◌, ◌≢◌, ℕ, zero, suc, ◌+◌, ◌<◌, ◌≤◌, List, [], ◌∷◌, length, map, get_or, set, take, true, false, refl, ap, sym, inl, inr, ◌∙◌, arith, get_or-set_other}
+use Rattle.std.specs.Prelude.{◌⊎◌, Bool, Contains, nat_eq}
+use Rattle.std.specs.List.{AllByRecursion, IsDistinct}
+use Rattle.std.proofs.lemmas.Bool.{eq-eqb, eqb-true}
+use Rattle.std.proofs.lemmas.List.{length-set}
+use Rattle.zone_translator.specs.Flat.{IsFront, IsListFront, Put, put_all, replaced}
 use Rattle.nbd_session.specs.Laws.{AgreeOn}
 use Rattle.nbd_session.specs.Pending.{AreApart, HoldsSome, Pending, overlay}
-use Rattle.nbd_session.specs.Store.{IsTorn}
+use Rattle.nbd_session.specs.Store.{IsListTorn, IsTorn}
 
 -- ---- blocks that lie apart
 
@@ -75,3 +78,41 @@ front-torn old first blocks new front = rw front.written record {
 -- and so is nothing
 pub same-torn : (old : List (List ℕ)) (first : ℕ) (blocks new : List (List ℕ)) → new ≡ old → IsTorn old first blocks new
 same-torn old first blocks new same = record { length_is = ap length same; either = λ place. inl (ap (λ (a : List (List ℕ)). get_or a place []) same) }
+
+-- ---- a list of which a part is done
+
+length-put : (ps : List Put) (array : List (List ℕ)) → length (put_all array ps) ≡ length array
+length-put [] array = refl
+length-put (p ∷ ps) array = length-put ps (set array p.block p.content) ∙ length-set array p.block p.content
+
+-- a block that a list does not name stays
+put-elsewhere : (ps : List Put) (array : List (List ℕ)) (k : ℕ) → AllByRecursion (λ y. nat_eq k y ≡ false) (map (λ (p : Put). p.block) ps) → get_or (put_all array ps) k [] ≡ get_or array k []
+put-elsewhere [] array k far = refl
+put-elsewhere (p ∷ ps) array k far = put-elsewhere ps (set array p.block p.content) k far.1 ∙ get_or-set_other array p.block k p.content [] (λ same. cc (sym far.0 ∙ eq-eqb k p.block same))
+
+-- of a front of a list, each block is the old one or the new one, since none is named twice
+list-either : (ps : List Put) (array : List (List ℕ)) (done place : ℕ) → IsDistinct nat_eq (map (λ (p : Put). p.block) ps)
+    → (get_or (put_all array (take done ps)) place [] ≡ get_or array place []) ⊎ (get_or (put_all array (take done ps)) place [] ≡ get_or (put_all array ps) place [])
+unfolding IsDistinct
+list-either ps array zero place distinct = inl refl
+list-either [] array (suc done) place distinct = inl refl
+list-either (p ∷ ps) array (suc done) place distinct = by (nat_eq place p.block) refl (list-either ps (set array p.block p.content) done place distinct.1)
+  where
+    next : List (List ℕ)
+    next = set array p.block p.content
+
+    by : (here : Bool) → nat_eq place p.block ≡ here
+        → (get_or (put_all next (take done ps)) place [] ≡ get_or next place []) ⊎ (get_or (put_all next (take done ps)) place [] ≡ get_or (put_all next ps) place [])
+        → (get_or (put_all next (take done ps)) place [] ≡ get_or array place []) ⊎ (get_or (put_all next (take done ps)) place [] ≡ get_or (put_all next ps) place [])
+    by here is (inr all) = inr all
+    by true is (inl none) =
+        let at : place ≡ p.block = eqb-true place p.block is in
+        inr (none ∙ sym (put-elsewhere ps next place (rw at distinct.0)))
+    by false is (inl none) = inl (none ∙ get_or-set_other array p.block place p.content [] (λ same. cc (sym is ∙ eq-eqb place p.block same)))
+
+-- a front of a list is a part of it
+pub list-torn : (old : List (List ℕ)) (puts : List Put) (new : List (List ℕ)) → IsDistinct nat_eq (map (λ (p : Put). p.block) puts) → IsListFront old puts new → IsListTorn old puts new
+list-torn old puts new distinct front = rw front.written record {
+  length_is = length-put (take front.done puts) old;
+  either = λ place. list-either puts old front.done place distinct;
+}

@@ -1,5 +1,5 @@
 -- A session of a store that is read only leaves its array as it was.
-use Rattle.std.proofs.Common.{inl, inr, ◌≡◌, ℕ, List, Ok, Err, true, false, refl, ap, sym, ◌∙◌}
+use Rattle.std.proofs.Common.{inl, inr, ◌≡◌, ℕ, ◌≤◌, List, [], ◌∷◌, length, Some, arith, Ok, Err, true, false, refl, ap, sym, ◌∙◌}
 use Rattle.std.specs.Prelude.{Bool, ◌&&◌, not, Result, if◌then◌else◌}
 use Rattle.nbd_wire.specs.declared.error_code.ErrorCode.{ErrorCode}
 use Rattle.nbd_wire.specs.declared.error_code.ErrorCode.TheVariants as errors
@@ -9,8 +9,10 @@ use Rattle.nbd_session.specs.declared.asked.Asked.{Asked}
 use Rattle.nbd_session.specs.declared.asked.Asked.TheVariants.{Read, Write, Trim, WriteZeroes, Flush}
 use Rattle.nbd_session.specs.declared.fault.StoreFault.{StoreFault}
 use Rattle.nbd_session.specs.declared.fault.StoreFault.TheVariants.{Disk, Medium}
+use Rattle.nbd_session.specs.declared.group.Span.{Span}
+use Rattle.nbd_session.specs.Groups.{Asking, IsGroup, span_of}
 use Rattle.nbd_session.specs.Laws.{ReadOnlyKeepsArray}
-use Rattle.nbd_session.specs.Requests.{AnswersAsked, Does, DoesOrFails, Forces, asked_of, changes_disk, permitted}
+use Rattle.nbd_session.specs.Requests.{AnswersAsked, Does, DoesOrFails, Forces, asked_of, changes_disk, data_length, permitted}
 use Rattle.nbd_session.specs.Store.{Rests, RestsBy, StoreView, store_array, store_flat}
 use Rattle.nbd_session.proofs.KeptLaws.{IsKept, session_kept}
 use Rattle.nbd_session.proofs.ServedLaws.{read-kept}
@@ -77,11 +79,37 @@ no_turn false true old new is r = r
 rests_stays : (old new : StoreView) → Rests old new → Stays old new
 rests_stays old new r read_only = same_stays old new (no_turn old.cleans old.read_only old new read_only r) read_only
 
+-- nothing that changes the disk is permitted then
+refused-change : (read_only : Bool) (asked : Result Asked ErrorCode) (wanted : Asked) → read_only ≡ true → permitted read_only asked ≡ Ok wanted → changes_disk wanted ≡ true → ⊥
+refused-change false asked wanted is permits changes = cc is
+refused-change true (Err error) wanted is permits changes = cc permits
+refused-change true (Ok other) wanted is permits changes = by (changes_disk other) refl permits
+  where
+    by : (change : Bool) → changes_disk other ≡ change → (if change then Err errors.NotPermitted else Ok other) ≡ Ok wanted → ⊥
+    by true e p = cc p
+    by false e p = let same : other ≡ wanted = cc p in cc (sym e ∙ ap changes_disk same ∙ changes)
+
+-- what joins a group changes the disk
+joins-changes : (block : ℕ) (wanted : Asked) (count : ℕ) (span : Span) → span_of block wanted count ≡ Some span → changes_disk wanted ≡ true
+joins-changes block (Write first) count span names = refl
+joins-changes block (Trim first n) count span names = refl
+joins-changes block (WriteZeroes first n hole) count span names = refl
+joins-changes block (Read first n) count span names = absurd (cc names)
+joins-changes block Flush count span names = absurd (cc names)
+
+-- so no group is done
+group-writes : (old : StoreView) (askings : List Asking) → 2 ≤ length askings → IsGroup old askings → old.read_only ≡ true → ⊥
+group-writes old [] several group read_only = omega (arith, several)
+group-writes old (a ∷ more) several group read_only =
+    let joins = group.each.0.joins in
+    refused-change old.read_only (asked_of old.disk.drive.geometry.block a.request) a.wanted read_only joins.asks (joins-changes old.disk.drive.geometry.block a.wanted (data_length a.request) a.span joins.names)
+
 array_kept : IsKept Stays
 array_kept = record {
   same = λ store read_only. (refl, read_only);
   again = stays_again;
   asked = λ old request bytes reply new. asked_stays old request old.read_only (asked_of old.disk.drive.geometry.block request) bytes reply new refl;
+  grouped = λ old askings done new several group w read_only. absurd (group-writes old askings several group read_only);
   rests = rests_stays;
 }
 

@@ -1,6 +1,6 @@
 -- A session continues by one message.
 use Rattle.std.proofs.Common.{◌≡◌, ℕ, ◌+◌, ◌-◌, ◌≤◌, ◌^◌, List, [], ◌∷◌, ◌++◌, length, Option, Some, None, Ok, Err, true, refl, ap, sym, inl, inr, ◌∙◌, append_assoc, arith}
-use Rattle.std.specs.Prelude.{IfSome, IsErrAnd, Result}
+use Rattle.std.specs.Prelude.{Bool, IfSome, IsErrAnd, Result, is_none}
 use Rattle.std.specs.List.{flat_map}
 use Rattle.std.specs.Io.KnownBytes.{Keeps}
 use Rattle.std.proofs.KnownBytes.{Appends-nil, Appends-trans, Consumes-nil, Consumes-trans, Consumes-kept, Appends-kept, Keeps-refl}
@@ -18,9 +18,9 @@ use Rattle.nbd_session.specs.Turns.{AnswersOne, DoesNothing, IsOver, RunsToLimit
 
 -- that many messages are answered, and that many of them are requests, at most so many
 pub record ServedCount (most : Option ℕ) (bytes : Streams) (old new : Session) (count requests : ℕ) : Type 0 where
-  pub served : Served bytes old new
+  pub served : Served (is_none most) bytes old new
   pub count_is : length served.dialogues ≡ count
-  pub requests_are : requests_in old served.dialogues new served.answered ≡ requests
+  pub requests_are : requests_in (is_none most) old served.dialogues new served.answered ≡ requests
   pub few : requests ≤ count
   pub within : IfSome most (λ most. requests ≤ most)
 
@@ -38,18 +38,18 @@ served_none most left contents s = record {
   within = no-requests most;
 }
 
-abbrev each-more : (ds : List Dialogue) (d : Dialogue) (old middle new : Session) → AnswersEach old ds middle → AnswersMessage true middle d.message d.reply new → AnswersEach old (ds ++ d ∷ []) new
-each-more [] d old middle new p a = (new, rw p at a, refl)
-each-more (x ∷ xs) d old middle new p a = (p.0, p.1, each-more xs d p.0 middle new p.2 a)
+abbrev each-more : (together : Bool) (ds : List Dialogue) (d : Dialogue) (old middle new : Session) → AnswersEach together old ds middle → AnswersMessage together true middle d.message d.reply new → AnswersEach together old (ds ++ d ∷ []) new
+each-more together [] d old middle new p a = (new, rw p at a, refl)
+each-more together (x ∷ xs) d old middle new p a = (p.0, p.1, each-more together xs d p.0 middle new p.2 a)
 
 plus-more : (a x b c : ℕ) → x ≡ b + c → a + x ≡ a + b + c
 plus-more a x b c is = omega (arith, is)
 
 -- the next message is a request where its phase says so
-requests-more : (ds : List Dialogue) (d : Dialogue) (old middle new : Session) (answered : AnswersEach old ds middle) (more : AnswersMessage true middle d.message d.reply new)
-    → requests_in old (ds ++ d ∷ []) new (each-more ds d old middle new answered more) ≡ requests_in old ds middle answered + requests_at middle.phase
-requests-more [] d old middle new same more = let phase : requests_at middle.phase ≡ requests_at old.phase = ap (λ (s : Session). requests_at s.phase) same in omega (arith, phase)
-requests-more (x ∷ xs) d old middle new answered more = plus-more (requests_at old.phase) _ _ (requests_at middle.phase) (requests-more xs d answered.0 middle new answered.2 more)
+requests-more : (together : Bool) (ds : List Dialogue) (d : Dialogue) (old middle new : Session) (answered : AnswersEach together old ds middle) (more : AnswersMessage together true middle d.message d.reply new)
+    → requests_in together old (ds ++ d ∷ []) new (each-more together ds d old middle new answered more) ≡ requests_in together old ds middle answered + requests_at middle.phase
+requests-more together [] d old middle new same more = let phase : requests_at middle.phase ≡ requests_at old.phase = ap (λ (s : Session). requests_at s.phase) same in omega (arith, phase)
+requests-more together (x ∷ xs) d old middle new answered more = plus-more (requests_at old.phase) _ _ (requests_at middle.phase) (requests-more together xs d answered.0 middle new answered.2 more)
 
 one-request : (phase : Phase) → requests_at phase ≤ 1
 one-request phases.Greeting = omega arith
@@ -64,7 +64,7 @@ joined f (x ∷ xs) d = rw (joined f xs d) (sym (append_assoc (f x) (flat_map f 
 
 -- once the next message is answered, the count of answered messages is one higher
 pub served_more : (most : Option ℕ) (input middle rest written between contents : Option (List ℕ)) (old mid new : Session) (n requests counted : ℕ)
-    → ServedCount most (streams input middle written between) old mid n requests → AnswersOne true (streams middle rest between contents) mid new
+    → ServedCount most (streams input middle written between) old mid n requests → AnswersOne (is_none most) true (streams middle rest between contents) mid new
     → counted ≡ requests + requests_at mid.phase → IfSome most (λ most. counted ≤ most) → ServedCount most (streams input rest written contents) old new (n + 1) counted
 served_more most input middle rest written between contents old mid new n requests counted s x counts within =
     let d : Dialogue = record { message = x.message; reply = x.reply } in
@@ -74,17 +74,17 @@ served_more most input middle rest written between contents old mid new n reques
         dialogues = ds ++ d ∷ [];
         read = rw (joined (λ (d : Dialogue). d.message) ds d) (Consumes-trans input middle rest (flat_map (λ (d : Dialogue). d.message) ds) x.message s.served.read x.read);
         written = rw (joined (λ (d : Dialogue). d.reply) ds d) (Appends-trans written between contents (flat_map (λ (d : Dialogue). d.reply) ds) x.reply s.served.written x.written);
-        answered = each-more ds d old mid new s.served.answered x.answers;
+        answered = each-more (is_none most) ds d old mid new s.served.answered x.answers;
       };
       count_is = length-append ds (d ∷ []) ∙ ap (λ k. k + 1) s.count_is;
-      requests_are = requests-more ds d old mid new s.served.answered x.answers ∙ ap (λ k. k + requests_at mid.phase) s.requests_are ∙ sym counts;
+      requests_are = requests-more (is_none most) ds d old mid new s.served.answered x.answers ∙ ap (λ k. k + requests_at mid.phase) s.requests_are ∙ sym counts;
       few = omega (arith, s.few, counts, one-request mid.phase);
       within = within;
     }
 
 -- no more than so many requests were answered, with the one that would be read next
-pub within_next : (most : Option ℕ) (old : Session) (ds : List Dialogue) (new : Session) (answered : AnswersEach old ds new) (requests counted : ℕ) → requests_in old ds new answered ≡ requests
-    → counted ≡ requests + requests_at new.phase → IfSome most (λ most. counted ≤ most) → IfSome most (λ most. requests_in old ds new answered + requests_at new.phase ≤ most)
+pub within_next : (most : Option ℕ) (old : Session) (ds : List Dialogue) (new : Session) (answered : AnswersEach (is_none most) old ds new) (requests counted : ℕ) → requests_in (is_none most) old ds new answered ≡ requests
+    → counted ≡ requests + requests_at new.phase → IfSome most (λ most. counted ≤ most) → IfSome most (λ n. requests_in (is_none most) old ds new answered + requests_at new.phase ≤ n)
 within_next most old ds new answered requests counted are counts within = rw (are, ← counts) within
 
 -- nothing more is read or written
@@ -118,27 +118,28 @@ pub nothing_done : (left contents : Option (List ℕ)) (old : Session) → DoesN
 nothing_done left contents old = record { read = Keeps-refl left; written = Keeps-refl contents; new_is = refl }
 
 -- a message stops a session, whatever was answered before
-pub stops_after : (count : ℕ) (fault : SessionFault) (bytes : Streams) (old : Session) (new : StoreView) → StopsSession fault bytes old new → StopsAfter count fault bytes old new
-stops_after count Input bytes old new s = s
-stops_after count Magic bytes old new s = s
-stops_after count Output bytes old new s = s
-stops_after count Unsent bytes old new s = s
-stops_after count TooMany bytes old new s = absurd s
+pub stops_after : (together : Bool) (count : ℕ) (fault : SessionFault) (bytes : Streams) (old : Session) (new : StoreView) → StopsSession together fault bytes old new → StopsAfter together count fault bytes old new
+stops_after together count Input bytes old new s = s
+stops_after together count Magic bytes old new s = s
+stops_after together count Output bytes old new s = s
+stops_after together count Unsent bytes old new s = s
+stops_after together count TooMany bytes old new s = absurd s
 
 -- as many requests were answered as may be
-at-limit : (most : Option ℕ) (bytes : Streams) (old : Session) (phase : Phase) (new : StoreView) (count requests : ℕ) → ServedCount most bytes old (session phase new) count requests → phase ≡ phases.Transmission → RunsToLimit requests bytes old new
-at-limit most bytes old phases.Transmission new count requests s is = record { served = s.served; count_is = s.requests_are }
-at-limit most bytes old phases.Greeting new count requests s is = absurd (cc is)
-at-limit most bytes old phases.Flags new count requests s is = absurd (cc is)
-at-limit most bytes old (phases.Options no_zeroes) new count requests s is = absurd (cc is)
-at-limit most bytes old phases.Ended new count requests s is = absurd (cc is)
+at-limit : (n : ℕ) (bytes : Streams) (old : Session) (phase : Phase) (new : StoreView) (count requests : ℕ) → ServedCount (Some n) bytes old (session phase new) count requests → phase ≡ phases.Transmission → n ≡ requests → RunsToLimit n bytes old new
+at-limit n bytes old phases.Transmission new count requests s is same = record { served = s.served; count_is = s.requests_are ∙ sym same }
+at-limit n bytes old phases.Greeting new count requests s is same = absurd (cc is)
+at-limit n bytes old phases.Flags new count requests s is same = absurd (cc is)
+at-limit n bytes old (phases.Options no_zeroes) new count requests s is same = absurd (cc is)
+at-limit n bytes old phases.Ended new count requests s is same = absurd (cc is)
 
 pub runs_to_limit : (most : Option ℕ) (bytes : Streams) (old : Session) (phase : Phase) (new : StoreView) (count requests : ℕ) → ServedCount most bytes old (session phase new) count requests → phase ≡ phases.Transmission → most ≡ Some requests
     → ServesAtMost most bytes old (Ok LimitReached) new
-runs_to_limit most bytes old phase new count requests s is full = rw full (at-limit most bytes old phase new count requests s is)
+runs_to_limit None bytes old phase new count requests s is full = absurd (cc full)
+runs_to_limit (Some n) bytes old phase new count requests s is full = at-limit n bytes old phase new count requests s is (cc full)
 
 -- a message at which a session stops is within the requests that may be read
-stopped-within : (most : Option ℕ) (fault : SessionFault) (bytes : Streams) (mid : Session) (new : StoreView) (answered : ℕ) → StopsSession fault bytes mid new → IfSome most (λ most. answered + requests_at mid.phase ≤ most)
+stopped-within : (most : Option ℕ) (fault : SessionFault) (bytes : Streams) (mid : Session) (new : StoreView) (answered : ℕ) → StopsSession (is_none most) fault bytes mid new → IfSome most (λ most. answered + requests_at mid.phase ≤ most)
     → IfSome most (λ most. answered + requests_stopped fault mid.phase ≤ most)
 stopped-within most Input bytes mid new answered stops within = within
 stopped-within most Magic bytes mid new answered stops within = within
@@ -148,14 +149,14 @@ stopped-within most TooMany bytes mid new answered stops within = absurd stops
 
 pub stops_at : (most : Option ℕ) (input middle rest written between contents : Option (List ℕ)) (old mid : Session) (count requests counted : ℕ) (fault : SessionFault) (new : StoreView)
     → ServedCount most (streams input middle written between) old mid count requests → counted ≡ requests + requests_at mid.phase → IfSome most (λ most. counted ≤ most)
-    → StopsSession fault (streams middle rest between contents) mid new → StopsWithin most (streams input rest written contents) old fault new
+    → StopsSession (is_none most) fault (streams middle rest between contents) mid new → StopsWithin most (streams input rest written contents) old fault new
 stops_at most input middle rest written between contents old mid count requests counted fault new s counts within stops = record {
   stops = record {
     middle = mid;
     rest = middle;
     contents = between;
     served = s.served;
-    stops = stops_after (length s.served.dialogues) fault (streams middle rest between contents) mid new stops;
+    stops = stops_after (is_none most) (length s.served.dialogues) fault (streams middle rest between contents) mid new stops;
   };
   within = stopped-within most fault (streams middle rest between contents) mid new _ stops
       (within_next most old s.served.dialogues mid s.served.answered requests counted s.requests_are counts within);

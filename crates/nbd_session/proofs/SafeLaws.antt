@@ -137,6 +137,7 @@ sound-kept = record {
   same = λ store sound. sound;
   again = λ a b c x y sound. y (x sound);
   asked = λ old request bytes reply new. asked-sound old request (asked_of_store old request) bytes reply new;
+  grouped = λ old askings done new several group w. call-sound old _ _ new w.calls;
   rests = λ old new. rests-sound (old.cleans && not old.read_only) old new;
 }
 

@@ -1,11 +1,14 @@
 -- What a disk that is served gives, as a store: its calls, its turns and its syncs.
-use Rattle.std.proofs.Common.{◌≡◌, ℕ, zero, suc, ◌<◌, ◌≤◌, List, [], ◌∷◌, length, map, None, Some, Ok, Err, true, false, refl, sym, ap, ◌∙◌, inl, inr, arith}
-use Rattle.std.specs.Prelude.{◌⊎◌, Bool, Contains, IsErrAnd, MatchOption, Option, Result}
+use Rattle.std.proofs.Common.{◌≡◌, ℕ, zero, suc, ◌<◌, ◌≤◌, List, [], ◌∷◌, length, map, get_or, None, Some, Ok, Err, true, false, refl, sym, ap, ◌∙◌, inl, inr, arith}
+use Rattle.std.specs.Prelude.{◌⊎◌, Bool, Contains, IsErrAnd, MatchOption, Option, Result, nat_eq}
+use Rattle.std.specs.List.{IsDistinct}
 use Rattle.std.specs.Int.{div_ceil}
 use Rattle.std.proofs.Math.Nat.{div-zero, mod-le}
 use Rattle.std.proofs.lemmas.List.{take_all}
 use Rattle.std.proofs.lemmas.Nat.{mul-le}
-use Rattle.zone_states.specs.Zone.{Zone}
+use Rattle.zone_states.specs.Zone.{Zone, cut_blocks}
+use Rattle.batch_log.specs.declared.header.Entry.{Entry}
+use Rattle.batch_log.specs.Log.{data_count}
 use Rattle.drive_port.specs.Drive.{DriveState}
 use Rattle.drive_port.specs.Durable.{IsDurable, MayBeDurable}
 use Rattle.drive_port.specs.Run.{restarted_zone}
@@ -13,17 +16,19 @@ use Rattle.drive_port.proofs.ClosingLaws.{contents-restarted}
 use Rattle.drive_array.specs.Reserve.{batch_most}
 use Rattle.drive_array.proofs.ReserveLaws.{div_ceil-le}
 use Rattle.zone_translator.proofs.KeepingLaws.{keeps_call, keeps_same}
-use Rattle.zone_translator.specs.Answers.{Answers, AnswersRead, CostsAtMost, Stores, TakesTurn, write_commands}
+use Rattle.zone_translator.proofs.ListedLaws.{blocks-put}
+use Rattle.zone_translator.specs.Answers.{Answers, AnswersRead, CostsAtMost, Stores, StoresList, TakesTurn, list_commands, write_commands, write_entries}
 use Rattle.zone_translator.specs.Changes.{batch_commands}
-use Rattle.zone_translator.specs.Flat.{Answer, Begun, Call, FlatDisk, IsFront, answer_while, flush, grow, idle, known_answer, may_refuse, read, replaced, report, status_after, with_nothing, write, write_list}
+use Rattle.zone_translator.specs.Flat.{Answer, Begun, Call, FlatDisk, IsFront, IsListFront, Put, answer_while, flush, grow, idle, known_answer, may_refuse, put_all, read, replaced, report, status_after, with_nothing, write, write_list}
+use Rattle.zone_translator.specs.Listed.{blocks_named, list_puts}
 use Rattle.zone_translator.specs.View.{CompletesAtMost, DiskView, KeepsDisk, disk_array, disk_turns, flat_of, given_size}
 use Rattle.zone_translator.specs.declared.fault.DiskFault.{DiskFault}
 use Rattle.nbd_session.specs.declared.fault.StoreFault.{StoreFault}
 use Rattle.nbd_session.specs.declared.fault.StoreFault.TheVariants.{Disk}
 use Rattle.nbd_session.specs.Served.{array_with, since_of}
 use Rattle.nbd_session.specs.Pending.{Pending}
-use Rattle.nbd_session.specs.Store.{CallsDisk, ComesFrom, FailsSync, Hardens, IsMoment, IsPart, IsTorn, KeepsBySync, OrFails, Rests, Shows, Spares, StoreView, Writes}
-use Rattle.nbd_session.proofs.PendingLaws.{front-torn, in-none, same-torn}
+use Rattle.nbd_session.specs.Store.{CallsDisk, ComesFrom, FailsSync, Hardens, IsListTorn, IsMoment, IsPart, IsTorn, KeepsBySync, OrFails, Rests, Shows, Spares, StoreView, Writes, WritesList}
+use Rattle.nbd_session.proofs.PendingLaws.{front-torn, in-none, list-torn, same-torn}
 
 -- the only element of a list
 only : {X : Type 0} (a x : X) → Contains (a ∷ []) x → a ≡ x
@@ -150,6 +155,48 @@ write_called is_trim old new syncs read_only cleans flushes first blocks n resul
       };
       turns = costs.turns;
       due = omega (arith, costs.completed, few-commands is_trim old n);
+      through = λ none. record { stores = stores; costs = costs };
+    }
+
+-- the array after a list is the old one, or that after its first blocks
+list-moment : (known : Option (Result (Unit {0}) DiskFault)) (old : FlatDisk) (puts : List Put) (result : Result (Unit {0}) DiskFault) (new : FlatDisk)
+    → MatchOption known (Begun old (write_list puts) result [] new) (λ r. (with_nothing result ≡ with_nothing r) × (new ≡ old))
+    → (new.array ≡ old.array) ⊎ IsListFront old.array puts new.array
+list-moment (Some r) old puts result new c = inl (ap (λ (d : FlatDisk). d.array) c.1)
+list-moment None old puts (Ok done) new c = inr (record {
+  done = length puts;
+  within = omega arith;
+  written = ap (λ (d : FlatDisk). d.array) c.1 ∙ ap (λ (ps : List Put). put_all old.array ps) (sym (take_all (length puts) puts (omega arith)));
+})
+list-moment None old puts (Err fault) new c = inr c.2
+
+list-part : (puts : List Put) (old new : List (List ℕ)) → IsDistinct nat_eq (map (λ (p : Put). p.block) puts) → (new ≡ old) ⊎ IsListFront old puts new → IsListTorn old puts new
+list-part puts old new distinct (inl same) = record { length_is = ap length same; either = λ place. inl (ap (λ (a : List (List ℕ)). get_or a place []) same) }
+list-part puts old new distinct (inr front) = list-torn old puts new distinct front
+
+-- a list of the disk is a list of the store
+pub list_called : (old new : DiskView) (syncs : ℕ) (read_only cleans flushes : Bool) (entries : List Entry) (bytes : List ℕ) (result : Result (Unit {0}) DiskFault) → IsDistinct nat_eq (blocks_named entries)
+    → Answers old (write_entries old entries bytes) result new → StoresList old entries result new → CostsAtMost old (list_commands old (length entries)) result new
+    → WritesList (served old syncs read_only cleans flushes) entries bytes (with_nothing result) (served new syncs read_only cleans flushes)
+list_called old new syncs read_only cleans flushes entries bytes result distinct a stores costs =
+    let puts = list_puts old entries bytes in
+    let apart : IsDistinct nat_eq (map (λ (p : Put). p.block) puts) = rw (blocks-put old.drive.geometry.block entries (cut_blocks old.drive.geometry.block (data_count entries) bytes)) distinct in
+    let moment = list-moment (known_answer (flat_of old) (write_list puts)) (flat_of old) puts result (flat_of new) a.flat in
+    record {
+      calls = record {
+        flat = a.flat;
+        kept = keeps_call old new a.kept;
+        durable = a.durable;
+        cause = a.cause;
+        since = since-part flushes old new (write_list puts) a.kept a.durable (list-part puts (disk_array old) (disk_array new) apart moment);
+        pending = λ w found. absurd (in-none w found);
+        none = λ prompt. refl;
+        syncs = refl;
+        mode = record { read_only = refl; cleans = refl; flushes = refl; defers = refl; fails = refl };
+        through = λ none. through-disk old new syncs read_only cleans flushes (write_list puts) a.kept (since-call flushes old new (IsListFront (disk_array old) puts) a.kept a.durable moment);
+      };
+      turns = costs.turns;
+      due = omega (arith, costs.completed);
       through = λ none. record { stores = stores; costs = costs };
     }
 

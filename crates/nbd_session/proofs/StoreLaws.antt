@@ -73,6 +73,7 @@ drive_kept = record {
   same = λ store. keeps_same store.disk;
   again = λ a b c. keeps_again a.disk b.disk c.disk;
   asked = λ old request bytes reply new. asked_keeps old request (asked_of_store old request) bytes reply new;
+  grouped = λ old askings done new several group w. call_keeps old _ _ new w.calls;
   rests = λ old new. rests_keeps (old.cleans && not old.read_only) old new;
 }
 

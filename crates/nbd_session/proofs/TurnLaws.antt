@@ -50,8 +50,8 @@ stops-so Output bytes count A B P Q so nothing r = record {
 
 -- the head is read, and the rest is answered
 exchanged : (passes : Bool) (input middle rest written contents : Option (List ℕ)) (head : List ℕ) (count : ℕ) (A : List ℕ → List ℕ → Type 0) (old new : Session) → Consumes input middle head
-    → ((after reply : List ℕ) → length after ≡ count → A after reply → AnswersMessage passes old (head ++ after) reply new)
-    → Replies (streams middle rest written contents) count A → AnswersOne passes (streams input rest written contents) old new
+    → ((after reply : List ℕ) → length after ≡ count → A after reply → AnswersMessage false passes old (head ++ after) reply new)
+    → Replies (streams middle rest written contents) count A → AnswersOne false passes (streams input rest written contents) old new
 exchanged passes input middle rest written contents head count A old new first so r = record {
   message = head ++ r.after;
   reply = r.reply;
@@ -64,8 +64,8 @@ exchanged passes input middle rest written contents head count A old new first s
 stopped : (fault : SessionFault) (input middle rest written contents : Option (List ℕ)) (head : List ℕ) (count : ℕ) (A : List ℕ → List ℕ → Type 0) (P : Type 0) (old : Session) (phase : Phase) (new : StoreView)
     → Consumes input middle head → (P → new ≡ old.store)
     → ((front : List ℕ) → length front < count → IsCutMessage old.phase (head ++ front))
-    → ((after reply : List ℕ) → length after ≡ count → A after reply → AnswersMessage false old (head ++ after) reply (session phase new))
-    → ReplyStops fault (streams middle rest written contents) count A P → StopsSession fault (streams input rest written contents) old new
+    → ((after reply : List ℕ) → length after ≡ count → A after reply → AnswersMessage false false old (head ++ after) reply (session phase new))
+    → ReplyStops fault (streams middle rest written contents) count A P → StopsSession false fault (streams input rest written contents) old new
 stopped Input input middle rest written contents head count A P old phase new first nothing cut so r = record {
   front = head ++ r.0.bytes;
   holds = cut r.0.bytes r.0.fewer;
@@ -133,7 +133,7 @@ dropped-front input rest written contents n count reply wanted dropped same is s
 
 request-answered : (passes : Bool) (old answered new : StoreView) (request : Request) (head : List ℕ) → (head ≡ request_bytes request) × FitsRequest request → is_disconnect request ≡ false → Follows passes answered new
     → (after reply : List ℕ) → length after ≡ data_length request → AnswersAsked old request (asked_of_store old request) after reply answered
-    → AnswersMessage passes (session phases.Transmission old) (head ++ after) reply (session phases.Transmission new)
+    → AnswersMessage false passes (session phases.Transmission old) (head ++ after) reply (session phases.Transmission new)
 request-answered passes old answered new request head is goes_on follows after reply count a = record {
   request = request;
   fits = is.1;
@@ -151,7 +151,7 @@ request-cut request head is front fewer =
 pub request-exchanged : (passes : Bool) (input middle rest written between contents : Option (List ℕ)) (old answered new : StoreView) (request : Request) (head : List ℕ) → Consumes input middle head
     → (head ≡ request_bytes request) × FitsRequest request → is_disconnect request ≡ false → Follows passes answered new → Keeps between contents
     → Replies (streams middle rest written between) (data_length request) (λ after reply. AnswersAsked old request (asked_of_store old request) after reply answered)
-    → AnswersOne passes (streams input rest written contents) (session phases.Transmission old) (session phases.Transmission new)
+    → AnswersOne false passes (streams input rest written contents) (session phases.Transmission old) (session phases.Transmission new)
 request-exchanged passes input middle rest written between contents old answered new request head first is goes_on follows kept r = record {
   message = head ++ r.after;
   reply = r.reply;
@@ -163,14 +163,14 @@ request-exchanged passes input middle rest written between contents old answered
 -- if what follows the head of a request is not answered, the session stops
 pub request-stopped : (fault : SessionFault) (input middle rest written contents : Option (List ℕ)) (old new : StoreView) (request : Request) (head : List ℕ) → Consumes input middle head → (head ≡ request_bytes request) × FitsRequest request → is_disconnect request ≡ false
     → ReplyStops fault (streams middle rest written contents) (data_length request) (λ after reply. AnswersAsked old request (asked_of_store old request) after reply new) (new ≡ old)
-    → StopsSession fault (streams input rest written contents) (session phases.Transmission old) new
+    → StopsSession false fault (streams input rest written contents) (session phases.Transmission old) new
 request-stopped fault input middle rest written contents old new request head first is goes_on r =
     stopped fault input middle rest written contents head (data_length request) (λ after reply. AnswersAsked old request (asked_of_store old request) after reply new) (new ≡ old) (session phases.Transmission old) phases.Transmission new
     first (λ same. same) (request-cut request head is) (request-answered false old new new request head is goes_on refl) r
 
 -- a reply was written, and is not passed on
 pub request-unsent : (fault : SessionFault) (bytes : Streams) (old new : StoreView) → fault ≡ Unsent
-    → AnswersOne false bytes (session phases.Transmission old) (session phases.Transmission new) → StopsSession fault bytes (session phases.Transmission old) new
+    → AnswersOne false false bytes (session phases.Transmission old) (session phases.Transmission new) → StopsSession false fault bytes (session phases.Transmission old) new
 request-unsent Unsent bytes old new is a = record { phase = phases.Transmission; answers = a }
 request-unsent Input bytes old new is a = absurd (cc is)
 request-unsent Magic bytes old new is a = absurd (cc is)
@@ -179,7 +179,7 @@ request-unsent TooMany bytes old new is a = absurd (cc is)
 
 -- a fault is handed on
 pub turn-stops : (bytes : Streams) (old : Session) (r : Result (Option Phase) SessionFault) (fault : SessionFault) (new : StoreView) → IsErrAnd r (λ e. e ≡ fault)
-    → StopsSession fault bytes old new → TurnGives bytes old r new
+    → StopsSession false fault bytes old new → TurnGives false bytes old r new
 turn-stops bytes old (Ok x) fault new is p = absurd is
 turn-stops bytes old (Err e) fault new is p = rw is p
 
@@ -187,7 +187,7 @@ turn-stops bytes old (Err e) fault new is p = rw is p
 
 option-answered : (passes : Bool) (old : StoreView) (no_zeroes : Bool) (option : OptionHead) (kind : Option OptionKind) (head : List ℕ) → kind ≡ option_of option.option → (head ≡ option_head_bytes option) × FitsHead option
     → (after reply : List ℕ) → length after ≡ option.length → reply ≡ answer_bytes (export_of old) no_zeroes option.option (option_answer kind option.length)
-    → AnswersMessage passes (session (phases.Options no_zeroes) old) (head ++ after) reply (session (phase_after no_zeroes kind) old)
+    → AnswersMessage false passes (session (phases.Options no_zeroes) old) (head ++ after) reply (session (phase_after no_zeroes kind) old)
 option-answered passes old no_zeroes option kind head kind_is is after reply count said = record {
   head = option;
   fits = is.1;
@@ -205,7 +205,7 @@ option-cut no_zeroes option head is front fewer =
 -- if the head of an option is read and what follows is answered, the message is answered
 pub option-exchanged : (input middle rest written contents : Option (List ℕ)) (old : StoreView) (no_zeroes : Bool) (option : OptionHead) (kind : Option OptionKind) (head : List ℕ) → Consumes input middle head → kind ≡ option_of option.option → (head ≡ option_head_bytes option) × FitsHead option
     → Replies (streams middle rest written contents) option.length (λ after reply. reply ≡ answer_bytes (export_of old) no_zeroes option.option (option_answer kind option.length))
-    → AnswersOne true (streams input rest written contents) (session (phases.Options no_zeroes) old) (session (phase_after no_zeroes kind) old)
+    → AnswersOne false true (streams input rest written contents) (session (phases.Options no_zeroes) old) (session (phase_after no_zeroes kind) old)
 option-exchanged input middle rest written contents old no_zeroes option kind head first kind_is is r =
     exchanged true input middle rest written contents head option.length (λ after reply. reply ≡ answer_bytes (export_of old) no_zeroes option.option (option_answer kind option.length)) (session (phases.Options no_zeroes) old) (session (phase_after no_zeroes kind) old)
     first (option-answered true old no_zeroes option kind head kind_is is) r
@@ -213,7 +213,7 @@ option-exchanged input middle rest written contents old no_zeroes option kind he
 -- if what follows the head of an option is not answered, the session stops
 pub option-stopped : (fault : SessionFault) (input middle rest written contents : Option (List ℕ)) (old : StoreView) (no_zeroes : Bool) (option : OptionHead) (kind : Option OptionKind) (head : List ℕ) → Consumes input middle head → kind ≡ option_of option.option → (head ≡ option_head_bytes option) × FitsHead option
     → ReplyStops fault (streams middle rest written contents) option.length (λ after reply. reply ≡ answer_bytes (export_of old) no_zeroes option.option (option_answer kind option.length)) ⊤
-    → StopsSession fault (streams input rest written contents) (session (phases.Options no_zeroes) old) old
+    → StopsSession false fault (streams input rest written contents) (session (phases.Options no_zeroes) old) old
 option-stopped fault input middle rest written contents old no_zeroes option kind head first kind_is is r =
     stopped fault input middle rest written contents head option.length (λ after reply. reply ≡ answer_bytes (export_of old) no_zeroes option.option (option_answer kind option.length)) ⊤ (session (phases.Options no_zeroes) old) (phase_after no_zeroes kind) old
     first (λ t. refl) (option-cut no_zeroes option head is) (option-answered false old no_zeroes option kind head kind_is is) r

@@ -1,5 +1,5 @@
 -- What a client may rely on.
-use Rattle.std.specs.Prelude.{◌≡◌, ℕ, ◌+◌, ◌/◌, ◌<◌, ◌≤◌, true, false, List, [], ◌++◌, slice_index_or, Contains, Ok, Result}
+use Rattle.std.specs.Prelude.{◌≡◌, ℕ, ◌+◌, ◌/◌, ◌<◌, ◌≤◌, true, false, List, [], ◌++◌, map, slice_index_or, Bool, Contains, Ok, Result}
 use Rattle.nbd_wire.specs.Transmission.{simple_reply_bytes}
 use Rattle.nbd_wire.specs.declared.error_code.ErrorCode.TheVariants.{Io, Success}
 use Rattle.nbd_wire.specs.declared.request.Request.{Request}
@@ -7,8 +7,9 @@ use Rattle.zone_states.specs.Zone.{Zone}
 use Rattle.drive_port.specs.Run.{restarted}
 use Rattle.remount.specs.Mount.{IsToMount}
 use Rattle.zone_translator.specs.Answers.{Answers}
-use Rattle.zone_translator.specs.Flat.{flush}
-use Rattle.zone_translator.specs.Laws.{CanMountAgain}
+use Rattle.zone_translator.specs.Flat.{FlatDisk, flush}
+use Rattle.zone_translator.specs.Laws.{AllSteps, CanMountAgain, FlatStep, written_alone}
+use Rattle.zone_translator.specs.Listed.{list_puts}
 use Rattle.zone_translator.specs.Mount.{MountsDisk}
 use Rattle.zone_translator.specs.View.{DiskView, disk_array, given_size}
 use Rattle.nbd_session.specs.declared.asked.Asked.{Asked}
@@ -17,7 +18,8 @@ use Rattle.nbd_session.specs.declared.fault.SessionFault.{SessionFault}
 use Rattle.nbd_session.specs.declared.fault.StoreFault.{StoreFault}
 use Rattle.nbd_session.specs.Requests.{Does, DoesAndReplies, DoesOrFails, data_length, is_forced}
 use Rattle.nbd_session.specs.Served.{since_of}
-use Rattle.nbd_session.specs.Session.{Session}
+use Rattle.nbd_session.specs.Groups.{data_of, entries_of}
+use Rattle.nbd_session.specs.Session.{ServesGroup, Session}
 use Rattle.nbd_session.specs.Store.{KeepsMode, OrFails, StoreView, store_array, store_flat}
 use Rattle.nbd_session.specs.Streams.{Streams}
 use Rattle.nbd_session.specs.Turns.{Serves}
@@ -48,6 +50,14 @@ ForcedIsDurable =
     (old new : StoreView) (request : Request) (wanted : Asked) (bytes reply shown : List ℕ) → (answered : DoesAndReplies old request wanted bytes reply new)
     → is_forced wanted request ≡ true → reply ≡ simple_reply_bytes Success request.cookie ++ shown
     → (answered.middle.syncs < new.syncs) × ((left : List (List ℕ)) → Contains new.since left → IsLeft wanted (data_length request) new left)
+
+-- Requests that came together, and are done, leave the array that their blocks leave where each is written by a call of
+-- its own, in their order.
+abbrev pub GroupIsItsWrites : Type 0
+GroupIsItsWrites =
+    (passes : Bool) (old : StoreView) (message reply : List ℕ) (new : Session) (last : FlatDisk) → (served : ServesGroup passes old message reply new) → served.done ≡ Ok tt
+    → AllSteps FlatStep (store_flat old) (map written_alone (list_puts old.disk (entries_of served.askings) (data_of served.askings))) last
+    → store_flat served.answered ≡ last
 
 -- A request that had not to be durable has a reply that says EIO. Then the medium may fail in it, nothing is done, and
 -- nothing is shown.

@@ -1,5 +1,5 @@
 -- A session: the greeting, options, and the transmission of requests. Each message that is read is answered.
-use Rattle.std.specs.Prelude.{◌≡◌, ℕ, ◌*◌, ◌==◌, max, if◌then◌else◌, Bool, true, false, List, [], ◌∷◌, ◌++◌, length, Option, Some, None}
+use Rattle.std.specs.Prelude.{◌≡◌, ◌⊎◌, ℕ, ◌*◌, ◌≤◌, ◌==◌, max, map, if◌then◌else◌, Bool, true, false, List, [], ◌∷◌, ◌++◌, length, Option, Some, None, Result}
 use Rattle.std.specs.List.{flat_map}
 use Rattle.std.specs.Io.KnownBytes.{Appends, Consumes}
 use Rattle.nbd_wire.specs.Handshake.{FitsHead, client_flags_bytes, greeting, info_replies, list_reply, name_reply, option_head_bytes, option_of, option_reply}
@@ -11,14 +11,17 @@ use Rattle.nbd_wire.specs.declared.option_kind.OptionKind.{OptionKind}
 use Rattle.nbd_wire.specs.declared.option_kind.OptionKind.TheVariants as options
 use Rattle.nbd_wire.specs.declared.reply_kind.ReplyKind.TheVariants.{Acknowledge, Unsupported, Invalid}
 use Rattle.nbd_wire.specs.declared.request.Request.{Request}
+use Rattle.zone_translator.specs.Flat.{with_nothing}
 use Rattle.zone_translator.specs.View.{disk_size}
+use Rattle.zone_translator.specs.declared.fault.DiskFault.{DiskFault}
 use Rattle.nbd_session.specs.declared.asked.TheConstants.{MOST_BYTES}
 use Rattle.nbd_session.specs.declared.option_answer.OptionAnswer.{OptionAnswer}
 use Rattle.nbd_session.specs.declared.option_answer.OptionAnswer.TheVariants.{Short, Exports, ExportInfo, Name}
 use Rattle.nbd_session.specs.declared.phase.Phase.{Phase}
 use Rattle.nbd_session.specs.declared.phase.Phase.TheVariants as phases
 use Rattle.nbd_session.specs.Requests.{AnswersAsked, asked_of_store, data_length, is_disconnect}
-use Rattle.nbd_session.specs.Store.{Rests, StoreView}
+use Rattle.nbd_session.specs.Groups.{Asking, FollowsAll, IsGroup, asking_bytes, data_of, entries_of, member_of, replies_to}
+use Rattle.nbd_session.specs.Store.{Rests, StoreView, WritesList}
 use Rattle.nbd_session.specs.Streams.{Streams}
 
 pub record Session : Type 0 where
@@ -86,6 +89,20 @@ pub record AnswersAndRests (passes : Bool) (old : StoreView) (request : Request)
   pub answers : AnswersAsked old request (asked_of_store old request) bytes reply answered
   pub follows : Follows passes answered new
 
+-- Requests that came together are done by one call, and each is answered by its result. The replies are in the order of
+-- the requests. Then the store rests once for each.
+pub record ServesGroup (passes : Bool) (old : StoreView) (message reply : List ℕ) (new : Session) : Type 0 where
+  pub askings : List Asking
+  pub several : 2 ≤ length askings
+  pub group : IsGroup old askings
+  pub message_is : message ≡ flat_map asking_bytes askings
+  pub done : Result (Unit {0}) DiskFault
+  pub answered : StoreView
+  pub writes : WritesList old (entries_of askings) (data_of askings) (with_nothing done) answered
+  pub reply_is : reply ≡ replies_to done (map member_of askings)
+  pub follows : FollowsAll passes (length askings) answered new.store
+  pub phase_is : new.phase ≡ phases.Transmission
+
 -- a DISC has no reply, and ends the session
 abbrev pub AnswersBy : Bool → StoreView → Bool → Request → List ℕ → List ℕ → Session → Type 0
 AnswersBy passes old true request bytes reply new = (reply ≡ []) × (new ≡ session phases.Ended old)
@@ -110,16 +127,21 @@ pub record TakesFlags (old : StoreView) (message reply : List ℕ) (new : Sessio
   pub reply_is : reply ≡ []
   pub new_is : new ≡ session (phases.Options flags.no_zeroes) old
 
--- A message is answered, and its reply is passed on or not. The greeting answers to none.
-abbrev pub AnswersIn : Bool → Phase → StoreView → List ℕ → List ℕ → Session → Type 0
-AnswersIn passes phases.Greeting old message reply new = (message ≡ []) × (reply ≡ greeting) × (new ≡ session phases.Flags old)
-AnswersIn passes phases.Flags old message reply new = TakesFlags old message reply new
-AnswersIn passes (phases.Options no_zeroes) old message reply new = ServesOption old no_zeroes message reply new
-AnswersIn passes phases.Transmission old message reply new = ServesRequest passes old message reply new
-AnswersIn passes phases.Ended old message reply new = ⊥
+-- a message of the transmission is a request or, where those that came together may be answered so, a group of them
+abbrev pub ServesRequests : Bool → Bool → StoreView → List ℕ → List ℕ → Session → Type 0
+ServesRequests true passes old message reply new = ServesRequest passes old message reply new ⊎ ServesGroup passes old message reply new
+ServesRequests false passes old message reply new = ServesRequest passes old message reply new
 
-abbrev pub AnswersMessage : Bool → Session → List ℕ → List ℕ → Session → Type 0
-AnswersMessage passes old message reply new = AnswersIn passes old.phase old.store message reply new
+-- A message is answered, and its reply is passed on or not. The greeting answers to none.
+abbrev pub AnswersIn : Bool → Bool → Phase → StoreView → List ℕ → List ℕ → Session → Type 0
+AnswersIn together passes phases.Greeting old message reply new = (message ≡ []) × (reply ≡ greeting) × (new ≡ session phases.Flags old)
+AnswersIn together passes phases.Flags old message reply new = TakesFlags old message reply new
+AnswersIn together passes (phases.Options no_zeroes) old message reply new = ServesOption old no_zeroes message reply new
+AnswersIn together passes phases.Transmission old message reply new = ServesRequests together passes old message reply new
+AnswersIn together passes phases.Ended old message reply new = ⊥
+
+abbrev pub AnswersMessage : Bool → Bool → Session → List ℕ → List ℕ → Session → Type 0
+AnswersMessage together passes old message reply new = AnswersIn together passes old.phase old.store message reply new
 
 -- ---- many messages
 
@@ -129,13 +151,13 @@ pub record Dialogue : Type 0 where
   pub reply : List ℕ
 
 -- messages are answered, one after the other, and each reply is passed on
-abbrev pub AnswersEach : Session → List Dialogue → Session → Type 0
-AnswersEach old [] new = new ≡ old
-AnswersEach old (d ∷ ds) new = (middle : Session) × AnswersMessage true old d.message d.reply middle × AnswersEach middle ds new
+abbrev pub AnswersEach : Bool → Session → List Dialogue → Session → Type 0
+AnswersEach together old [] new = new ≡ old
+AnswersEach together old (d ∷ ds) new = (middle : Session) × AnswersMessage together true old d.message d.reply middle × AnswersEach together middle ds new
 
 -- the bytes that were read are messages, and those that were written are the replies to them
-pub record Served (bytes : Streams) (old new : Session) : Type 0 where
+pub record Served (together : Bool) (bytes : Streams) (old new : Session) : Type 0 where
   pub dialogues : List Dialogue
   pub read : Consumes bytes.input bytes.rest (flat_map (λ (d : Dialogue). d.message) dialogues)
   pub written : Appends bytes.written bytes.contents (flat_map (λ (d : Dialogue). d.reply) dialogues)
-  pub answered : AnswersEach old dialogues new
+  pub answered : AnswersEach together old dialogues new

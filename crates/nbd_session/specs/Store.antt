@@ -1,8 +1,10 @@
 -- A disk that is served, what of it a loss of power leaves, and how often it was synced.
-use Rattle.std.specs.Prelude.{◌≡◌, ◌⊎◌, ℕ, ◌+◌, ◌<◌, ◌≤◌, ◌&&◌, Bool, true, false, not, List, [], ◌∷◌, length, map, slice_index_or, Contains, Some, None, Result, Ok, Err, IfErr, OnOk}
+use Rattle.std.specs.Prelude.{◌≡◌, ◌⊎◌, ℕ, zero, suc, ◌+◌, ◌<◌, ◌≤◌, ◌&&◌, ◌||◌, if◌then◌else◌, Bool, true, false, not, List, [], ◌∷◌, length, map, slice_index_or, Contains, Some, None, Result, Ok, Err, IfErr, OnOk}
 use Rattle.std.specs.List.{concat}
+use Rattle.batch_log.specs.declared.header.Entry.{Entry}
 use Rattle.drive_port.specs.Durable.{MayBeDurable}
-use Rattle.zone_translator.specs.Answers.{CostsAtMost, Stores, TakesTurn, count_of_blocks, write_bytes, write_commands}
+use Rattle.drive_array.specs.Reserve.{batch_most}
+use Rattle.zone_translator.specs.Answers.{CostsAtMost, Stores, StoresList, TakesTurn, count_of_blocks, list_commands, write_bytes, write_commands, write_entries}
 use Rattle.zone_translator.specs.Flat.{Answer, Call, FlatCall, FlatDisk, IsFront, IsListFront, Put, answer_while, flush, idle, known_range, may_refuse, put_all, read, replaced, status_after, trim, with_nothing, write, write_list}
 use Rattle.zone_translator.specs.Keeping.{KeepsServed}
 use Rattle.zone_translator.specs.View.{CompletesAtMost, DiskCause, DiskView, KeepsDisk, disk_array, disk_turns, flat_of}
@@ -145,6 +147,23 @@ WritesZeros old first n answer new = Writes false old (trim old.disk.drive.geome
 abbrev pub Trims : StoreView → ℕ → ℕ → Answer → StoreView → Type 0
 Trims old first n answer new = Writes true old (trim old.disk.drive.geometry.block first n) first n answer new
 
+-- how many blocks a list may name: as many as one batch; none where writes may be pending, or the medium may fail in any call
+abbrev pub most_listed : StoreView → ℕ
+most_listed store = if store.defers || store.fails then 0 else batch_most store.disk.drive.geometry
+
+-- what a list gives besides that goes through to the disk: done, the newest record of each of its blocks is its entry's
+pub record ListsDisk (old : DiskView) (entries : List Entry) (result : Result (Unit {0}) DiskFault) (new : DiskView) : Type 0 where
+  pub stores : StoresList old entries result new
+  pub costs : CostsAtMost old (list_commands old (length entries)) result new
+
+-- The blocks of a list are written and trimmed. Done, that adds no turns of a clean. Each block pays for the commands of
+-- one write.
+pub record WritesList (old : StoreView) (entries : List Entry) (bytes : List ℕ) (answer : Answer) (new : StoreView) : Type 0 where
+  pub calls : Calls old (write_entries old.disk entries bytes) answer new
+  pub turns : OnOk answer.result (disk_turns new.disk ≤ disk_turns old.disk)
+  pub due : commands_due new ≤ commands_due old + list_commands old.disk (length entries)
+  pub through : GoesThrough old new → ListsDisk old.disk entries answer.result new.disk
+
 -- A read of n blocks: it completes one command a block at most. As many turns of a clean are left as before, and the
 -- same blocks are pending.
 pub record ReadsBlocks (old : StoreView) (first n : ℕ) (answer : Answer) (new : StoreView) : Type 0 where
@@ -266,3 +285,8 @@ RestsBy false old new = new ≡ old
 -- What is done between two requests: a store that cleans, and is not read only, takes one turn.
 abbrev pub Rests : StoreView → StoreView → Type 0
 Rests old new = RestsBy (old.cleans && not old.read_only) old new
+
+-- the same after so many requests
+abbrev pub RestsTimes : ℕ → StoreView → StoreView → Type 0
+RestsTimes zero old new = new ≡ old
+RestsTimes (suc n) old new = (middle : StoreView) × RestsTimes n old middle × Rests middle new

@@ -1,5 +1,5 @@
 -- What comes of one message, and how a session ends.
-use Rattle.std.specs.Prelude.{◌≡◌, ◌≢◌, ◌⊎◌, ℕ, ◌+◌, ◌-◌, ◌<◌, ◌≤◌, ◌^◌, Bool, true, false, List, [], ◌∷◌, ◌++◌, length, Option, Some, None, IfSome, IsSomeAnd, Result, Ok, Err}
+use Rattle.std.specs.Prelude.{◌≡◌, ◌≢◌, ◌⊎◌, ℕ, ◌+◌, ◌-◌, ◌<◌, ◌≤◌, ◌^◌, Bool, true, false, List, [], ◌∷◌, ◌++◌, length, Option, Some, None, IfSome, IsSomeAnd, is_none, Result, Ok, Err}
 use Rattle.std.specs.Io.KnownBytes.{Appends, Consumes, IsAtEnd, Keeps}
 use Rattle.disk_files.specs.Input.{DropsFewer}
 use Rattle.disk_files.specs.Output.{AppendsFront}
@@ -22,12 +22,12 @@ use Rattle.nbd_session.specs.Streams.{Streams, streams}
 -- ---- one message
 
 -- one message more is answered, and its reply is passed on or not
-pub record AnswersOne (passes : Bool) (bytes : Streams) (old new : Session) : Type 0 where
+pub record AnswersOne (together passes : Bool) (bytes : Streams) (old new : Session) : Type 0 where
   pub message : List ℕ
   pub reply : List ℕ
   pub read : Consumes bytes.input bytes.rest message
   pub written : Appends bytes.written bytes.contents reply
-  pub answers : AnswersMessage passes old message reply new
+  pub answers : AnswersMessage together passes old message reply new
 
 -- nothing is read, written or done
 pub record DoesNothing (bytes : Streams) (old : Session) (new : StoreView) : Type 0 where
@@ -80,33 +80,34 @@ pub record ReadsOnly (bytes : Streams) (Holds : List ℕ → Type 0) (old : Sess
   pub new_is : new ≡ old.store
 
 -- a message is answered, and of the reply a beginning is written, not all of it; nothing else is done
-pub record Breaks (bytes : Streams) (old : Session) (new : StoreView) : Type 0 where
+pub record Breaks (together : Bool) (bytes : Streams) (old : Session) (new : StoreView) : Type 0 where
   pub message : List ℕ
   pub reply : List ℕ
   pub phase : Phase
   pub read : Consumes bytes.input bytes.rest message
   pub written : AppendsFront bytes.written bytes.contents reply
-  pub answers : AnswersMessage false old message reply (session phase new)
+  pub answers : AnswersMessage together false old message reply (session phase new)
 
 -- a message is answered, and its reply is written, and not passed on; nothing else is done
-pub record AnswersUnsent (bytes : Streams) (old : Session) (new : StoreView) : Type 0 where
+pub record AnswersUnsent (together : Bool) (bytes : Streams) (old : Session) (new : StoreView) : Type 0 where
   pub phase : Phase
-  pub answers : AnswersOne false bytes old (session phase new)
+  pub answers : AnswersOne together false bytes old (session phase new)
 
 -- Why a session stops at a message: the reader failed or ended before all of it was read, its head is foreign, or the writer failed in the reply
 -- or did not pass it on.
-abbrev pub StopsSession : SessionFault → Streams → Session → StoreView → Type 0
-StopsSession Input bytes old new = ReadsOnly bytes (IsCutMessage old.phase) old new
-StopsSession Magic bytes old new = ReadsOnly bytes (IsForeign old.phase) old new
-StopsSession Output bytes old new = Breaks bytes old new
-StopsSession Unsent bytes old new = AnswersUnsent bytes old new
-StopsSession TooMany bytes old new = ⊥
+abbrev pub StopsSession : Bool → SessionFault → Streams → Session → StoreView → Type 0
+StopsSession together Input bytes old new = ReadsOnly bytes (IsCutMessage old.phase) old new
+StopsSession together Magic bytes old new = ReadsOnly bytes (IsForeign old.phase) old new
+StopsSession together Output bytes old new = Breaks together bytes old new
+StopsSession together Unsent bytes old new = AnswersUnsent together bytes old new
+StopsSession together TooMany bytes old new = ⊥
 
--- what came of one message: a session continues in a phase, is over, or stops
-abbrev pub TurnGives : Streams → Session → Result (Option Phase) SessionFault → StoreView → Type 0
-TurnGives bytes old (Ok (Some phase)) new = AnswersOne true bytes old (session phase new)
-TurnGives bytes old (Ok None) new = DoesNothing bytes old new × IsOver old bytes.rest
-TurnGives bytes old (Err fault) new = StopsSession fault bytes old new
+-- What came of one message, where requests may be answered together or not: a session continues in a phase, is over, or
+-- stops.
+abbrev pub TurnGives : Bool → Streams → Session → Result (Option Phase) SessionFault → StoreView → Type 0
+TurnGives together bytes old (Ok (Some phase)) new = AnswersOne together true bytes old (session phase new)
+TurnGives together bytes old (Ok None) new = DoesNothing bytes old new × IsOver old bytes.rest
+TurnGives together bytes old (Err fault) new = StopsSession together fault bytes old new
 
 -- ---- what follows the head of a message
 
@@ -141,26 +142,26 @@ ReplyStops TooMany bytes count Answer Nothing = ⊥
 -- every message is answered, until the client ends
 pub record RunsToEnd (bytes : Streams) (old : Session) (new : StoreView) : Type 0 where
   pub phase : Phase
-  pub served : Served bytes old (session phase new)
+  pub served : Served true bytes old (session phase new)
   pub over : IsOver (session phase new) bytes.rest
 
 -- after that many messages a session stops at the next, or because it has answered as many as it counts
-abbrev pub StopsAfter : ℕ → SessionFault → Streams → Session → StoreView → Type 0
-StopsAfter count TooMany bytes old new = (count ≡ 2 ^ 64 - 1) × DoesNothing bytes old new
-StopsAfter count fault bytes old new = StopsSession fault bytes old new
+abbrev pub StopsAfter : Bool → ℕ → SessionFault → Streams → Session → StoreView → Type 0
+StopsAfter together count TooMany bytes old new = (count ≡ 2 ^ 64 - 1) × DoesNothing bytes old new
+StopsAfter together count fault bytes old new = StopsSession together fault bytes old new
 
 -- some messages are answered, and the session stops
-pub record StopsEarly (bytes : Streams) (old : Session) (fault : SessionFault) (new : StoreView) : Type 0 where
+pub record StopsEarly (together : Bool) (bytes : Streams) (old : Session) (fault : SessionFault) (new : StoreView) : Type 0 where
   pub middle : Session
   pub rest : Option (List ℕ)
   pub contents : Option (List ℕ)
-  pub served : Served (streams bytes.input rest bytes.written contents) old middle
-  pub stops : StopsAfter (length served.dialogues) fault (streams rest bytes.rest contents bytes.contents) middle new
+  pub served : Served together (streams bytes.input rest bytes.written contents) old middle
+  pub stops : StopsAfter together (length served.dialogues) fault (streams rest bytes.rest contents bytes.contents) middle new
 
 -- how a session ends
 abbrev pub Serves : Streams → Session → Result (Unit {0}) SessionFault → StoreView → Type 0
 Serves bytes old (Ok done) new = RunsToEnd bytes old new
-Serves bytes old (Err fault) new = StopsEarly bytes old fault new
+Serves bytes old (Err fault) new = StopsEarly true bytes old fault new
 
 -- ---- a session of at most so many requests
 
@@ -169,15 +170,16 @@ abbrev pub requests_at : Phase → ℕ
 requests_at phases.Transmission = 1
 requests_at phase = 0
 
--- how many of the messages that were answered are requests
-abbrev pub requests_in : (old : Session) → (dialogues : List Dialogue) → (new : Session) → AnswersEach old dialogues new → ℕ
-requests_in old [] new answered = 0
-requests_in old (d ∷ ds) new answered = requests_at old.phase + requests_in answered.0 ds new answered.2
+-- how many of the messages that were answered are requests, where each is answered by itself
+abbrev pub requests_in : (together : Bool) → (old : Session) → (dialogues : List Dialogue) → (new : Session) → AnswersEach together old dialogues new → ℕ
+requests_in together old [] new answered = 0
+requests_in together old (d ∷ ds) new answered = requests_at old.phase + requests_in together answered.0 ds new answered.2
 
--- Messages are answered, up to a session that would read one more. With that one there are at most so many requests.
+-- Messages are answered, up to a session that would read one more. With that one there are at most so many requests,
+-- and each is answered by itself.
 pub record RunsWithin (most : Option ℕ) (bytes : Streams) (old new : Session) : Type 0 where
-  pub served : Served bytes old new
-  pub within : IfSome most (λ most. requests_in old served.dialogues new served.answered + requests_at new.phase ≤ most)
+  pub served : Served (is_none most) bytes old new
+  pub within : IfSome most (λ n. requests_in (is_none most) old served.dialogues new served.answered + requests_at new.phase ≤ n)
 
 -- the client has gone between two messages, and has not said that it ends
 pub record RunsOut (most : Option ℕ) (bytes : Streams) (old : Session) (new : StoreView) : Type 0 where
@@ -188,8 +190,8 @@ pub record RunsOut (most : Option ℕ) (bytes : Streams) (old : Session) (new : 
 
 -- so many requests are answered, and no more is read
 pub record RunsToLimit (most : ℕ) (bytes : Streams) (old : Session) (new : StoreView) : Type 0 where
-  pub served : Served bytes old (session phases.Transmission new)
-  pub count_is : requests_in old served.dialogues (session phases.Transmission new) served.answered ≡ most
+  pub served : Served false bytes old (session phases.Transmission new)
+  pub count_is : requests_in false old served.dialogues (session phases.Transmission new) served.answered ≡ most
 
 -- how many requests are read by the message at which a session stops: none, if it only has answered as many as it counts
 abbrev pub requests_stopped : SessionFault → Phase → ℕ
@@ -198,9 +200,9 @@ requests_stopped fault phase = requests_at phase
 
 -- a session stops, and has read at most so many requests
 pub record StopsWithin (most : Option ℕ) (bytes : Streams) (old : Session) (fault : SessionFault) (new : StoreView) : Type 0 where
-  pub stops : StopsEarly bytes old fault new
-  pub within : IfSome most (λ most.
-      requests_in old stops.served.dialogues stops.middle stops.served.answered + requests_stopped fault stops.middle.phase ≤ most)
+  pub stops : StopsEarly (is_none most) bytes old fault new
+  pub within : IfSome most (λ n.
+      requests_in (is_none most) old stops.served.dialogues stops.middle stops.served.answered + requests_stopped fault stops.middle.phase ≤ n)
 
 -- how a session ends in a phase, where no message follows
 abbrev pub end_in : Phase → SessionEnd

@@ -8,7 +8,7 @@ use crate::store::{Store, is_known};
 use rand::{RngExt, SeedableRng};
 use rand_xoshiro::SplitMix64;
 use std::marker::Model;
-use zone_translator::DiskStatus;
+use zone_translator::{DiskFault, DiskStatus, Entry};
 
 /// A store whose medium fails by chance, for tests. It fails before anything is done.
 #[derive(Drop)]
@@ -144,6 +144,18 @@ impl<S: Store + Drop> Store for FailingStore<S> {
             return Err(StoreFault::Medium);
         }
         self.store.write(first, bytes)
+    }
+
+    /// None where the medium may fail in a call: then each is made by itself.
+    fn most_listed(&self) -> u64 {
+        if self.odds > 0 {
+            return 0;
+        }
+        self.store.most_listed()
+    }
+
+    fn write_list(&mut self, entries: &[Entry], bytes: &[u8]) -> Result<(), DiskFault> {
+        self.store.write_list(entries, bytes)
     }
 
     fn trim(&mut self, first: u64, blocks: u64) -> Result<(), StoreFault> {

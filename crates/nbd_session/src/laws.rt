@@ -1,12 +1,19 @@
 //! What a client may rely on. Each function carries a law as its contract, and changes nothing.
 
-ghost use Rattle.nbd_session.specs.Laws.{AnsweredByDisk, FailedIsUndone, FlushIsSafe, ForcedIsDurable, LeftIsFound};
-ghost use Rattle.nbd_session.specs.Laws.{ReadOnlyKeepsArray, SessionKeepsMode, SessionKeepsSafe};
+ghost use Rattle.nbd_session.specs.Laws.{AnsweredByDisk, FailedIsUndone, FlushIsSafe, ForcedIsDurable};
+ghost use Rattle.nbd_session.specs.Laws.{GroupIsItsWrites, LeftIsFound, ReadOnlyKeepsArray, SessionKeepsMode};
+ghost use Rattle.nbd_session.specs.Laws.{SessionKeepsSafe};
 
 /// After a FLUSH that is answered by success the array was synced, and is found again after a loss of power. After a
 /// write with FUA that is so of the blocks that it named and, if nothing is pending, of the whole array.
 pub fn forced_is_durable()
     ensures { ForcedIsDurable }
+{}
+
+/// Requests that have come together, and are done, leave the array that their blocks leave where each is written by a
+/// call of its own, in their order.
+pub fn group_is_its_writes()
+    ensures { GroupIsItsWrites }
 {}
 
 /// A request that is answered by EIO, and had not to be durable, was not done and shows nothing. Only a store that

@@ -20,6 +20,9 @@
 //! * A request is done by one call of the disk, as a flat array does it, and then answered: by its error if it was
 //!   refused, with the blocks of a READ only if it was done. Or it is refused beforehand, and nothing is done: if it
 //!   is not aligned or past the end.
+//! * Requests that have come together may be done by one call: WRITEs and TRIMs that name no block twice, are permitted,
+//!   within the disk, and not to be durable (`ServesGroup`, `IsGroup`). Each is answered by its result, in their order.
+//!   Done, they leave what their blocks leave one by one (`laws::group_is_its_writes`).
 //! * A refused call has its cause in the drive. After the drive has stopped each request that needs it is answered by
 //!   `ESHUTDOWN`, and the session continues.
 //! * A TRIM leaves records without data, and so does a WRITE_ZEROES that may leave a hole. One that may not, and a
@@ -36,15 +39,17 @@
 //! * With the medium [`DriveFlush`] a sync is a Flush of the drive, and a loss of power leaves the array of the last
 //!   one: what it leaves can be mounted, and the mount finds it, however the session ends (`laws::loss_is_found`). Any
 //!   other medium's word stands for it.
-//! * After each request a store that cleans ([`ServeOptions::cleans`]) takes one turn of cleaning. That changes no
-//!   block, and adds no array that a loss of power may leave. Any other store does nothing then.
+//! * After each request a store that cleans ([`ServeOptions::cleans`]) takes one turn of cleaning, and after a group one
+//!   for each of its requests. That changes no block, and adds no array that a loss of power may leave. Any other store
+//!   does nothing then.
 //! * Where the medium fails the request is answered by `EIO`. Nothing is done then, and nothing shown, unless the
 //!   request was to be durable: then its sync may have failed (`laws::failed_is_undone`). The medium of a
 //!   [`ServedDisk`] fails only in a sync. [`FailingStore`] is a store whose medium fails by chance, for tests.
 //! * The client is told whether a store is read only ([`ServeOptions::read_only`]). If so, a WRITE, a TRIM and a
 //!   WRITE_ZEROES are refused by `EPERM`, no other request is refused for it, and no turn is taken. The array stays as
 //!   it is, whatever the client sends (`laws::read_only_keeps_array`).
-//! * [`serve_at_most`] ends after so many requests, and does not read the next one. It tells how a session ended.
+//! * [`serve_at_most`] ends after so many requests, and does not read the next one. It answers each by itself, if a
+//!   number is given, and tells how a session ended.
 //! * `Ok` only if the client has said that it ends, or the input ended between two messages. After a fault all
 //!   messages before are answered. Of the next one nothing is done, unless only its reply was cut.
 //! * The faults: `Input`, fewer bytes than a message has were read; `Magic`, a head with which no message begins;
@@ -57,6 +62,7 @@
 //! * That `Input` and `Output` come only if the reader or the writer failed, or `ENOMEM` only if an allocation failed.
 //! * What a medium keeps. With one that keeps each command, what a loss of power leaves says nothing of the medium.
 //! * In how many calls a [`FailingStore`] fails, that it counts them, and that it can spare syncs: `call_tests`.
+//! * That requests that have come together are found to be a group: one that takes each by itself would be proved.
 //! * That replies are passed on before the next message is read: std's `Write` says nothing of a flush, so a session
 //!   that never flushes would be proved.
 //! * The rows of `nbd_rows` show the bytes of each command, option and error except `ENOMEM`, and sessions that are
@@ -70,6 +76,7 @@ mod client;
 mod ending;
 mod failing;
 mod fault;
+mod group;
 pub mod laws;
 mod medium;
 mod option_answer;
@@ -81,6 +88,7 @@ mod requests;
 mod served_disk;
 mod serving;
 mod store;
+mod together;
 
 pub use asked::{Asked, MOST_BYTES};
 pub use client::Client;

@@ -1,4 +1,4 @@
-ghost use Rattle.std.specs.Prelude.{◌≡◌, IfErr, OnOk, ⊤};
+ghost use Rattle.std.specs.Prelude.{◌≡◌, IfErr, OnOk, false, ⊤};
 ghost use Rattle.nbd_session.specs.Session.{answer_bytes, export_of, session};
 ghost use Rattle.nbd_session.specs.Streams.{streams};
 ghost use Rattle.nbd_session.specs.Turns.{Replies, ReplyStops, TurnGives};
@@ -55,7 +55,7 @@ pub fn answer_option<R: Read, W: Write, S: Store>(
     store: &S,
     no_zeroes: bool,
 ) -> Result<Option<Phase>, SessionFault>
-    ensures { TurnGives
+    ensures { TurnGives false
         (streams (R.remaining reader.old) (R.remaining reader.new) (W.contents writer.old) (W.contents writer.new))
         (session (Phase.Options no_zeroes) (S.view store.now)) result (S.view store.now) }
 {
@@ -84,7 +84,7 @@ pub fn take_flags<R: Read, W: Write, S: Store>(
     writer: &mut W,
     store: &S,
 ) -> Result<Option<Phase>, SessionFault>
-    ensures { TurnGives
+    ensures { TurnGives false
         (streams (R.remaining reader.old) (R.remaining reader.new) (W.contents writer.old) (W.contents writer.new))
         (session Phase.Flags (S.view store.now)) result (S.view store.now) }
 {
@@ -106,7 +106,7 @@ pub fn greet<R: Read, W: Write, S: Store>(
     writer: &mut W,
     store: &S,
 ) -> Result<Option<Phase>, SessionFault>
-    ensures { TurnGives
+    ensures { TurnGives false
         (streams (R.remaining reader.now) (R.remaining reader.now) (W.contents writer.old) (W.contents writer.new))
         (session Phase.Greeting (S.view store.now)) result (S.view store.now) }
 {

@@ -1,4 +1,4 @@
-ghost use Rattle.std.specs.Prelude.{◌≡◌, [], IfErr, IfOk, OnOk, Ok, ⊤};
+ghost use Rattle.std.specs.Prelude.{◌≡◌, [], IfErr, IfOk, OnOk, Ok, false, ⊤};
 ghost use Rattle.std.specs.Io.KnownBytes.{Keeps};
 ghost use Rattle.nbd_wire.specs.Transmission.{simple_reply_bytes};
 ghost use Rattle.nbd_session.specs.Requests.{AnswersAsked, Carries, DoesOrNot, Forces, Secures, asked_of_store};
@@ -11,6 +11,7 @@ ghost use Rattle.nbd_session.specs.Turns.{Replies, ReplyStops, TurnGives};
 use crate::asked::{Asked, data_length, is_disconnect};
 use crate::client::Client;
 use crate::fault::{SessionFault, StoreFault};
+use crate::group::Group;
 use crate::output::{send, send_both};
 use crate::phase::Phase;
 use crate::reading::{fill, skip, take_data};
@@ -20,11 +21,13 @@ use std::alloc::Global;
 use std::io::{Read, Write};
 use zone_translator::DiskFault;
 
-/// The data of a WRITE and the blocks of a READ. They are kept from one request to the next.
+/// The data of a WRITE and the blocks of a READ, and what a group names. They are kept from one request to the next.
 #[derive(Drop)]
 pub struct Buffers {
     held: Vec<u8>,
     shown: Vec<u8>,
+    /// Requests that have come together.
+    pub(crate) group: Group,
 }
 
 impl Buffers {
@@ -33,6 +36,7 @@ impl Buffers {
         Buffers {
             held: Vec::new(alloc),
             shown: Vec::new(alloc),
+            group: Group::new(alloc),
         }
     }
 }
@@ -172,7 +176,7 @@ fn refuse<R: Read, W: Write>(
 }
 
 /// What a request asks of a store, or the error that it is refused by before the disk is asked.
-fn asked_of_store<S: Store>(store: &S, request: &Request) -> Result<Asked, ErrorCode>
+pub(crate) fn asked_of_store<S: Store>(store: &S, request: &Request) -> Result<Asked, ErrorCode>
     ensures value { result ≡ asked_of_store (S.view store.now) request.now }
     ensures carries { IfOk result (λ wanted.
         Carries (S.view store.now).disk.drive.geometry.block wanted (data_length request.now)) }
@@ -210,6 +214,20 @@ fn answer_rest<R: Read, W: Write, S: Store>(
     }
 }
 
+/// Passes replies on, unless the next request has come whole.
+pub(crate) fn pass_replies<R: Client, W: Write>(
+    reader: &R,
+    writer: &mut W,
+) -> Result<(), SessionFault>
+    ensures written { Keeps (W.contents writer.old) (W.contents writer.new) }
+    ensures err { IfErr result (λ fault. fault ≡ SessionFault.Unsent) }
+{
+    if !reader.has_request() && writer.flush().is_err() {
+        return Err(SessionFault::Unsent);
+    }
+    Ok(())
+}
+
 /// Passes replies on, unless the next request has come whole, and then lets the store rest. If replies are not passed
 /// on, the store does nothing.
 fn pass_on<R: Client, W: Write, S: Store>(
@@ -221,9 +239,7 @@ fn pass_on<R: Client, W: Write, S: Store>(
     ensures rests { OnOk result (Rests (S.view store.old) (S.view store.new)) }
     ensures err { IfErr result (λ fault. (fault ≡ SessionFault.Unsent) × (S.view store.new ≡ S.view store.old)) }
 {
-    if !reader.has_request() && writer.flush().is_err() {
-        return Err(SessionFault::Unsent);
-    }
+    pass_replies(reader, writer)?;
     store.rest();
     Ok(())
 }
@@ -235,7 +251,7 @@ pub fn answer_request<R: Client, W: Write, S: Store>(
     store: &mut S,
     buffers: &mut Buffers,
 ) -> Result<Option<Phase>, SessionFault>
-    ensures { TurnGives
+    ensures { TurnGives false
         (streams (R.remaining reader.old) (R.remaining reader.new) (W.contents writer.old) (W.contents writer.new))
         (session Phase.Transmission (S.view store.old)) result (S.view store.new) }
 {

@@ -8,7 +8,7 @@ use crate::medium::Medium;
 use crate::store::Store;
 use drive_port::{Device, Honest};
 use std::marker::Model;
-use zone_translator::{Disk, DiskFault, DiskStatus};
+use zone_translator::{Disk, DiskFault, DiskStatus, Entry};
 
 /// What a served disk does for its client.
 #[derive(Clone, Copy, Debug, PartialEq, Eq)]
@@ -138,6 +138,15 @@ impl<D: Device + Honest + Drop, M: Medium + Drop> Store for ServedDisk<D, M> {
     fn write(&mut self, first: u64, bytes: &[u8]) -> Result<(), StoreFault> {
         self.disk.write(first, bytes)?;
         Ok(())
+    }
+
+    fn most_listed(&self) -> u64 {
+        let geometry = self.disk.device().geometry();
+        u64::from(drive_array::batch_most(&geometry))
+    }
+
+    fn write_list(&mut self, entries: &[Entry], bytes: &[u8]) -> Result<(), DiskFault> {
+        self.disk.write_list(entries, bytes)
     }
 
     fn trim(&mut self, first: u64, blocks: u64) -> Result<(), StoreFault> {

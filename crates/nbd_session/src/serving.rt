@@ -1,4 +1,4 @@
-ghost use Rattle.std.specs.Prelude.{◌≡◌, ◌+◌, ◌<◌, ◌≤◌, ◌-◌, ◌^◌, IfNone, IfSome, Some};
+ghost use Rattle.std.specs.Prelude.{◌≡◌, ◌+◌, ◌<◌, ◌≤◌, ◌-◌, ◌^◌, IfNone, IfSome, IsTrue, Some, false, is_none, true};
 ghost use Rattle.zone_translator.specs.Keeping.{KeepsServed};
 ghost use Rattle.nbd_session.specs.Session.{session};
 ghost use Rattle.nbd_session.specs.Streams.{streams};
@@ -11,18 +11,19 @@ use crate::options::{answer_option, greet, take_flags};
 use crate::phase::Phase;
 use crate::requests::{Buffers, answer_request};
 use crate::store::Store;
+use crate::together::{answer_group, take_group};
 use std::alloc::Global;
 use std::io::Write;
 
 /// Reads a message, and answers it: the phase that follows, or none where the session is over.
-fn take_turn<R: Client, W: Write, S: Store>(
+fn take_message<R: Client, W: Write, S: Store>(
     reader: &mut R,
     writer: &mut W,
     store: &mut S,
     buffers: &mut Buffers,
     phase: Phase,
 ) -> Result<Option<Phase>, SessionFault>
-    ensures { TurnGives
+    ensures { TurnGives false
         (streams (R.remaining reader.old) (R.remaining reader.new) (W.contents writer.old) (W.contents writer.new))
         (session phase (S.view store.old)) result (S.view store.new) }
 {
@@ -33,6 +34,42 @@ fn take_turn<R: Client, W: Write, S: Store>(
         Phase::Transmission => answer_request(reader, writer, store, buffers),
         Phase::Ended => Ok(None),
     }
+}
+
+/// Whether no greatest number of requests is given.
+fn is_unlimited(most: Option<u64>) -> bool
+    ensures { result ≡ is_none most }
+{
+    most.is_none()
+}
+
+/// Whether requests may be answered together.
+fn may_gather(together: bool, phase: Phase) -> bool
+    ensures { IsTrue result → (together ≡ true) × (phase ≡ Phase.Transmission) }
+{
+    together && matches!(phase, Phase::Transmission)
+}
+
+/// Reads a message, and answers it: the phase that follows, or none where the session is over. Requests that have come
+/// together are one message, if they may be answered so.
+fn take_turn<R: Client, W: Write, S: Store>(
+    reader: &mut R,
+    writer: &mut W,
+    store: &mut S,
+    buffers: &mut Buffers,
+    phase: Phase,
+    together: bool,
+) -> Result<Option<Phase>, SessionFault>
+    ensures { TurnGives together
+        (streams (R.remaining reader.old) (R.remaining reader.new) (W.contents writer.old) (W.contents writer.new))
+        (session phase (S.view store.old)) result (S.view store.new) }
+{
+    let may = may_gather(together, phase);
+    if take_group(reader, store, &mut buffers.group, may) {
+        answer_group(reader, writer, store, &buffers.group)?;
+        return Ok(Some(Phase::Transmission));
+    }
+    take_message(reader, writer, store, buffers, phase)
 }
 
 /// How many requests there are once a message of this phase is read, after `requests`. None where there may be no more.
@@ -50,7 +87,7 @@ fn with_next(most: Option<u64>, requests: u64, phase: Phase) -> Option<u64>
 }
 
 /// Serves a disk to one client, and answers at most so many requests, if a greatest number is given. The next one is
-/// not read then.
+/// not read then, and each is answered by itself.
 ///
 /// A message is a request once the options are done; DISC is one, too. After a fault it is as with [`serve`].
 pub fn serve_at_most<R: Client, W: Write, S: Store>(
@@ -70,11 +107,19 @@ pub fn serve_at_most<R: Client, W: Write, S: Store>(
     let mut buffers = Buffers::new(alloc);
     let mut phase = Phase::Greeting;
     let mut requests: u64 = 0;
+    let together = is_unlimited(most);
     for _turn in 0..u64::MAX {
         let Some(counted) = with_next(most, requests, phase) else {
             return Ok(SessionEnd::LimitReached);
         };
-        match take_turn(reader, writer, store, &mut buffers, phase)? {
+        match take_turn(
+            reader,
+            writer,
+            store,
+            &mut buffers,
+            phase,
+            together,
+        )? {
             Some(next) => phase = next,
             None => return Ok(SessionEnd::in_phase(phase)),
         }

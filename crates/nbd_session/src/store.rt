@@ -1,12 +1,15 @@
-ghost use Rattle.std.specs.Prelude.{◌≡◌, ◌*◌, ◌<◌, ◌^◌, [], is_some, length};
+ghost use Rattle.std.specs.Prelude.{◌≡◌, ◌*◌, ◌<◌, ◌≤◌, ◌^◌, [], is_some, length, nat_eq};
+ghost use Rattle.std.specs.List.{IsDistinct};
+ghost use Rattle.batch_log.specs.Log.{data_count};
 ghost use Rattle.zone_translator.specs.Answers.{AreBlocksOf, count_of_blocks};
 ghost use Rattle.zone_translator.specs.Flat.{known_range, with_nothing};
+ghost use Rattle.zone_translator.specs.Listed.{blocks_named};
 ghost use Rattle.zone_translator.specs.View.{disk_size};
 ghost use Rattle.nbd_session.specs.Store.{ForcesBlocks, OrFails, Rests, Shows, Spares, StoreView, Syncs, Trims};
-ghost use Rattle.nbd_session.specs.Store.{WritesBytes, WritesZeros, store_array, store_flat};
+ghost use Rattle.nbd_session.specs.Store.{WritesBytes, WritesList, WritesZeros, most_listed, store_array, store_flat};
 
 use crate::fault::StoreFault;
-use zone_translator::DiskStatus;
+use zone_translator::{DiskFault, DiskStatus, Entry};
 
 /// A disk that can be synced. Blocks that were written may be pending above it until they are. If the medium failed in
 /// a read, a write or a trim, nothing was done.
@@ -46,6 +49,19 @@ pub trait Store {
         ensures { OrFails
             (λ answer. WritesBytes (view self.old) first bytes.now (with_nothing answer) (view self.new))
             (Spares (view self.old) first (count_of_blocks (view self.old).disk bytes.now) (view self.new)) result };
+
+    /// How many blocks a list may name: as many as one batch. A store that defers, or whose medium may fail in any call,
+    /// takes no list.
+    fn most_listed(&self) -> u64
+        ensures { result ≡ most_listed (view self.now) };
+
+    /// Writes and trims the blocks of a list, in its order. No block is named twice. `bytes` are the blocks of those
+    /// entries that are not trims. After a refusal a front of the list may be written.
+    fn write_list(&mut self, entries: &[Entry], bytes: &[u8]) -> Result<(), DiskFault>
+        requires distinct { IsDistinct nat_eq (blocks_named entries.now) }
+        requires whole { length bytes.now ≡ data_count entries.now * (view self.old).disk.drive.geometry.block }
+        requires few { length entries.now ≤ most_listed (view self.old) }
+        ensures { WritesList (view self.old) entries.now bytes.now (with_nothing result) (view self.new) };
 
     /// Makes `blocks` blocks from `first` on zeros. That is recorded, and their data take no room.
     fn trim(&mut self, first: u64, blocks: u64) -> Result<(), StoreFault>

@@ -20,3 +20,4 @@ pub mod FallLaws
 pub mod RoomLaws
 pub mod FateLaws
 pub mod SpareLaws
+pub mod EmptyListLaws

@@ -80,7 +80,7 @@ empty_writes is_trim below below' call first n answer w = rw (empty_cache below,
 
 -- ---- a write whose answer is known goes through, whatever is pending
 
-known-over : (known : Option (Result (Unit {0}) DiskFault)) (call : Call) (mine : List Pending) (old : FlatDisk) (answer : Answer) (new : FlatDisk) (r : Result (Unit {0}) DiskFault) → known ≡ Some r
+pub known-over : (known : Option (Result (Unit {0}) DiskFault)) (call : Call) (mine : List Pending) (old : FlatDisk) (answer : Answer) (new : FlatDisk) (r : Result (Unit {0}) DiskFault) → known ≡ Some r
     → MatchOption known (Begun old call answer.result answer.shown new) (λ r. (answer ≡ with_nothing r) × (new ≡ old))
     → MatchOption known (Begun (over mine old) call answer.result answer.shown (over mine new)) (λ r. (answer ≡ with_nothing r) × (over mine new ≡ over mine old))
 known-over None call mine old answer new r known b = absurd (cc known)

@@ -6,7 +6,7 @@ ghost use Rattle.volatile_cache.specs.Cache.{AddsOnly, LeavesOthers, view_of};
 
 use crate::cache::VolatileCache;
 use nbd_session::{Store, StoreFault};
-use zone_translator::{DiskFault, DiskStatus};
+use zone_translator::{DiskFault, DiskStatus, Entry};
 
 impl<S: Store + Drop> VolatileCache<S> {
     /// Makes blocks zeros below, trimmed or not.
@@ -118,6 +118,16 @@ impl<S: Store + Drop> Store for VolatileCache<S> {
             return Err(fault);
         }
         self.store.write(first, bytes)
+    }
+
+    /// None: a cache keeps the blocks of each request by themselves.
+    fn most_listed(&self) -> u64 {
+        0
+    }
+
+    /// The list is empty.
+    fn write_list(&mut self, entries: &[Entry], bytes: &[u8]) -> Result<(), DiskFault> {
+        self.store.write_list(entries, bytes)
     }
 
     fn trim(&mut self, first: u64, blocks: u64) -> Result<(), StoreFault> {

@@ -16,7 +16,7 @@ loop-turn-preserved g c =
     let at = c.loop-turn in
     let view = g.S.Store.view in
     served_more c.args.most _ (g.R.Read.remaining at.reader) _ _ (g.W.Write.contents at.writer) _ _ (session at.phase (view at.store)) (session c.in-Some-2.next (view c.take_turn.new.store)) at._turn at.requests c.in-Some.counted
-    at.invariant (rw c.in-Some-2.is at c.in_ok-next.ensures) c.in-Some.ensures.some.0 c.in-Some.ensures.some.1
+    at.invariant (rw c.is_unlimited-together.ensures at (rw c.in-Some-2.is at c.in_ok-next.ensures)) c.in-Some.ensures.some.0 c.in-Some.ensures.some.1
 
 -- no more requests may be read
 pub returns-in_default-clause-serves : goal.returns-in_default-clause-serves
@@ -36,7 +36,7 @@ returns-in_err-next-clause-serves g c =
     session-stops c.args.most (streams (g.R.Read.remaining c.args.reader.now) (g.R.Read.remaining c.take_turn.new.reader) (g.W.Write.contents c.args.writer.now) (g.W.Write.contents c.take_turn.new.writer)) (session Greeting (view c.args.store.now))
     c.from_residual.result c.in_err-next.field-0.0 (view c.take_turn.new.store) c.from_residual.ensures.1
     (stops_at c.args.most _ (g.R.Read.remaining at.reader) _ _ (g.W.Write.contents at.writer) _ _ (session at.phase (view at.store)) at._turn at.requests c.in-Some.counted c.in_err-next.field-0.0 (view c.take_turn.new.store)
-    at.invariant c.in-Some.ensures.some.0 c.in-Some.ensures.some.1 c.in_err-next.ensures)
+    at.invariant c.in-Some.ensures.some.0 c.in-Some.ensures.some.1 (rw c.is_unlimited-together.ensures at c.in_err-next.ensures))
 
 pub returns-in_err-next-clause-keeps : goal.returns-in_err-next-clause-keeps
 returns-in_err-next-clause-keeps g c = session_keeps c.args.most _ _ c.from_residual.result _ (returns-in_err-next-clause-serves g c)
