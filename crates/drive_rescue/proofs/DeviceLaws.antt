@@ -184,7 +184,7 @@ read-halts old new address returned (port.Refused status) can gives closing obey
 read-halts old new address returned port.Memory can gives closing obeys passed = record { halt = tt; kept = rw gives.1.1 (keeps-none old obeys.was_lawful) }
 read-halts old new address returned port.Stopped can gives closing obeys passed = record {
   halt = tt;
-  kept = record { geometry = obeys.geometry; lawful = obeys.lawful; closing = closing; refused = (obeys.counts refl).refused; durable = obeys.durable; appended = (obeys.counts refl).appended };
+  kept = record { geometry = obeys.geometry; lawful = obeys.lawful; closing = closing; refused = (obeys.counts refl).refused; durable = obeys.durable; appended = (obeys.counts refl).appended; trusted = obeys.trusted };
 }
 
 -- one that succeeded keeps them, too
@@ -196,4 +196,5 @@ read-keeps old new address items closing obeys shown = record {
   refused = shown.counts.refused;
   durable = obeys.durable;
   appended = shown.counts.appended ∙ omega arith;
+  trusted = obeys.trusted;
 }
