@@ -6,6 +6,7 @@ ghost use Rattle.nbd_session.specs.Store.{Syncs};
 use crate::fault::StoreFault;
 use crate::medium::Medium;
 use crate::store::Store;
+use batch_log::entry_room;
 use drive_port::{Device, Honest};
 use std::marker::Model;
 use zone_translator::{Disk, DiskFault, DiskStatus, Entry};
@@ -142,7 +143,8 @@ impl<D: Device + Honest + Drop, M: Medium + Drop> Store for ServedDisk<D, M> {
 
     fn most_listed(&self) -> u64 {
         let geometry = self.disk.device().geometry();
-        u64::from(drive_array::batch_most(&geometry))
+        let most = geometry.transfer.saturating_sub(1);
+        u64::from(most.min(entry_room(geometry.block)))
     }
 
     fn write_list(&mut self, entries: &[Entry], bytes: &[u8]) -> Result<(), DiskFault> {

@@ -112,14 +112,7 @@ pub fn serve_at_most<R: Client, W: Write, S: Store>(
         let Some(counted) = with_next(most, requests, phase) else {
             return Ok(SessionEnd::LimitReached);
         };
-        match take_turn(
-            reader,
-            writer,
-            store,
-            &mut buffers,
-            phase,
-            together,
-        )? {
+        match take_turn(reader, writer, store, &mut buffers, phase, together)? {
             Some(next) => phase = next,
             None => return Ok(SessionEnd::in_phase(phase)),
         }
