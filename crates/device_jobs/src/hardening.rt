@@ -32,7 +32,7 @@ fn flush_if<D: Device>(
     flush(alloc, device)
 }
 
-/// Makes durable what a drive has completed: by a Flush if that is asked for, and by a sync of its medium.
+/// Flushes a drive if that is asked for, and then syncs its medium.
 pub(crate) fn harden_by<D: Device, M: Medium>(
     alloc: Global,
     flushes: bool,
@@ -51,7 +51,7 @@ pub(crate) fn harden_by<D: Device, M: Medium>(
     }
 }
 
-/// The same: by a Flush where a sync of its medium is that, and by a sync.
+/// Makes durable what a drive has completed: by a Flush where a sync of its medium is that, and by a sync.
 pub fn harden<D: Device, M: Medium>(
     alloc: Global,
     device: &mut D,
