@@ -19,11 +19,7 @@ pub enum HardenFault {
 }
 
 /// Flushes a drive, if that is asked for.
-fn flush_if<D: Device>(
-    alloc: Global,
-    flushes: bool,
-    device: &mut D,
-) -> Result<(), PortFault>
+fn flush_if<D: Device>(alloc: Global, flushes: bool, device: &mut D) -> Result<(), PortFault>
     ensures { FlushesBy flushes (D.drive device.old) result (D.drive device.new) }
 {
     if !flushes {

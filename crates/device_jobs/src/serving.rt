@@ -129,13 +129,6 @@ pub fn serve_client<D: Device + Honest + Drop, M: Medium + Drop, R: Read + Drop,
             hardened: Ok(()),
         };
     };
-    let done = serve_hardened(
-        alloc,
-        job,
-        device,
-        medium,
-        &mut reader,
-        &mut writer,
-    );
+    let done = serve_hardened(alloc, job, device, medium, &mut reader, &mut writer);
     told_after(done, are_sent(writer.flush()))
 }
