@@ -802,13 +802,15 @@ fn formats_no_written_drive(rt: HostRuntime) -> Result<(), Fail> {
         (FORMAT_TEXT, b"", b"fault file\n"),
     ];
     check_written(&rt, alloc, &written);
-    let told = "text.image: it holds a disk of 9 logical blocks, which can be mounted; zones that are not Empty: 1. \
+    let told =
+        "text.image: it holds a disk of 9 logical blocks, which can be mounted; zones that are not Empty: 1. \
         format --force destroys that";
     check_told(&rt, alloc, &[(FORMAT_TEXT, b"", told)]);
     check_written(&rt, alloc, &[(RUN_TEXT, b"read 0 1\n", b"0 aa*512\nok\n")]);
     let image = fs::read(&rt, "text.image")?;
     fs::write(&rt, "text.image", &image[..image.len() - 1])?;
-    let told = "text.image: no drive is read in it (the image ends too early). format --force destroys that";
+    let told =
+        "text.image: no drive is read in it (the image ends too early). format --force destroys that";
     check_told(&rt, alloc, &[(FORMAT_TEXT, b"", told)]);
     check_written(&rt, alloc, &[(FORCE_TEXT, b"", b"ok\n")]);
     fs::remove_file(&rt, "text.image")?;

@@ -79,10 +79,8 @@ pub enum DeviceFault {
     #[error("is not a regular file")]
     NotRegular,
     /// A new drive was asked for, and something is there.
-    #[error(
-        "exists already. If a format --in-place or a convert was killed while it made this file, it holds nothing: \
-        remove it"
-    )]
+    #[error("exists already. If a format --in-place or a convert was killed while it made this file, it holds nothing: \
+        remove it")]
     Exists,
     /// An allocation failed.
     #[error("is not used: out of memory")]

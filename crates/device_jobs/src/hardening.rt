@@ -19,17 +19,32 @@ pub enum HardenFault {
 }
 
 /// Flushes a drive, if that is asked for.
-fn flush_if<D: Device>(
-    alloc: Global,
-    flushes: bool,
-    device: &mut D,
-) -> Result<(), PortFault>
+fn flush_if<D: Device>(alloc: Global, flushes: bool, device: &mut D) -> Result<(), PortFault>
     ensures { FlushesBy flushes (D.drive device.old) result (D.drive device.new) }
 {
     if !flushes {
         return Ok(());
     }
     flush(alloc, device)
+}
+
+/// Flushes a drive if that is asked for, and then syncs its medium.
+pub(crate) fn harden_by<D: Device, M: Medium>(
+    alloc: Global,
+    flushes: bool,
+    device: &mut D,
+    medium: &mut M,
+) -> Result<(), HardenFault>
+    ensures { Hardens flushes (record { before = M.syncs medium.old; after = M.syncs medium.new })
+        (D.drive device.old) result (D.drive device.new) }
+{
+    if let Err(fault) = flush_if(alloc, flushes, device) {
+        return Err(HardenFault::Drive(fault));
+    }
+    match medium.sync() {
+        Ok(()) => Ok(()),
+        Err(_) => Err(HardenFault::Medium),
+    }
 }
 
 /// Makes durable what a drive has completed: by a Flush where a sync of its medium is that, and by a sync.
@@ -41,11 +56,5 @@ pub fn harden<D: Device, M: Medium>(
     ensures { Hardens (M.flushes medium.old) (record { before = M.syncs medium.old; after = M.syncs medium.new })
         (D.drive device.old) result (D.drive device.new) }
 {
-    if let Err(fault) = flush_if(alloc, medium.flushes(), device) {
-        return Err(HardenFault::Drive(fault));
-    }
-    match medium.sync() {
-        Ok(()) => Ok(()),
-        Err(_) => Err(HardenFault::Medium),
-    }
+    harden_by(alloc, medium.flushes(), device, medium)
 }

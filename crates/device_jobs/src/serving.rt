@@ -7,7 +7,7 @@ ghost use Rattle.job_drives.specs.Stop.{stopping};
 ghost use Rattle.nbd_jobs.specs.Serving.{ServesStopping, TellsSession, sent_end};
 ghost use Rattle.device_jobs.specs.Durable.{ServesAndHardens};
 
-use crate::hardening::{HardenFault, harden};
+use crate::hardening::{HardenFault, harden_by};
 use drive_port::{Device, Honest};
 use job_drives::KeepFault;
 use nbd_jobs::{
@@ -85,8 +85,9 @@ pub fn serve_hardened<D: Device + Honest + Drop, M: Medium + Drop, R: Client, W:
     ensures tells { TellsSession job.now (drive_of (stopping job.now.stop (D.drive device)))
         result.ended.told.result (is_some result.ended.told.statistics) result.ended.told.disk }
 {
+    let flushes = medium.flushes();
     let mut ended = serve_device(alloc, job, device, medium, reader, writer);
-    let hardened = harden(alloc, &mut ended.device, &mut ended.medium);
+    let hardened = harden_by(alloc, flushes, &mut ended.device, &mut ended.medium);
     Hardened { ended, hardened }
 }
 
@@ -128,13 +129,6 @@ pub fn serve_client<D: Device + Honest + Drop, M: Medium + Drop, R: Read + Drop,
             hardened: Ok(()),
         };
     };
-    let done = serve_hardened(
-        alloc,
-        job,
-        device,
-        medium,
-        &mut reader,
-        &mut writer,
-    );
+    let done = serve_hardened(alloc, job, device, medium, &mut reader, &mut writer);
     told_after(done, are_sent(writer.flush()))
 }

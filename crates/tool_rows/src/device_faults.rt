@@ -13,7 +13,10 @@ use zone_states::GeometryFault;
 use zonedisk_program::do_device;
 
 /// A format of a device, in a program that has no way to any.
-fn show_no_way<R: Clock + Eprint + Files<File = File> + Input + Print>(rt: &R, alloc: Global) -> Result<(), Fail> {
+fn show_no_way<R: Clock + Eprint + Files<File = File> + Input + Print>(
+    rt: &R,
+    alloc: Global,
+) -> Result<(), Fail> {
     let job = DeviceJob::Format {
         device: String::from_str(alloc, "/dev/ng0n1")?,
         force: true,
@@ -26,7 +29,10 @@ fn show_no_way<R: Clock + Eprint + Files<File = File> + Input + Print>(rt: &R, a
 }
 
 /// Shows each reason.
-pub fn show_faults<R: Clock + Eprint + Files<File = File> + Input + Print>(rt: &R, alloc: Global) -> Result<(), Fail> {
+pub fn show_faults<R: Clock + Eprint + Files<File = File> + Input + Print>(
+    rt: &R,
+    alloc: Global,
+) -> Result<(), Fail> {
     for fault in [
         DeviceFault::NoWay,
         DeviceFault::Unopened(SystemError::from(io::Error::from_raw_os_error(13))),

@@ -591,11 +591,7 @@ fn do_copy<R: Clock + Eprint + Files<File = fs::File> + Input + Print, D: Device
 
 /// Does a job on the drive behind a device, with this way to devices. A program that has none ends with the status of a
 /// fault.
-pub fn do_device<
-    R: Clock + Eprint + Files<File = fs::File> + Input + Print,
-    D: Devices,
-    W: Write,
->(
+pub fn do_device<R: Clock + Eprint + Files<File = fs::File> + Input + Print, D: Devices, W: Write>(
     rt: &R,
     alloc: Global,
     devices: &D,

@@ -136,14 +136,7 @@ fn do_named<
     D: Devices,
     F: Devices,
     W: io::Write,
->(
-    rt: &R,
-    alloc: Global,
-    devices: &D,
-    files: &F,
-    job: &DeviceJob,
-    output: &mut W,
-) -> ExitCode
+>(rt: &R, alloc: Global, devices: &D, files: &F, job: &DeviceJob, output: &mut W) -> ExitCode
     ensures { reaches (record { devices = D.has_way devices.now; files = F.has_way files.now }) job.now ≡ false
         → exit_status result ≡ 1 }
 {
