@@ -181,13 +181,7 @@ fn answer_lines<
     R: Clock + Eprint + Files<File = fs::File> + Input,
     D: Device + Honest + Drop,
     W: Write,
->(
-    rt: &R,
-    alloc: Global,
-    drive: D,
-    job: &DeviceRun,
-    output: &mut W,
-) -> (D, bool) {
+>(rt: &R, alloc: Global, drive: D, job: &DeviceRun, output: &mut W) -> (D, bool) {
     let gate = Gate::open();
     let count = LineCount::new();
     let counted = job.progress.then_some(Counted::Lines);
