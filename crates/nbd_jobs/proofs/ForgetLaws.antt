@@ -1,17 +1,19 @@
 -- A session over a disk that forgets: what it leaves.
-use Rattle.std.proofs.Common.{◌≡◌, ℕ, List, [], ◌∷◌, ◌++◌, length, get_or, Result, Ok, Err, true, false, refl, ap, sym, inl, inr, ◌∙◌}
+use Rattle.std.proofs.Common.{◌≡◌, ℕ, zero, suc, ◌≤◌, List, [], ◌∷◌, ◌++◌, length, None, arith, get_or, Result, Ok, Err, true, false, refl, ap, sym, inl, inr, ◌∙◌}
 use Rattle.std.specs.Prelude.{◌&&◌, not, Bool, IfOk}
 use Rattle.nbd_wire.specs.declared.error_code.ErrorCode.{ErrorCode}
 use Rattle.nbd_wire.specs.declared.request.Request.{Request}
 use Rattle.zone_translator.proofs.KeepingLaws.{keeps_again, keeps_same}
-use Rattle.zone_translator.specs.Flat.{idle, with_nothing}
+use Rattle.std.proofs.lemmas.List.{length-append}
+use Rattle.zone_translator.specs.Flat.{FlatDisk, idle, known_range, with_nothing}
 use Rattle.zone_translator.specs.Keeping.{KeepsServed}
 use Rattle.zone_translator.specs.View.{disk_array}
 use Rattle.nbd_session.specs.Failing.{failing}
+use Rattle.nbd_session.specs.Groups.{Asking, IsGroup, entries_of, named, span_entries}
 use Rattle.nbd_session.specs.Pending.{Pending}
 use Rattle.nbd_session.specs.Requests.{AnswersAsked, asked_of_store, data_length}
-use Rattle.nbd_session.specs.Session.{AnswersBy, AnswersIn, Follows, Session, session}
-use Rattle.nbd_session.specs.Store.{KeepsMode, RestsBy, StoreView, Syncs, store_array}
+use Rattle.nbd_session.specs.Session.{AnswersBy, AnswersIn, Follows, ServesRequest, Session, session}
+use Rattle.nbd_session.specs.Store.{KeepsMode, RestsBy, StoreView, Syncs, most_listed, store_array, store_flat}
 use Rattle.nbd_session.specs.Streams.{Streams}
 use Rattle.nbd_session.specs.Turns.{ServesAtMost}
 use Rattle.nbd_session.specs.declared.asked.Asked.{Asked}
@@ -30,7 +32,7 @@ use Rattle.volatile_cache.proofs.CutLaws.{cut-settled, kill-outcome}
 use Rattle.volatile_cache.proofs.RequestLaws.{request-settled}
 use Rattle.volatile_cache.proofs.SettledLaws.{call-settled, kept-settled}
 use Rattle.nbd_jobs.specs.Forgetting.{Applies, Forgets, IsCut, LeavesBy}
-use Rattle.nbd_jobs.specs.Laws.{LeavesBlock, MessageKeepsSettled, SettledIsLeft}
+use Rattle.nbd_jobs.specs.Laws.{LeavesBlock, LeavesRequest, MessageKeepsSettled, SettledIsLeft}
 use Rattle.nbd_jobs.specs.declared.forgetting.Forgotten.{Forgotten}
 use Rattle.nbd_jobs.specs.declared.job.Forget.{Forget}
 
@@ -117,17 +119,39 @@ by-settled passes old false request bytes reply new place block a count leaves s
     follows-settled passes a.1.answered new.store place block a.1.follows
     (asked-settled old request (asked_of_store old request) bytes reply a.1.answered place block a.1.answers count leaves settled)
 
-in-settled : (passes : Bool) (phase : Phase) (old : StoreView) (message reply : List ℕ) (new : Session) (answers : AnswersIn passes phase old message reply new) (place : ℕ) (block : List ℕ)
-    → LeavesBlock place passes phase old message reply new answers → IsSettled place block old → IsSettled place block new.store
-in-settled passes phases.Greeting old message reply new a place block leaves settled = rw a.2 settled
-in-settled passes phases.Flags old message reply new a place block leaves settled = rw a.new_is settled
-in-settled passes (phases.Options no_zeroes) old message reply new a place block leaves settled = rw a.new_is settled
-in-settled passes phases.Transmission old message reply new a place block leaves settled =
-    by-settled passes old _ a.request a.bytes reply new place block a.answer a.length_is leaves settled
-in-settled passes phases.Ended old message reply new a place block leaves settled = absurd a
+-- where blocks may be pending no requests are done together: each of them would name a block
+length-named : (first n : ℕ) (trim : Bool) → length (named first n trim) ≡ n
+length-named first zero trim = refl
+length-named first (suc n) trim = ap suc (length-named (suc first) n trim)
+
+some-block : (disk : FlatDisk) (first n : ℕ) → n ≡ 0 → known_range disk first n ≡ None → ⊥
+some-block disk first zero e known = absurd (cc known)
+some-block disk first (suc n) e known = absurd (cc e)
+
+no-group : (store : StoreView) (askings : List Asking) → 2 ≤ length askings → IsGroup store askings → store.defers ≡ true → ⊥
+no-group store [] several group defers = absurd (omega (arith, several))
+no-group store (a ∷ others) several group defers =
+    let none : most_listed store ≡ 0 = rw defers refl in
+    some-block (store_flat store) a.span.first a.span.blocks
+    (omega (arith, group.listed, none, length-append (span_entries a.span) (entries_of others), length-named a.span.first a.span.blocks a.span.trim))
+    group.each.0.joins.begun
+
+request-message : (passes : Bool) (old : StoreView) (message reply : List ℕ) (new : Session) (answers : ServesRequest passes old message reply new) (place : ℕ) (block : List ℕ)
+    → LeavesRequest place passes old message reply new answers → IsSettled place block old → IsSettled place block new.store
+request-message passes old message reply new a place block leaves settled = by-settled passes old _ a.request a.bytes reply new place block a.answer a.length_is leaves settled
+
+in-settled : (together passes : Bool) (phase : Phase) (old : StoreView) (message reply : List ℕ) (new : Session) (answers : AnswersIn together passes phase old message reply new) (place : ℕ) (block : List ℕ)
+    → LeavesBlock place together passes phase old message reply new answers → IsSettled place block old → IsSettled place block new.store
+in-settled together passes phases.Greeting old message reply new a place block leaves settled = rw a.2 settled
+in-settled together passes phases.Flags old message reply new a place block leaves settled = rw a.new_is settled
+in-settled together passes (phases.Options no_zeroes) old message reply new a place block leaves settled = rw a.new_is settled
+in-settled true passes phases.Transmission old message reply new (inl a) place block leaves settled = request-message passes old message reply new a place block leaves settled
+in-settled true passes phases.Transmission old message reply new (inr g) place block leaves settled = absurd (no-group old g.askings g.several g.group leaves)
+in-settled false passes phases.Transmission old message reply new a place block leaves settled = request-message passes old message reply new a place block leaves settled
+in-settled together passes phases.Ended old message reply new a place block leaves settled = absurd a
 
 pub message-settled : MessageKeepsSettled
-message-settled passes old message reply new answers place block leaves settled = in-settled passes old.phase old.store message reply new answers place block leaves settled
+message-settled together passes old message reply new answers place block leaves settled = in-settled together passes old.phase old.store message reply new answers place block leaves settled
 
 -- ---- the end
 

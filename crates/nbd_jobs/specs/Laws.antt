@@ -1,5 +1,6 @@
 -- What a loss of power leaves of a drive that is served and flushed, and what is left of a disk that forgets.
 use Rattle.std.specs.Prelude.{◌≡◌, ℕ, Bool, true, false, List, [], Contains, IfOk, Result, slice_index_or}
+use Rattle.std.proofs.Common.{inl, inr}
 use Rattle.zone_states.specs.Zone.{Zone}
 use Rattle.drive_port.specs.Drive.{DriveState}
 use Rattle.drive_port.specs.Run.{restarted}
@@ -7,7 +8,7 @@ use Rattle.remount.specs.Mount.{IsToMount}
 use Rattle.zone_translator.specs.Mount.{MountsDisk}
 use Rattle.zone_translator.specs.View.{DiskView, disk_array, given_size}
 use Rattle.nbd_session.specs.Requests.{asked_of_store, data_length}
-use Rattle.nbd_session.specs.Session.{AnswersIn, AnswersMessage, Session, session}
+use Rattle.nbd_session.specs.Session.{AnswersIn, AnswersMessage, ServesRequest, Session, session}
 use Rattle.nbd_session.specs.Store.{StoreView}
 use Rattle.nbd_session.specs.Streams.{Streams}
 use Rattle.nbd_session.specs.Turns.{Serves}
@@ -40,18 +41,24 @@ LossIsFound =
 
 -- ---- a disk that forgets
 
--- A message does not change a block: no request that the store takes names it to be written.
-abbrev pub LeavesBlock : ℕ → (passes : Bool) → (phase : Phase) → (old : StoreView) → (message reply : List ℕ) → (new : Session) → AnswersIn passes phase old message reply new → Type 0
-LeavesBlock place passes phases.Transmission old message reply new answers =
+-- A request does not change a block: if the store takes it, it does not name the block to be written.
+abbrev pub LeavesRequest : ℕ → (passes : Bool) → (old : StoreView) → (message reply : List ℕ) → (new : Session) → ServesRequest passes old message reply new → Type 0
+LeavesRequest place passes old message reply new answers =
     IfOk (asked_of_store old answers.request) (LeavesOut old.disk.drive.geometry.block (data_length answers.request) place)
-LeavesBlock place passes phase old message reply new answers = Unit {0}
+
+-- Nor does a message: no request of it does. A store in which blocks are pending does no requests together.
+abbrev pub LeavesBlock : ℕ → (together passes : Bool) → (phase : Phase) → (old : StoreView) → (message reply : List ℕ) → (new : Session) → AnswersIn together passes phase old message reply new → Type 0
+LeavesBlock place true passes phases.Transmission old message reply new (inl answers) = LeavesRequest place passes old message reply new answers
+LeavesBlock place true passes phases.Transmission old message reply new (inr group) = old.defers ≡ true
+LeavesBlock place false passes phases.Transmission old message reply new answers = LeavesRequest place passes old message reply new answers
+LeavesBlock place together passes phase old message reply new answers = Unit {0}
 
 -- A message that does not change a settled block leaves it settled. A FLUSH, or a write with FUA, that is answered by
 -- success settles what it names (`volatile_cache`).
 abbrev pub MessageKeepsSettled : Type 0
 MessageKeepsSettled =
-    (passes : Bool) (old : Session) (message reply : List ℕ) (new : Session) (answers : AnswersMessage passes old message reply new) (place : ℕ) (block : List ℕ)
-    → LeavesBlock place passes old.phase old.store message reply new answers → IsSettled place block old.store → IsSettled place block new.store
+    (together passes : Bool) (old : Session) (message reply : List ℕ) (new : Session) (answers : AnswersMessage together passes old message reply new) (place : ℕ) (block : List ℕ)
+    → LeavesBlock place together passes old.phase old.store message reply new answers → IsSettled place block old.store → IsSettled place block new.store
 
 -- A block that is settled when a session ends is in what is left, however it ended, and whatever was lost.
 abbrev pub SettledIsLeft : Type 0
