@@ -1,5 +1,6 @@
 use Rattle.tool_jobs.proofs.TellingLaws.{told-ok, untold-err}
-use Rattle.device_jobs.specs.Looks.{HoldsInfo, IsUnasked}
+use Rattle.drive_inspection.specs.Written.{HoldsInfo}
+use Rattle.device_jobs.specs.Looks.{IsUnasked}
 use Rattle.device_jobs.proofs.looking.inform_device.Goals as goal
 
 pub returns-clause-ok : goal.returns-clause-ok
