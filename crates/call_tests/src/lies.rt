@@ -55,7 +55,7 @@ fn lie(alloc: Global, drive: &Drive, number: usize) -> Option<Vec<u8>> {
     let written = drive.zone((number - 2) % 5)?.written();
     bytes.extend_from_slice(written.get(..512)?).ok()?;
     if number >= 7 {
-        let place = (number * 7) % 64;
+        let place = number.wrapping_mul(7) % 64;
         *bytes.get_mut(place)? ^= 1 << (number % 8);
     }
     Some(bytes)
