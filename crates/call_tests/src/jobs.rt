@@ -808,7 +808,8 @@ fn formats_no_written_drive(rt: HostRuntime) -> Result<(), Fail> {
     check_told(&rt, alloc, &[(FORMAT_TEXT, b"", told)]);
     check_written(&rt, alloc, &[(RUN_TEXT, b"read 0 1\n", b"0 aa*512\nok\n")]);
     let image = fs::read(&rt, "text.image")?;
-    fs::write(&rt, "text.image", &image[..image.len() - 1])?;
+    let cut = image.len().saturating_sub(1);
+    fs::write(&rt, "text.image", &image[..cut])?;
     let told =
         "text.image: no drive is read in it (the image ends too early). format --force destroys that";
     check_told(&rt, alloc, &[(FORMAT_TEXT, b"", told)]);
