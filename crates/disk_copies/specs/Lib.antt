@@ -1,2 +1,3 @@
 pub mod Copies
 pub mod DriveCopies
+pub mod Written

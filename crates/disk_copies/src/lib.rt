@@ -51,6 +51,7 @@
 #![tactic(auto)]
 
 mod copy_fault;
+mod disk_writer;
 mod drive_export;
 mod drive_import;
 mod explanation;
@@ -63,6 +64,7 @@ mod putting;
 mod stream_fault;
 
 pub use copy_fault::CopyFault;
+pub use disk_writer::DiskWriter;
 pub use drive_export::{blocks_asked, export_drive};
 pub use drive_import::{import_drive, import_mounted};
 pub use explanation::explain;

@@ -5,5 +5,6 @@ pub mod Holding
 pub mod Ranges
 pub mod Rescue
 pub mod Giving
+pub mod Findings
 pub mod Sources
 pub mod Laws

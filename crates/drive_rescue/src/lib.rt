@@ -75,6 +75,6 @@ pub use device_source::DeviceSource;
 pub use fault::RescueFault;
 pub use giving::Rescued;
 pub use ranges::BlockRange;
-pub use rescuing::rescue;
+pub use rescuing::{Findings, find, give, rescue};
 pub use source::{Reading, Source};
 pub use with_damage::{DamagedBlock, WithDamage};

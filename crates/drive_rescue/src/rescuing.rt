@@ -1,11 +1,13 @@
-ghost use Rattle.std.specs.Prelude.{◌≡◌, ◌≤◌, ◌^◌, IfErr, IfOk};
+ghost use Rattle.std.specs.Prelude.{◌≡◌, ◌≤◌, ◌^◌, ℕ, IfErr, IfOk};
 ghost use Rattle.drive_array.specs.Sizes.{size_or};
+ghost use Rattle.drive_rescue.specs.Findings.{FindFails, IsFound};
+ghost use Rattle.drive_rescue.specs.Giving.{GiveFails};
 ghost use Rattle.drive_rescue.specs.Holding.{IsSmall};
 ghost use Rattle.drive_rescue.specs.Rescue.{KeepsSource, RescueFails, Rescues};
 
 use crate::fault::RescueFault;
 use crate::giving::{Rescued, give_blocks};
-use crate::search::search_zones;
+use crate::search::{Search, search_zones};
 use crate::source::Source;
 use std::alloc::Global;
 use std::io::Write;
@@ -26,9 +28,64 @@ fn size_or(size: Option<u32>, given: u32) -> u32
     }
 }
 
-/// Writes the disk that the readable batches of a drive spell, block by block: what the newest record found shows of
-/// each, and zeros of those that are lost, trimmed or unwritten. `given` is how many blocks the disk has if no header
-/// says how many. The drive is only read.
+/// What was found on a drive: the newest record of each block, and how many blocks the disk has.
+#[derive(Drop)]
+pub struct Findings {
+    search: Search,
+    blocks: u32,
+}
+
+impl Findings {
+    /// How many blocks the disk has: the greatest size that a header found says, or the given number.
+    pub fn blocks(&self) -> u32
+        ensures { result ≡ self.now.blocks }
+    {
+        self.blocks
+    }
+}
+
+/// Searches the zones of a drive. `given` is how many blocks its disk has if no header says how many. The drive is
+/// only read.
+pub fn find<S: Source>(
+    alloc: Global,
+    source: &mut S,
+    given: u32,
+) -> Result<Findings, RescueFault>
+    ensures ok { IfOk result (IsFound (S.view source.new) given) }
+    ensures err { IfErr result (FindFails (S.view source.old) given) }
+    ensures kept { KeepsSource (S.view source.old) (S.view source.new) }
+{
+    let geometry = source.geometry();
+    let Ok(()) = geometry.check() else {
+        return Err(RescueFault::Limits);
+    };
+    if given > MOST_BLOCKS {
+        return Err(RescueFault::Limits);
+    }
+    let zones = source.report(alloc)?;
+    let search = search_zones(alloc, source, &zones)?;
+    let blocks = size_or(search.size, given);
+    Ok(Findings { search, blocks })
+}
+
+/// Writes the disk that was found on a drive, block by block: what the newest record found shows of each, and zeros of
+/// those that are lost, trimmed or unwritten. The drive is only read.
+pub fn give<S: Source, W: Write>(
+    alloc: Global,
+    source: &mut S,
+    findings: &Findings,
+    writer: &mut W,
+) -> Result<Rescued, RescueFault>
+    requires found { (given : ℕ) × IsFound (S.view source.old) given findings.now }
+    ensures ok { IfOk result (λ rescued. (given : ℕ) → IsFound (S.view source.old) given findings.now
+        → Rescues (S.view source.old) given (W.contents writer.old) (W.contents writer.new) rescued) }
+    ensures err { IfErr result (GiveFails (S.view source.old) (W.contents writer.old) (W.contents writer.new)) }
+    ensures kept { KeepsSource (S.view source.old) (S.view source.new) }
+{
+    give_blocks(alloc, source, &findings.search, findings.blocks, writer)
+}
+
+/// Writes the disk that the readable batches of a drive spell, as [`find`] and [`give`] do.
 pub fn rescue<S: Source, W: Write>(
     alloc: Global,
     source: &mut S,
@@ -41,15 +98,6 @@ pub fn rescue<S: Source, W: Write>(
         (RescueFails (S.view source.old) given (W.contents writer.old) (W.contents writer.new)) }
     ensures kept { KeepsSource (S.view source.old) (S.view source.new) }
 {
-    let geometry = source.geometry();
-    let Ok(()) = geometry.check() else {
-        return Err(RescueFault::Limits);
-    };
-    if given > MOST_BLOCKS {
-        return Err(RescueFault::Limits);
-    }
-    let zones = source.report(alloc)?;
-    let search = search_zones(alloc, source, &zones)?;
-    let size = size_or(search.size, given);
-    give_blocks(alloc, source, &search, size, writer)
+    let findings = find(alloc, source, given)?;
+    give(alloc, source, &findings, writer)
 }
