@@ -1,7 +1,7 @@
 -- What a job on a broken drive gives: flat bytes, or a new drive.
-use Rattle.std.specs.Prelude.{◌≡◌, ℕ, ◌^◌, ◌-◌, min, Bool, ◌&&◌, List, [], take, Option, Some, None}
+use Rattle.std.specs.Prelude.{◌≡◌, ℕ, ◌^◌, ◌-◌, min, Bool, ◌==◌, ◌&&◌, List, [], length, take, Option, Some, None}
 use Rattle.std.specs.Io.KnownBytes.{Keeps}
-use Rattle.std.specs.List.{concat, list_is_empty}
+use Rattle.std.specs.List.{concat}
 use Rattle.drive_port.specs.Drive.{DriveState}
 use Rattle.drive_array.specs.Sizes.{size_or}
 use Rattle.drive_rescue.specs.declared.giving.Rescued.{Rescued}
@@ -21,7 +21,7 @@ given_blocks None = 0
 
 -- whether nothing of a disk is missing
 abbrev pub is_whole : Rescued → Bool
-is_whole rescued = list_is_empty rescued.lost.items && list_is_empty rescued.older.items
+is_whole rescued = length rescued.lost.items == 0 && length rescued.older.items == 0
 
 -- Why there is no disk: the search failed, or no header says a size and no number above 0 was given.
 abbrev pub FindsNoDisk : SourceView → ℕ → RescueJobFault → Type 0
