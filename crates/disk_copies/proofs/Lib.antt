@@ -4,3 +4,4 @@ pub mod Pieces
 pub mod Runs
 pub mod Imports
 pub mod CopyLaws
+pub mod WrittenLaws

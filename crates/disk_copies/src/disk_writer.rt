@@ -1,6 +1,8 @@
 // A disk as a writer.
 
-ghost use Rattle.std.specs.Prelude.{◌≡◌, ◌+◌, ◌*◌, ◌≤◌, ◌<◌, Some, None};
+ghost use Rattle.std.specs.Prelude.{◌≡◌, ◌+◌, ◌*◌, ◌^◌, ◌≤◌, ◌<◌, length, Some};
+ghost use Rattle.zone_translator.specs.View.{disk_array, disk_size};
+ghost use Rattle.zone_translator.specs.declared.status.DiskStatus.TheVariants.{Serving};
 ghost use Rattle.disk_copies.specs.Written.{written_bytes};
 
 use crate::putting::put;
@@ -53,8 +55,14 @@ impl<D: Device + Honest + Drop> DiskWriter<D> {
         self.disk
     }
 
-    /// How many blocks are taken of so many bytes.
-    fn room(&self, bytes: usize) -> usize {
+    /// How many blocks are taken of so many bytes: those that are whole, and for which there is room.
+    fn room(&self, bytes: usize) -> usize
+        ensures whole { result * self.now.disk.drive.geometry.block ≤ bytes }
+        ensures room { 0 < result → self.now.next + result ≤ disk_size self.now.disk }
+        ensures few { disk_size self.now.disk ≤ 2 ^ 31 }
+        ensures array { self.now.disk.status ≡ Serving
+            → length (disk_array self.now.disk) ≡ disk_size self.now.disk }
+    {
         let left = self.disk.blocks().saturating_sub(self.next);
         let whole = (bytes / self.disk.block_bytes()) as u64;
         whole.min(left) as usize

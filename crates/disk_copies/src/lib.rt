@@ -4,6 +4,7 @@
 //! ```text
 //! export_blocks(alloc, &mut disk, &mut output, 0, disk.blocks())?;
 //! let taken = import_blocks(alloc, &mut disk, &mut input, 0, false)?; // whole blocks, to the end of the input
+//! DiskWriter::new(disk).write(&bytes)?;                                // the first blocks, from a caller that writes
 //! do_export(&rt, alloc, &export_job, io::writer(&rt))?;               // of the drive in a file
 //! let imported = do_import(&rt, alloc, &import_job, rt.reader());
 //! ```
@@ -23,6 +24,7 @@
 //! * The faults of an import: `Input`, less than a piece was read of which nothing came; `Rest`, the reader ended
 //!   within a block; `PastEnd`, a block came for which there is no room; `Memory`, nothing was read or done
 //!   (`StopsImport`).
+//! * What was written to a [`DiskWriter`] are the first blocks of its disk (`written_bytes` in `specs/Written.antt`).
 //! * A refusal of the disk has its cause. Each drive has the same geometry, can be mounted again if it could before,
 //!   and refused no command.
 //!

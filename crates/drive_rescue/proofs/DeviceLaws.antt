@@ -13,10 +13,14 @@ use Rattle.zone_states.specs.Zone.{IsLawfulZone, MayHold, Zone}
 use Rattle.drive_port.specs.Calls.{CanRead, IsNotRefused, Obeys, ReadGives, ReadShows}
 use Rattle.drive_port.specs.Contents.{Content, block_at, bytes_at, contents}
 use Rattle.drive_port.specs.Drive.{DriveState, IsClosing, IsLawful}
-use Rattle.drive_port.specs.Step.{end_of, is_state, zone_at}
+use Rattle.drive_port.specs.Halting.{Adds}
+use Rattle.drive_port.specs.Step.{Effect, end_of, is_state, zone_at}
+use Rattle.nvme_wire.specs.declared.command.Command.TheVariants.{Read}
+use Rattle.nvme_wire.specs.declared.status.Status.TheVariants.{Success}
+use Rattle.drive_port.proofs.StepLaws.{succeeded}
 use Rattle.drive_port.specs.declared.calls.PortFault.{PortFault}
 use Rattle.drive_port.specs.declared.calls.PortFault.TheVariants as port
-use Rattle.drive_port.proofs.ClosingLaws.{content_at-contents}
+use Rattle.drive_port.proofs.ClosingLaws.{content_at-closing, content_at-contents}
 use Rattle.batch_log.specs.Log.{zero_block}
 use Rattle.drive_array.specs.ZoneLogs.{padding}
 use Rattle.drive_array.proofs.AllLaws.{all-at}
@@ -172,6 +176,27 @@ pub read-gives : (drive : DriveState) (number offset address : ℕ) (bytes : Lis
 read-gives drive number offset address bytes reads is =
     let one : bytes ≡ block_at drive.geometry (contents drive.zones) address = is ∙ append-nil (block_at drive.geometry (contents drive.zones) address) in
     (one ∙ reads.shows, ap length one ∙ reads.long)
+
+-- and what the effect of one gives
+pub effect-gives : (drive : DriveState) (new : List Zone) (number offset address : ℕ) (items : List ℕ) → ReadsBlock drive number offset address
+    → Adds [] (λ (returned : List ℕ). Effect drive.geometry drive.zones (Ok (Read address 1)) [] Success 0 returned new) items
+    → (items ≡ block_with (read_zones drive) number offset) × (length items ≡ drive.geometry.block)
+effect-gives drive new number offset address items reads adds =
+    let s = succeeded drive.geometry drive.zones new (Ok (Read address 1)) [] adds.returned 0 adds.given in
+    let shown : adds.returned ≡ bytes_at drive.geometry (contents drive.zones) address 1 = s.returned_is ∙ rw (content_at-closing drive.zones adds.given.middle (address / drive.geometry.size) adds.given.before) refl in
+    read-gives drive number offset address items reads (adds.joined ∙ shown)
+
+-- a source that was only read is kept
+pub kept-so : (old new : DriveState) → new ≡ record old { zones = new.zones } → IsLawful new → IsClosing old.zones new.zones → KeepsZones old new
+kept-so old new same lawful closing = record {
+  geometry = ap (λ (d : DriveState). d.geometry) same;
+  lawful = lawful;
+  closing = closing;
+  trusted = λ clean. rw (← ap (λ (d : DriveState). d.clean) same) clean;
+  refused = ap (λ (d : DriveState). d.refused) same;
+  durable = ap (λ (d : DriveState). d.durable) same;
+  appended = ap (λ (d : DriveState). d.appended) same;
+}
 
 -- one that halted keeps the zones
 pub record HaltsRead (old new : DriveState) (fault : PortFault) : Type 0 where

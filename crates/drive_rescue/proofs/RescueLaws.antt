@@ -1,6 +1,10 @@
 -- A rescue, of what is searched and what is given.
 use Rattle.std.proofs.Common.{◌≡◌, inl, inr, ℕ, List, length, Option, Result, Ok, Err, ap, ◌∙◌}
-use Rattle.std.specs.Prelude.{IfErr, IfOk}
+use Rattle.std.specs.Prelude.{◌≤◌, ◌^◌, IfErr, IfOk}
+use Rattle.drive_port.specs.Drive.{IsLawful}
+use Rattle.drive_rescue.specs.declared.rescuing.Findings.{Findings}
+use Rattle.drive_rescue.specs.Findings.{FindFails, IsFound}
+use Rattle.std.proofs.KnownBytes.{Keeps-refl}
 use Rattle.std.proofs.lemmas.List.{length-map}
 use Rattle.zone_states.specs.Geometry.{IsInRange}
 use Rattle.drive_array.specs.Sizes.{size_or}
@@ -32,22 +36,49 @@ finds-held a b kept_search reported k tells found =
 finds-back : (a b : SourceView) (finding : Finding) → KeepsSource a b → Finds b finding → Finds a finding
 finds-back a b finding k finds = rw (← k.damaged, ← zones-kept a b k, ← count-kept a b k) finds
 
+-- ---- what is found
+
+-- a search whose findings are kept
+pub is-found : (source : SourceView) (given : ℕ) (findings : Findings) (kept_search : Search) → IsInRange source.drive.geometry → IsLawful source.drive → FindsHeld source kept_search → findings.search ≡ kept_search → findings.blocks ≡ size_or given kept_search.size
+    → findings.blocks ≤ 2 ^ 31 → IsFound source given findings
+is-found source given findings kept_search range lawful held same size few =
+    record { range = range; lawful = lawful; held = rw same held; size = rw same size; few = few }
+
 -- ---- what is given
 
-pub rescue-ok : (a b : SourceView) (kept_search : Search) (given size : ℕ) (written contents : Option (List ℕ)) (result : Result Rescued RescueFault) → KeepsSource a b → IsInRange a.drive.geometry → FindsHeld b kept_search → size ≡ size_or given kept_search.size
-    → IfOk result (λ (r : Rescued). r.blocks ≡ size) → IfOk result (λ (r : Rescued). (finding : Finding) → IsKept b kept_search finding → GivesAll b finding r written contents) → IfOk result (Rescues a given written contents)
-rescue-ok a b kept_search given size written contents (Err fault) k range held is blocks gives = tt
-rescue-ok a b kept_search given size written contents (Ok rescued) k range held is blocks gives =
+-- what is given of the findings is a rescue
+pub found-given : (source : SourceView) (given : ℕ) (findings : Findings) (written contents : Option (List ℕ)) (rescued : Rescued) → IsFound source given findings → rescued.blocks ≡ findings.blocks
+    → ((finding : Finding) → IsKept source findings.search finding → GivesAll source finding rescued written contents) → Rescues source given written contents rescued
+found-given source given findings written contents rescued found blocks gives =
+    let held = found.held in
     let all = gives held.finding held.kept in
     record {
-      range = range;
+      range = found.range;
       finding = held.finding;
-      finds = finds-back a b held.finding k held.kept.finds;
-      size_is = blocks ∙ is ∙ ap (size_or given) held.kept.holds.size;
+      finds = held.kept.finds;
+      size_is = blocks ∙ found.size ∙ ap (size_or given) held.kept.holds.size;
       bytes = all.bytes;
-      gives = gave-back a b held.finding rescued all.bytes k all.gave;
+      gives = all.gave;
       appends = all.appends;
     }
+
+-- what is given of a source that was read before is given of the source as it was
+pub given-back : (a b : SourceView) (given : ℕ) (written contents : Option (List ℕ)) (rescued : Rescued) → KeepsSource a b → Rescues b given written contents rescued → Rescues a given written contents rescued
+given-back a b given written contents rescued k r = record {
+  range = rw (← k.zones.geometry) r.range;
+  finding = r.finding;
+  finds = finds-back a b r.finding k r.finds;
+  size_is = r.size_is;
+  bytes = r.bytes;
+  gives = gave-back a b r.finding rescued r.bytes k r.gives;
+  appends = r.appends;
+}
+
+-- so is what was found of it
+pub rescue-ok : (a b : SourceView) (given : ℕ) (findings : Findings) (written contents : Option (List ℕ)) (result : Result Rescued RescueFault) → KeepsSource a b → IsFound b given findings
+    → IfOk result (λ (rescued : Rescued). (n : ℕ) → IsFound b n findings → Rescues b n written contents rescued) → IfOk result (Rescues a given written contents)
+rescue-ok a b given findings written contents (Err fault) k found ok = tt
+rescue-ok a b given findings written contents (Ok rescued) k found ok = given-back a b given written contents rescued k (ok given found)
 
 front-back : (a b : SourceView) (n : ℕ) (bytes : List ℕ) → KeepsSource a b → GivesFront b n bytes → GivesFront a n bytes
 front-back a b n bytes k front = record {
@@ -66,3 +97,9 @@ fails a b given written contents faults.Output k front = (front.0, front.1, fron
 pub rescue-err : (a b : SourceView) (given : ℕ) (written contents : Option (List ℕ)) (result : Result Rescued RescueFault) → KeepsSource a b → IfErr result (GiveFails b written contents) → IfErr result (RescueFails a given written contents)
 rescue-err a b given written contents (Ok rescued) k err = tt
 rescue-err a b given written contents (Err fault) k err = fails a b given written contents fault k err
+
+-- where nothing is found, nothing is written
+pub unfound : (source : SourceView) (given : ℕ) (contents : Option (List ℕ)) (fault : RescueFault) → FindFails source given fault → RescueFails source given contents contents fault
+unfound source given contents faults.Limits refused = (Keeps-refl contents, refused)
+unfound source given contents (faults.Halted halt) k = inl (Keeps-refl contents)
+unfound source given contents faults.Output bad = absurd bad

@@ -1,5 +1,5 @@
 -- The drives that a source shows.
-use Rattle.std.specs.Prelude.{ℕ, ◌==◌, ◌&&◌, ◌||◌, Bool, false, List}
+use Rattle.std.specs.Prelude.{ℕ, ◌==◌, ◌&&◌, ◌||◌, Bool, true, false, List}
 use Rattle.std.specs.List.{list_any}
 use Rattle.drive_port.specs.Drive.{DriveState}
 use Rattle.drive_rescue.specs.declared.with_damage.DamagedBlock.{DamagedBlock}
@@ -8,6 +8,10 @@ use Rattle.drive_rescue.specs.Rescue.{SourceView}
 -- each block of it can be read
 abbrev pub undamaged : DriveState → SourceView
 undamaged drive = record { drive = drive; damaged = λ (number offset : ℕ). false }
+
+-- any block of it may be unreadable
+abbrev pub damaged_anywhere : DriveState → SourceView
+damaged_anywhere drive = record { drive = drive; damaged = λ (number offset : ℕ). true }
 
 -- this block of a zone
 abbrev pub is_block : ℕ → ℕ → DamagedBlock → Bool

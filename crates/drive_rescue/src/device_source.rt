@@ -1,6 +1,10 @@
-ghost use Rattle.std.specs.Prelude.{◌≡◌};
+ghost use Rattle.std.specs.Prelude.{◌≡◌, IfOk};
+ghost use Rattle.drive_port.specs.Drive.{IsLawful};
 ghost use Rattle.drive_rescue.specs.Sources.{undamaged};
+ghost use Rattle.drive_rescue.specs.Zones.{TellsAll, read_zones};
+ghost use Rattle.drive_survey.specs.Reported.{KeepsZones};
 ghost use Rattle.zone_choice.specs.Changes.{IsHalt};
+ghost use Rattle.zone_states.specs.Geometry.{IsInRange};
 
 use crate::source::{Reading, Source};
 use drive_port::{Device, Halt, Honest, PortFault, read};
@@ -41,6 +45,24 @@ fn halt_of(fault: PortFault) -> Halt
     }
 }
 
+/// The zones as a device reports them.
+pub(crate) fn report_of<D: Device>(
+    alloc: Global,
+    device: &mut D,
+) -> Result<Vec<ReportedZone>, Halt>
+    requires range { IsInRange (D.drive device.old).geometry }
+    requires lawful { IsLawful (D.drive device.old) }
+    ensures ok { IfOk result (λ reported. TellsAll (D.drive device.old).geometry.capacity
+        (read_zones (D.drive device.old)) reported.items) }
+    ensures kept { KeepsZones (D.drive device.old) (D.drive device.new) }
+{
+    match report_zones(alloc, device) {
+        Ok(zones) => Ok(zones),
+        Err(MountFault::OutOfMemory) => Err(Halt::Memory),
+        Err(_) => Err(Halt::Stopped),
+    }
+}
+
 impl<D: Device + Honest + Drop> Source for DeviceSource<D> {
     ghost view = { λ s. undamaged (D.drive s.device) };
 
@@ -49,11 +71,7 @@ impl<D: Device + Honest + Drop> Source for DeviceSource<D> {
     }
 
     fn report(&mut self, alloc: Global) -> Result<Vec<ReportedZone>, Halt> {
-        match report_zones(alloc, &mut self.device) {
-            Ok(zones) => Ok(zones),
-            Err(MountFault::OutOfMemory) => Err(Halt::Memory),
-            Err(_) => Err(Halt::Stopped),
-        }
+        report_of(alloc, &mut self.device)
     }
 
     fn read(&mut self, number: u32, offset: u32, into: &mut Vec<u8>) -> Result<Reading, Halt> {

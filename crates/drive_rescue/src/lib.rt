@@ -2,7 +2,9 @@
 //!
 //! ```text
 //! let mut source = DeviceSource::new(device);
-//! let rescued = rescue(alloc, &mut source, 9, &mut writer)?; // the blocks of the disk, as flat bytes
+//! let rescued = rescue(alloc, &mut source, 9, &mut writer)?; // the blocks of the disk, as flat bytes; or in two steps:
+//! let findings = find(alloc, &mut source, 9)?;
+//! let rescued = give(alloc, &mut source, &findings, &mut writer)?;
 //! rescued.blocks; // how many they are: 9 if no header says a size
 //! rescued.lost;   // ranges of blocks whose newest data cannot be read, given as zeros
 //! rescued.older;  // ranges of blocks that may be older than they should be
@@ -36,6 +38,8 @@
 //!   bounds a gap (`older_blocks`).
 //! * Of a drive that can be mounted, each block of which can be read, a rescue gives exactly the disk, and both lists
 //!   are empty (`laws::mountable_is_given`).
+//! * [`rescue`] searches and gives. [`find`] is its search, and tells how many blocks there are before any is written;
+//!   [`give`] gives what was found (`IsFound` in specs/Findings).
 //! * After a halt of the source, or of the writer, what was written until then is a front of those blocks. `Limits`
 //!   comes only for a geometry or a number that is out of range, and before anything is read.
 //! * Nothing is changed: the controller may have closed zones (`KeepsSource`).
@@ -54,7 +58,8 @@
 //! * The number of Reads: one for each header and each lost block, one for each block of the disk that has data, and
 //!   one for each zero block at the end of a Read Only zone. An unreadable block takes one more each time.
 //!
-//! A device is a source by [`DeviceSource`]; its Reads do not fail alone. [`WithDamage`] makes chosen blocks of a
+//! A device is a source by [`DeviceSource`]; its Reads do not fail alone. [`WaySource`] is one over a drive behind a way
+//! that passes commands through: there a Read that the drive refuses is a lost block. [`WithDamage`] makes chosen blocks of a
 //! source unreadable, for tests.
 //!
 //! Tests: `rescue_rows`.
@@ -69,6 +74,7 @@ mod rescuing;
 mod search;
 mod source;
 mod table;
+mod way_source;
 mod with_damage;
 
 pub use device_source::DeviceSource;
@@ -77,4 +83,5 @@ pub use giving::Rescued;
 pub use ranges::BlockRange;
 pub use rescuing::{Findings, find, give, rescue};
 pub use source::{Reading, Source};
+pub use way_source::WaySource;
 pub use with_damage::{DamagedBlock, WithDamage};

@@ -1,10 +1,11 @@
 // The device.
 
-ghost use Rattle.std.specs.Prelude.{◌≡◌, [], Some, false, true, IfErr, IfOk, OnErr, OnOk};
+ghost use Rattle.std.specs.Prelude.{◌≡◌, ◌≤◌, [], Ok, Some, false, true, IfErr, IfOk, OnErr, OnOk};
+ghost use Rattle.nvme_wire.specs.declared.status.Status.TheVariants.{Success};
 ghost use Rattle.nvme_wire.specs.Entry.{decode_of};
 ghost use Rattle.zone_states.specs.Checks.{first_failing};
 ghost use Rattle.zone_states.specs.Geometry.{geometry_checks};
-ghost use Rattle.drive_port.specs.Drive.{IsLawful};
+ghost use Rattle.drive_port.specs.Drive.{IsClosing, IsLawful};
 ghost use Rattle.drive_port.specs.Halting.{Adds, Halts, SubmitAdds};
 ghost use Rattle.drive_port.specs.Step.{Effect, decode_status};
 ghost use Rattle.passthrough.specs.Asking.{counted};
@@ -12,6 +13,7 @@ ghost use Rattle.passthrough.specs.Seen.{AreSeen};
 
 use crate::asking::ask;
 use crate::passthrough::Passthrough;
+use crate::reading::read;
 use crate::seen_zone::SeenZone;
 use drive_port::{Device, Geometry, Halt, Honest};
 use nvme_wire::{Command, Completion, DecodeFault, Status, entry_id};
@@ -126,6 +128,27 @@ impl<P: Passthrough + Drop> PassthroughDrive<P> {
         ensures zones { P.zones result.now ≡ self.now.zones }
     {
         &self.way
+    }
+
+    /// Reads blocks, puts their bytes after those that `into` holds, and tells whether the drive returned them. It stops
+    /// at nothing that the drive answers: after a Read that is not done, the next one can be. Such Reads are not counted.
+    pub fn try_read(&mut self, slba: u64, blocks: u32, into: &mut Vec<u8>) -> Result<bool, Halt>
+        requires some { 1 ≤ blocks }
+        ensures read { IfOk result (λ done. done ≡ true → Adds into.old.items (λ returned.
+            Effect self.old.geometry self.old.zones (Ok (Command.Read slba blocks)) [] Success 0 returned
+            self.new.zones) into.new.items) }
+        ensures closes { IsClosing self.old.zones self.new.zones }
+        ensures others { self.new ≡ record self.old { zones = self.new.zones } }
+        ensures lawful { IsLawful self.new }
+    {
+        if self.stopped {
+            return Err(Halt::Stopped);
+        }
+        match read(&mut self.way, self.geometry, &self.seen, slba, blocks, into) {
+            Ok(_) => Ok(true),
+            Err(Halt::Stopped) => Ok(false),
+            Err(Halt::Memory) => Err(Halt::Memory),
+        }
     }
 
     /// Does the command of an entry. What it returns goes after what `into` holds.

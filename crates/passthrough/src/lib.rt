@@ -36,6 +36,7 @@
 //! * It stops for ever at an answer that is not Success, at an Append with another address than the table says, and at
 //!   a report with a zone in another state, at another pointer, or of another shape (`specs/Showing.antt`). Then it
 //!   sends nothing.
+//! * [`PassthroughDrive::try_read`] goes on after a Read that the drive refused: it is for a drive that is broken in part.
 //! * It sends only what the contract of a way asks for: Reads of written blocks, Appends and actions that fit the
 //!   table, and reports of no more than one transfer. A block that is not written is zeros, whatever the drive says.
 //! * A Flush looks before it is answered. Once the drive has done it, the device asks for a report of each zone that is

@@ -117,6 +117,7 @@ pub(crate) fn read<P: Passthrough>(
         into.new.items) }
     ensures err { IfErr result (λ halt. (halt ≡ Halt.Memory → P.zones way.new ≡ P.zones way.old)
         × IsClosing (P.zones way.old) (P.zones way.new)) }
+    ensures closes { IsClosing (P.zones way.old) (P.zones way.new) }
     ensures ready { IsReady geometry (P.shape way.new) (P.zones way.new) seen.now }
     ensures kept { OnErr result (into.new.items ≡ into.old.items) }
     ensures flushed { P.flushed way.old ≡ true → P.flushed way.new ≡ true }

@@ -11,3 +11,6 @@ returns-then-read_room-clause-ready g c = ready-closing _ _ _ _ _ _ c.requires.r
 
 pub returns-else-read_room-clause-ready : goal.returns-else-read_room-clause-ready
 returns-else-read_room-clause-ready g c = ready-closing _ _ _ _ _ _ c.requires.ready c.read_room.ensures.leads c.read_room.ensures.closes
+
+pub returns-then-is_err-clause-closes : goal.returns-then-is_err-clause-closes
+returns-then-is_err-clause-closes g c = IsClosing-refl _
