@@ -2,6 +2,8 @@
 use Rattle.std.proofs.Common.{◌≡◌, ℕ, zero, suc, ◌+◌, ◌*◌, ◌<◌, ◌≤◌, List, [], ◌∷◌, ◌++◌, length, take, Ok, Err, refl, ap, append-nil, ◌∙◌, arith}
 use Rattle.std.specs.List.{concat}
 use Rattle.std.proofs.lemmas.List.Folds.{concat-append}
+use Rattle.std.proofs.lemmas.List.{length-take}
+use Rattle.zone_states.specs.declared.geometry.Geometry.{Geometry}
 use Rattle.zone_states.proofs.Cutting.{concat-cut, length-cut}
 use Rattle.drive_port.specs.Calls.{block_count, data_blocks}
 use Rattle.zone_translator.specs.Answers.{write_bytes}
@@ -25,9 +27,11 @@ take-new [] (y ∷ ys) fits = absurd (omega (arith, fits))
 take-new {X} (x ∷ xs) (y ∷ ys) fits = ap (λ (zs : List X). y ∷ zs) (take-new xs ys (omega (arith, fits)))
 
 take-written : {X : Type 0} (xs : List X) (first : ℕ) (ys : List X) → first + length ys ≤ length xs → take (first + length ys) (replaced xs first ys) ≡ take first xs ++ ys
-take-written xs zero ys fits = take-new xs ys (omega (arith, fits))
+take-written xs zero ys fits = let e : 0 + length ys ≡ length ys = omega arith in rw e (take-new xs ys (omega (arith, fits)))
 take-written [] (suc first) ys fits = absurd (omega (arith, fits))
-take-written {X} (x ∷ xs) (suc first) ys fits = ap (λ (zs : List X). x ∷ zs) (take-written xs first ys (omega (arith, fits)))
+take-written {X} (x ∷ xs) (suc first) ys fits =
+    let e : suc first + length ys ≡ suc (first + length ys) = omega arith in
+    rw e (ap (λ (zs : List X). x ∷ zs) (take-written xs first ys (omega (arith, fits))))
 
 take-more : {X : Type 0} (xs : List X) (first : ℕ) (ys : List X) → (0 < length ys → first + length ys ≤ length xs) → take (first + length ys) (replaced xs first ys) ≡ take first xs ++ ys
 take-more xs first [] fits =
@@ -59,3 +63,31 @@ written-still old new next bytes fault within flat = ap concat (at (refused (fla
     at : Refused (flat_of old) next (data_blocks old.drive.geometry bytes) fault (flat_of new) → take next (disk_array new) ≡ take next (disk_array old)
     at (midway serves may front after) = ap (λ (a : List (List ℕ)). take next a) front.written ∙ take-before (disk_array old) next (take front.done (data_blocks old.drive.geometry bytes))
     at (before known same) = ap (λ (d : FlatDisk). take next d.array) same
+
+-- ---- the blocks that are taken of some bytes
+
+front-long : (g : Geometry) (bytes : List ℕ) (k b : ℕ) → b ≡ g.block → k * g.block ≤ length bytes → length (take (k * b) bytes) ≡ k * g.block
+front-long g bytes k b e fits = rw e (omega (arith, length-take (k * g.block) bytes, fits))
+
+-- they are whole
+pub front-whole : (g : Geometry) (bytes : List ℕ) (k b : ℕ) → b ≡ g.block → 0 < b → k * g.block ≤ length bytes → length (take (k * b) bytes) ≡ block_count g (take (k * b) bytes) * g.block
+front-whole g bytes k b e some fits =
+    let long = front-long g bytes k b e fits in
+    rw (count-of g (take (k * b) bytes) k (rw e at some) long) long
+
+-- a write of them that is done
+pub front-written : (old new : DiskView) (next k b : ℕ) (bytes : List ℕ) → b ≡ old.drive.geometry.block → 0 < b → k * old.drive.geometry.block ≤ length bytes → (old.status ≡ statuses.Serving → length (disk_array old) ≡ disk_size old)
+    → FlatCall (flat_of old) (write_bytes old next (take (k * b) bytes)) (with_nothing (Ok tt)) (flat_of new)
+    → concat (take (next + k) (disk_array new)) ≡ concat (take next (disk_array old)) ++ take (k * b) bytes
+front-written old new next k b bytes e some fits array flat =
+    written-more old new next k (take (k * b) bytes) (rw e at some) (front-long old.drive.geometry bytes k b e fits) array flat
+
+-- and one that is refused
+pub front-refused : (old new : DiskView) (next k b : ℕ) (bytes : List ℕ) (fault : DiskFault) → b ≡ old.drive.geometry.block → 0 < b → k * old.drive.geometry.block ≤ length bytes → (0 < k → next + k ≤ disk_size old)
+    → FlatCall (flat_of old) (write_bytes old next (take (k * b) bytes)) (with_nothing (Err fault)) (flat_of new)
+    → concat (take next (disk_array new)) ≡ concat (take next (disk_array old))
+front-refused old new next k b bytes fault e some fits room flat =
+    let g = old.drive.geometry in
+    let front = take (k * b) bytes in
+    let n : length (data_blocks g front) ≡ k = length-cut g.block (block_count g front) front ∙ count-of g front k (rw e at some) (front-long g bytes k b e fits) in
+    written-still old new next front fault (rw n room) flat
