@@ -1,5 +1,5 @@
 -- A rescue, of what is searched and what is given.
-use Rattle.std.proofs.Common.{◌≡◌, inl, inr, ℕ, List, length, Option, Result, Ok, Err, ap, ◌∙◌}
+use Rattle.std.proofs.Common.{◌≡◌, inl, inr, ℕ, List, length, Option, Result, Ok, Err, sym, ap, ◌∙◌}
 use Rattle.std.specs.Prelude.{◌≤◌, ◌^◌, IfErr, IfOk}
 use Rattle.drive_port.specs.Drive.{IsLawful}
 use Rattle.drive_rescue.specs.declared.rescuing.Findings.{Findings}
@@ -16,7 +16,7 @@ use Rattle.drive_rescue.specs.declared.search.Search.{Search}
 use Rattle.drive_rescue.specs.Giving.{FindsHeld, GiveFails, GivesAll, IsKept}
 use Rattle.drive_rescue.specs.Holding.{HoldsFinding}
 use Rattle.drive_rescue.specs.Rescue.{Finds, GivesFront, KeepsSource, RescueFails, Rescues, SourceView}
-use Rattle.drive_rescue.specs.Searching.{Finding, Searched}
+use Rattle.drive_rescue.specs.Searching.{Finding, Searched, found_size}
 use Rattle.drive_rescue.specs.Zones.{TellsAll, read_zone, read_zones}
 use Rattle.drive_rescue.proofs.GiveLaws.{gave-back, kept-kept}
 use Rattle.drive_rescue.proofs.KeepLaws.{count-kept, zones-kept}
@@ -43,6 +43,13 @@ pub is-found : (source : SourceView) (given : ℕ) (findings : Findings) (kept_s
     → findings.blocks ≤ 2 ^ 31 → IsFound source given findings
 is-found source given findings kept_search range lawful held same size few =
     record { range = range; lawful = lawful; held = rw same held; size = rw same size; few = few }
+
+-- findings of no block: no header that is found says a size, and the given one is 0
+pub no-blocks : (a b : SourceView) (given : ℕ) (findings : Findings) → KeepsSource a b → IsFound b given findings → findings.blocks ≡ 0
+    → (finding : Finding) × Finds a finding × (size_or given (found_size finding.found) ≡ 0)
+no-blocks a b given findings k found none =
+    let held = found.held in
+    (held.finding, finds-back a b held.finding k held.kept.finds, sym (found.size ∙ ap (size_or given) held.kept.holds.size) ∙ none)
 
 -- ---- what is given
 
@@ -88,7 +95,7 @@ front-back a b n bytes k front = record {
   gives = rw (← k.damaged, ← k.zones.geometry) front.gives;
 }
 
-fails : (a b : SourceView) (given : ℕ) (written contents : Option (List ℕ)) (fault : RescueFault) → KeepsSource a b → GiveFails b written contents fault → RescueFails a given written contents fault
+pub fails : (a b : SourceView) (given : ℕ) (written contents : Option (List ℕ)) (fault : RescueFault) → KeepsSource a b → GiveFails b written contents fault → RescueFails a given written contents fault
 fails a b given written contents faults.Limits k bad = absurd bad
 fails a b given written contents (faults.Halted halt) k (inl kept) = inl kept
 fails a b given written contents (faults.Halted halt) k (inr front) = inr (front.0, front.1, front-back a b front.0 front.1 k front.2, front.3)

@@ -1,16 +1,16 @@
 -- What a job on a broken drive gives: flat bytes, or a new drive.
-use Rattle.std.specs.Prelude.{◌≡◌, ℕ, ◌^◌, ◌-◌, min, Bool, ◌==◌, ◌&&◌, List, [], length, take, Option, Some, None}
+use Rattle.std.specs.Prelude.{◌≡◌, ℕ, ◌^◌, ◌-◌, min, Bool, ◌==◌, ◌&&◌, List, [], length, Option, Some, None}
 use Rattle.std.specs.Io.KnownBytes.{Keeps}
-use Rattle.std.specs.List.{concat}
 use Rattle.drive_port.specs.Drive.{DriveState}
+use Rattle.drive_port.specs.Durable.{IsDurable}
+use Rattle.drive_array.specs.Mountable.{IsMountable}
 use Rattle.drive_array.specs.Sizes.{size_or}
 use Rattle.drive_rescue.specs.declared.giving.Rescued.{Rescued}
 use Rattle.drive_rescue.specs.Findings.{FindFails}
 use Rattle.drive_rescue.specs.Rescue.{Finds, RescueFails, Rescues, SourceView}
 use Rattle.drive_rescue.specs.Searching.{Finding, found_size}
-use Rattle.job_drives.specs.Mounted.{IsServed}
-use Rattle.zone_translator.specs.Keeping.{KeepsServed}
-use Rattle.zone_translator.specs.View.{DiskView, disk_array}
+use Rattle.disk_copies.specs.Written.{Written, written_bytes}
+use Rattle.zone_translator.specs.View.{DiskView, disk_array, given_size}
 use Rattle.rescue_jobs.specs.declared.fault.RescueJobFault.{RescueJobFault}
 use Rattle.rescue_jobs.specs.declared.fault.RescueJobFault.TheVariants as faults
 
@@ -34,11 +34,16 @@ abbrev pub RescuesNot : SourceView → ℕ → Option (List ℕ) → Option (Lis
 RescuesNot source given written contents (faults.Rescue fault) = RescueFails source given written contents fault
 RescuesNot source given written contents fault = FindsNoDisk source given fault × Keeps written contents
 
--- A new drive is mounted as a disk, and shows what a rescue gives. It can be mounted again.
-pub record RescuesInto (source : SourceView) (given : ℕ) (old : DriveState) (rescued : Rescued) (new : DriveState) : Type 0 where
-  pub first : DiskView
-  pub served : IsServed old (Some rescued.blocks) first
+-- A disk is flushed, and its drive given. The drive can be mounted again.
+pub record IsFlushed (disk : DiskView) (drive : DriveState) : Type 0 where
   pub last : DiskView
-  pub keeps : KeepsServed first last
-  pub shows : Rescues source given (Some []) (Some (concat (take rescued.blocks (disk_array last)))) rescued
-  pub drive : new ≡ last.drive
+  pub array : disk_array last ≡ disk_array disk
+  pub mountable : IsMountable last.drive (given_size last)
+  pub durable : IsDurable last.drive
+  pub drive_is : drive ≡ last.drive
+
+-- The first blocks of a disk on a new drive are what a rescue gives, and durable.
+pub record RescuesInto (source : SourceView) (given : ℕ) (rescued : Rescued) (new : DriveState) : Type 0 where
+  pub written : Written
+  pub gives : Rescues source given (Some []) (Some (written_bytes written)) rescued
+  pub flushed : IsFlushed written.disk new

@@ -18,7 +18,7 @@
 //! * [`rescue_out`] writes exactly what a rescue gives. Before a fault of the search nothing is written; after a halt
 //!   or a failed writer a beginning of it (`RescuesNot`).
 //! * [`rescue_into`] mounts the new drive as a disk of as many blocks, and writes to it what a rescue gives: afterwards
-//!   that is what the disk on the new drive shows. The new drive can be mounted again (`RescuesInto`).
+//!   its first blocks show these bytes. It is flushed, and can be mounted again (`RescuesInto`).
 //! * `NoSize` comes where no header that was found says a size and no number above 0 was given. Nothing is written then.
 //! * The broken drive is only read.
 //!

@@ -3,7 +3,7 @@
 ghost use Rattle.std.specs.Prelude.{◌≡◌, ◌<◌, ℕ, IfErr, IfOk};
 ghost use Rattle.drive_rescue.specs.Findings.{IsFound};
 ghost use Rattle.drive_rescue.specs.Rescue.{KeepsSource, Rescues};
-ghost use Rattle.rescue_jobs.specs.Jobs.{FindsNoDisk, RescuesInto, RescuesNot};
+ghost use Rattle.rescue_jobs.specs.Jobs.{FindsNoDisk, IsFlushed, RescuesInto, RescuesNot};
 
 use crate::fault::RescueJobFault;
 use disk_copies::DiskWriter;
@@ -28,13 +28,28 @@ fn told<D: Device + Honest + Drop>(
     }
 }
 
-/// Writes what was found to a new disk, and gives its drive.
+/// Flushes a disk, and gives its drive.
+fn flushed<D: Device + Honest + Drop>(mut disk: Disk<D>) -> Result<D, RescueJobFault>
+    ensures { IfOk result (λ drive. IsFlushed disk (D.drive drive)) }
+{
+    match disk.flush() {
+        Ok(()) => Ok(disk.into_device()),
+        Err(fault) => Err(RescueJobFault::Disk(fault)),
+    }
+}
+
+/// Writes what was found to a new disk, flushes it, and gives its drive.
 fn give_to<S: Source, D: Device + Honest + Drop>(
     alloc: Global,
     source: &mut S,
     findings: &Findings,
     disk: Disk<D>,
-) -> Result<(D, Rescued), RescueJobFault> {
+) -> Result<(D, Rescued), RescueJobFault>
+    requires found { (given : ℕ) × IsFound (S.view source.old) given findings.now }
+    ensures ok { IfOk result (λ done. (given : ℕ) → IsFound (S.view source.old) given findings.now
+        → RescuesInto (S.view source.old) given done.1 (D.drive done.0)) }
+    ensures kept { KeepsSource (S.view source.old) (S.view source.new) }
+{
     let writer = DiskWriter::new(disk);
     let Ok(mut writer) = BufWriter::with_capacity(alloc, GATHERED_BYTES, writer) else {
         return Err(RescueJobFault::Rescue(RescueFault::Halted(Halt::Memory)));
@@ -44,7 +59,7 @@ fn give_to<S: Source, D: Device + Honest + Drop>(
         Err(fault) => return Err(told(fault, &writer)),
     };
     match writer.into_inner() {
-        Ok(writer) => Ok((writer.into_disk().into_device(), rescued)),
+        Ok(writer) => Ok((flushed(writer.into_disk())?, rescued)),
         Err(error) => Err(told(RescueFault::Output, &error.into_inner())),
     }
 }
@@ -60,11 +75,14 @@ fn find_disk<S: Source>(
     ensures err { IfErr result (FindsNoDisk (S.view source.old) given) }
     ensures kept { KeepsSource (S.view source.old) (S.view source.new) }
 {
-    match find(alloc, source, given) {
-        Ok(findings) if findings.blocks() == 0 => Err(RescueJobFault::NoSize),
-        Ok(findings) => Ok(findings),
-        Err(fault) => Err(RescueJobFault::Rescue(fault)),
+    let findings = match find(alloc, source, given) {
+        Ok(findings) => findings,
+        Err(fault) => return Err(RescueJobFault::Rescue(fault)),
+    };
+    if findings.blocks() == 0 {
+        return Err(RescueJobFault::NoSize);
     }
+    Ok(findings)
 }
 
 /// Writes the disk of a broken drive to a writer, as flat bytes. `given` is how many blocks it has if no header says how
@@ -86,15 +104,15 @@ pub fn rescue_out<S: Source, W: Write>(
     }
 }
 
-/// Writes the disk of a broken drive to a new one, in which nothing is written. The new drive is given if all blocks were
-/// written to it. The broken one is only read.
+/// Writes the disk of a broken drive to a new one, in which nothing is written. The new drive is given once all blocks
+/// are written to it, and flushed. The broken one is only read.
 pub fn rescue_into<S: Source, D: Device + Honest + Drop>(
     alloc: Global,
     given: u32,
     source: &mut S,
     new: D,
 ) -> Result<(D, Rescued), RescueJobFault>
-    ensures ok { IfOk result (λ done. RescuesInto (S.view source.old) given (D.drive new) done.1 (D.drive done.0)) }
+    ensures ok { IfOk result (λ done. RescuesInto (S.view source.old) given done.1 (D.drive done.0)) }
     ensures kept { KeepsSource (S.view source.old) (S.view source.new) }
 {
     let findings = find_disk(alloc, given, source)?;
