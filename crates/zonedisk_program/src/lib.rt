@@ -75,6 +75,7 @@ mod in_file;
 mod place;
 mod raw_words;
 mod refusal;
+mod rescuing;
 mod task;
 mod tool_words;
 mod words;
@@ -84,6 +85,7 @@ pub use crate::counterpart::in_place;
 pub use crate::devices::do_device;
 use crate::files::{copy, do_lines, do_nbd, fail, use_tool};
 use crate::in_file::{begins_in_place, refuse_in_place};
+use crate::rescuing::{rescue_device, rescue_image};
 pub use crate::task::Task;
 pub use crate::words::task_of;
 use clap::error::ErrorKind;
@@ -130,7 +132,7 @@ fn is_new(job: &DeviceJob) -> bool
     matches!(job, DeviceJob::Create { .. })
 }
 
-/// Does a job on a device, or makes a new drive in a file. It ends with the status of a fault if there is no way to it.
+/// Does a job on a device, or makes a new drive in a file. A rescue may do both. It ends with the status of a fault if there is no way to it.
 fn do_named<
     R: Clock + Eprint + Files<File = fs::File> + Input + Print,
     D: Devices,
@@ -140,6 +142,9 @@ fn do_named<
     ensures { reaches (record { devices = D.has_way devices.now; files = F.has_way files.now }) job.now ≡ false
         → exit_status result ≡ 1 }
 {
+    if let DeviceJob::Rescue(job) = job {
+        return rescue_device(rt, alloc, devices, files, job);
+    }
     if is_new(job) {
         return do_device(rt, alloc, files, job, output);
     }
@@ -161,6 +166,7 @@ fn do_as_it_is<
         Task::Copy(job) => copy(rt, alloc, job),
         Task::Tool(job) => use_tool(rt, alloc, job, output),
         Task::Convert(job) => into_drive_file(rt, alloc, files, job, output),
+        Task::Rescue(job) => rescue_image(rt, alloc, job),
         Task::Device(job) => do_named(rt, alloc, devices, files, job, output),
     }
 }
