@@ -51,7 +51,7 @@ const RESCUE_EXAMPLE: &str = "Examples:
   zonedisk rescue --image my.drive --to new.drive --json lists.json
 
 The drive is only read. Standard error says which blocks are lost, and which may be older than they should be. The status
-is 0 only if there is none of either.";
+is 0 only if there are none.";
 
 const REPORT_EXAMPLE: &str = "Example:
   zonedisk report --image my.drive";

@@ -17,7 +17,7 @@ use crate::place::{Place, drive_path};
 use crate::raw_words::entry_words;
 use crate::refusal::refusal;
 use crate::task::Task;
-use crate::tool_words::{check_job, info_job, is_set, plan_tool, zones_form};
+use crate::tool_words::{check_job, info_job, is_missing, is_set, plan_tool, zones_form};
 use clap::{ArgMatches, Error};
 use device_jobs::ConvertJob;
 use disk_copies::{CopyJob, ExportJob, ImportJob};
@@ -406,7 +406,7 @@ fn text_if_given(
     }
 }
 
-/// The job of `rescue`.
+/// The job of `rescue`. It is not counted what is written to a new drive.
 pub fn rescue_job(
     alloc: Global,
     place: Place,
@@ -414,6 +414,9 @@ pub fn rescue_job(
 ) -> Result<RescueJob, WordFault>
     ensures { Finds (AsksForRescue place (rows_of (found_of matches.now))) result }
 {
+    if is_set(matches, "progress") && !is_missing(matches, "to") {
+        return Err(WordFault::Both("to", "progress"));
+    }
     let blocks = number_if_given(matches, "blocks")?;
     let to = text_if_given(alloc, matches, "to")?;
     let json = text_if_given(alloc, matches, "json")?;
