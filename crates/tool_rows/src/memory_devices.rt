@@ -66,7 +66,7 @@ fn with_disk(alloc: Global) -> Result<Drive, DeviceFault> {
 /// The drive of a path.
 pub fn drive_of(alloc: Global, path: &str) -> Result<Drive, DeviceFault> {
     match path {
-        "empty" => empty(alloc),
+        "empty" | "new" => empty(alloc),
         "disk" => with_disk(alloc),
         "foreign" => drive_with(alloc, ZoneState::Empty),
         "read-only" => drive_with(alloc, ZoneState::ReadOnly),
