@@ -1,7 +1,7 @@
 -- What is written before the program ends, and how it ends.
-use Rattle.std.proofs.Common.{◌≡◌, ◌≢◌, ◌⊎◌, ℕ, Bool, true, false, List, Some, None, inl, inr, refl}
+use Rattle.std.proofs.Common.{◌≡◌, ◌⊎◌, ℕ, Bool, true, false, List, inl, inr, refl}
 use Rattle.std.proofs.KnownBytes.{Appends-kept}
-use Rattle.std.specs.Prelude.{OnErr, OnOk, Option, Result, Ok, Err, String}
+use Rattle.std.specs.Prelude.{OnErr, OnOk, Option, Result, Ok, Err}
 use Rattle.std.specs.Process.{exit_status}
 use Rattle.std.specs.Io.KnownBytes.{Appends, Keeps}
 use Rattle.std.specs.declared.process.ExitCode.{ExitCode}
@@ -30,8 +30,8 @@ ends-task true ways (tasks.Convert job) ended apart ends = ends
 ends-task true ways (tasks.Rescue job) ended apart ends = tt
 
 -- a rescue whose drives cannot be reached ends with the status 1
-pub rescue-reaches : (to : Option String) (devices files : Bool) (ended : ExitCode) → (devices ≡ false → exit_status ended ≡ 1)
-    → (to ≢ None → files ≡ false → exit_status ended ≡ 1) → way_of_rescue to (record { devices = devices; files = files }) ≡ false → exit_status ended ≡ 1
-rescue-reaches None devices files ended old new none = old none
-rescue-reaches (Some path) false files ended old new none = old refl
-rescue-reaches (Some path) true files ended old new none = new (λ is. absurd (cc is)) none
+pub rescue-reaches : (makes devices files : Bool) (ended : ExitCode) → (devices ≡ false → exit_status ended ≡ 1)
+    → (makes ≡ true → files ≡ false → exit_status ended ≡ 1) → way_of_rescue makes (record { devices = devices; files = files }) ≡ false → exit_status ended ≡ 1
+rescue-reaches false devices files ended old new none = old none
+rescue-reaches true false files ended old new none = old refl
+rescue-reaches true true files ended old new none = new refl none

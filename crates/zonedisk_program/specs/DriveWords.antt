@@ -1,5 +1,5 @@
 -- The jobs whose drive is in a file, or behind a device.
-use Rattle.std.specs.Prelude.{◌≡◌, ◌&&◌, ℕ, true, false, List, [], ◌∷◌, Option, Some, None, codes, min, not, string_bytes}
+use Rattle.std.specs.Prelude.{◌≡◌, ◌&&◌, ℕ, true, false, List, [], ◌∷◌, Option, Some, None, codes, min, not, option_map, string_bytes}
 use Rattle.clap.specs.Words.{Row, Text, first_of}
 use Rattle.disk_copies.specs.declared.job.CopyJob.{CopyJob}
 use Rattle.disk_copies.specs.declared.job.CopyJob.TheVariants as copies
@@ -59,8 +59,8 @@ AsksForCopy place name rows (copies.Import job) =
 pub record AsksForRescue (place : Place) (rows : List Row) (job : RescueJob) : Type 0 where
   pub path : HasDrive place rows (string_bytes job.image)
   pub blocks : HasNumberIf rows (codes "blocks") job.blocks
-  pub to_is : HasTextIf rows (codes "to") job.to
-  pub json : HasTextIf rows (codes "json") job.json
+  pub to_is : HasTextIf rows (codes "to") (option_map string_bytes job.to)
+  pub json : HasTextIf rows (codes "json") (option_map string_bytes job.json)
   pub progress : HasFlag rows (codes "progress") job.progress
   -- it is not shown how far it is with a new drive
   pub shown : (is_set rows (codes "progress") && not (is_missing rows (codes "to"))) ≡ false

@@ -1,5 +1,5 @@
 -- How the program ends.
-use Rattle.std.specs.Prelude.{◌≡◌, ◌⊎◌, ◌&&◌, Bool, true, false, Option, Some, None, Result, Ok, Err, String, codes, ⊤}
+use Rattle.std.specs.Prelude.{◌≡◌, ◌⊎◌, ◌&&◌, Bool, true, false, Option, Some, None, Result, Ok, Err, codes, is_some, ⊤}
 use Rattle.std.specs.Io.KnownBytes.{Appends}
 use Rattle.std.specs.Process.{exit_status}
 use Rattle.zonedisk_program.specs.declared.task.Task.{Task}
@@ -38,12 +38,12 @@ way_of true ways = ways.files
 way_of false ways = ways.devices
 
 -- the same of a rescue: it opens a device, and if it makes a new drive, that one is in a file
-abbrev pub way_of_rescue : Option String → Ways → Bool
-way_of_rescue (Some path) ways = ways.devices && ways.files
-way_of_rescue None ways = ways.devices
+abbrev pub way_of_rescue : Bool → Ways → Bool
+way_of_rescue true ways = ways.devices && ways.files
+way_of_rescue false ways = ways.devices
 
 abbrev pub reaches : Ways → DeviceJob → Bool
-reaches ways (Rescue job) = way_of_rescue job.to ways
+reaches ways (Rescue job) = way_of_rescue (is_some job.to) ways
 reaches ways job = way_of (is_new job) ways
 
 -- what needs a way ends with the status 1 if there is none

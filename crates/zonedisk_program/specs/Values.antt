@@ -1,6 +1,6 @@
 -- The values that options were given.
-use Rattle.std.specs.Prelude.{◌≡◌, ◌⊎◌, ◌<◌, ◌^◌, ℕ, Bool, true, false, if◌then◌else◌, List, Option, Some, None, IfErr, IfOk, IsSomeAnd, MatchOption, String}
-use Rattle.std.specs.Prelude.{Result, codes, is_none, length, min, option_map, string_bytes}
+use Rattle.std.specs.Prelude.{◌≡◌, ◌⊎◌, ◌<◌, ◌^◌, ℕ, Bool, true, false, if◌then◌else◌, List, Option, Some, None, IfErr, IfOk, IsSomeAnd, MatchOption}
+use Rattle.std.specs.Prelude.{Result, codes, is_none, length, min}
 use Rattle.std.specs.List.{list_all}
 use Rattle.std.specs.Char.{is_ascii_digit}
 use Rattle.std.specs.Str.{bytes_eq, str_eq_ignore_ascii_case}
@@ -35,8 +35,8 @@ abbrev pub HasNumberIf : List Row → Text → Option ℕ → Type 0
 HasNumberIf rows name value = MatchOption (first_of name rows) (value ≡ None) (λ text. IsSomeAnd value (IsNumber 64 text))
 
 -- the text that an option was given, if it was given one
-abbrev pub HasTextIf : List Row → Text → Option String → Type 0
-HasTextIf rows name value = first_of name rows ≡ option_map string_bytes value
+abbrev pub HasTextIf : List Row → Text → Option Text → Type 0
+HasTextIf rows name value = first_of name rows ≡ value
 
 -- whether a flag was given
 pub record HasFlag (rows : List Row) (name : Text) (flag : Bool) : Type 0 where

@@ -1,6 +1,6 @@
 // The disk of a drive, however broken the drive is.
 
-ghost use Rattle.std.specs.Prelude.{◌≡◌, ◌≢◌, None, false};
+ghost use Rattle.std.specs.Prelude.{◌≡◌, false, is_some, true};
 ghost use Rattle.std.specs.Process.{exit_status};
 ghost use Rattle.zonedisk_program.specs.Ends.{EndsRescue};
 
@@ -131,7 +131,7 @@ pub(crate) fn rescue_device<
     F: Devices,
 >(rt: &R, alloc: Global, devices: &D, files: &F, job: &RescueJob) -> ExitCode
     ensures old { D.has_way devices.now ≡ false → exit_status result ≡ 1 }
-    ensures new { job.now.to ≢ None → F.has_way files.now ≡ false → exit_status result ≡ 1 }
+    ensures new { is_some job.now.to ≡ true → F.has_way files.now ≡ false → exit_status result ≡ 1 }
 {
     let lists = match ListFile::make(rt, job) {
         Ok(lists) => lists,

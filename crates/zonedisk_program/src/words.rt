@@ -398,7 +398,7 @@ fn text_if_given(
     matches: &ArgMatches<'_>,
     name: &str,
 ) -> Result<Option<String>, WordFault>
-    ensures { Finds (HasTextIf (rows_of (found_of matches.now)) name.now) result }
+    ensures { Finds (λ value. HasTextIf (rows_of (found_of matches.now)) name.now (option_map string_bytes value)) result }
 {
     match given(matches, name) {
         Some(text) => Ok(Some(String::from_str(alloc, text)?)),
