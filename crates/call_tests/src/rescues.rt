@@ -108,11 +108,7 @@ fn ranges(alloc: Global, pairs: &[(u32, u32)]) -> Result<Vec<BlockRange>, AllocE
 }
 
 /// What was given of a disk of five blocks.
-fn given(
-    alloc: Global,
-    lost: &[(u32, u32)],
-    older: &[(u32, u32)],
-) -> Result<Rescued, AllocError> {
+fn given(alloc: Global, lost: &[(u32, u32)], older: &[(u32, u32)]) -> Result<Rescued, AllocError> {
     Ok(Rescued {
         blocks: 5,
         lost: ranges(alloc, lost)?,
@@ -157,7 +153,10 @@ fn tells_what_is_missing(rt: HostRuntime) -> Result<(), Fail> {
     assert!(rt; !is_whole(&given(alloc, &[], &[(0, 1)])?));
     let whole = given(alloc, &[], &[])?;
     assert!(rt; is_whole(&whole));
-    assert_eq!(rt; lists_text(alloc, &whole)?.as_str(), "5 blocks were given\n");
+    assert_eq!(rt;
+        lists_text(alloc, &whole)?.as_str(),
+        "5 blocks were given\n"
+    );
     Ok(())
 }
 
@@ -246,6 +245,7 @@ const APPEND_TWO: &[u8] =
 fn append(alloc: Global, front: &[u8], bytes: &[u8]) -> Result<Vec<u8>, AllocError> {
     let mut line = Vec::from_slice(alloc, front)?;
     for byte in bytes {
+        let byte = *byte;
         let digits = format!(in alloc; "{byte:02x}")?;
         line.extend_from_slice(digits.as_bytes())?;
     }
@@ -400,7 +400,13 @@ fn replaces_no_file(rt: HostRuntime) -> Result<(), Fail> {
     let to = "zonedisk rescue --image fresh.image --blocks 2 --to kept.txt";
     assert!(rt; !ends_well(&rt, alloc, to));
     assert!(rt; fs::read(&rt, "kept.txt")?.as_slice() == b"kept");
-    assert!(rt; !ends_well(&rt, alloc, "zonedisk rescue --image kept.txt --to new.image"));
+    assert!(rt;
+        !ends_well(
+            &rt,
+            alloc,
+            "zonedisk rescue --image kept.txt --to new.image"
+        )
+    );
     assert!(rt; fs::metadata(&rt, "new.image").is_err());
     assert!(rt; !ends_well(&rt, alloc, "zonedisk rescue --device fresh.image"));
     fs::remove_file(&rt, "fresh.image")?;

@@ -432,7 +432,9 @@ fn rescue_command<'a>(alloc: Global) -> Result<Command<'a>, AllocError>
     let to = "A new drive, to which the blocks are written; nothing may be there";
     let json = "A new file for the lists of lost and older blocks, as JSON";
     Command::new(alloc, "rescue")
-        .about("Writes the disk of a drive that is broken in part to standard output, or to a new drive")
+        .about(
+            "Writes the disk of a drive that is broken in part to standard output, or to a new drive",
+        )
         .after_help(RESCUE_EXAMPLE)
         .arg(image_option(alloc))?
         .arg(device_option(alloc))?

@@ -136,7 +136,8 @@ fn is_new(job: &DeviceJob) -> bool
     matches!(job, DeviceJob::Create { .. })
 }
 
-/// Does a job on a device, or makes a new drive in a file. A rescue may do both. It ends with the status of a fault if there is no way to it.
+/// Does a job on a device, or makes a new drive in a file. A rescue may do both. It ends with the status of a fault if
+/// there is no way to it.
 fn do_named<
     R: Clock + Eprint + Files<File = fs::File> + Input + Print,
     D: Devices,
