@@ -399,7 +399,7 @@ fn replaces_no_file(rt: HostRuntime) -> Result<(), Fail> {
     assert!(rt; matches!(made, Err(RescueJobFault::Lists(_))));
     let to = "zonedisk rescue --image fresh.image --blocks 2 --to kept.txt";
     assert!(rt; !ends_well(&rt, alloc, to));
-    assert!(rt; fs::read(&rt, "kept.txt")?.as_slice() == b"kept");
+    assert_eq!(rt; fs::read(&rt, "kept.txt")?.as_slice(), b"kept".as_slice());
     assert!(rt;
         !ends_well(
             &rt,

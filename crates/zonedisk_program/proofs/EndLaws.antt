@@ -2,13 +2,12 @@
 use Rattle.std.proofs.Common.{◌≡◌, ◌⊎◌, ℕ, Bool, true, false, List, inl, inr, refl}
 use Rattle.std.proofs.KnownBytes.{Appends-kept}
 use Rattle.std.specs.Prelude.{OnErr, OnOk, Option, Result, Ok, Err}
-use Rattle.std.specs.Process.{exit_status}
 use Rattle.std.specs.Io.KnownBytes.{Appends, Keeps}
 use Rattle.std.specs.declared.process.ExitCode.{ExitCode}
 use Rattle.zonedisk_program.specs.declared.task.Task.{Task}
 use Rattle.zonedisk_program.specs.declared.task.Task.TheVariants as tasks
 use Rattle.disk_files.specs.Output.{AppendsFront}
-use Rattle.zonedisk_program.specs.Ends.{EndsAsked, EndsTask, Ways, is_device, way_of_rescue}
+use Rattle.zonedisk_program.specs.Ends.{EndsAsked, EndsTask, Ways, is_device}
 
 -- a text is written, or a beginning of it; a flush changes no bytes
 pub told : {T E : Type 0} (result : Result T E) (old middle new : Option (List ℕ)) (text : List ℕ)
@@ -28,10 +27,3 @@ ends-task true ways (tasks.Copy job) ended apart ends = tt
 ends-task true ways (tasks.Tool job) ended apart ends = tt
 ends-task true ways (tasks.Convert job) ended apart ends = ends
 ends-task true ways (tasks.Rescue job) ended apart ends = tt
-
--- a rescue whose drives cannot be reached ends with the status 1
-pub rescue-reaches : (makes devices files : Bool) (ended : ExitCode) → (devices ≡ false → exit_status ended ≡ 1)
-    → (makes ≡ true → files ≡ false → exit_status ended ≡ 1) → way_of_rescue makes (record { devices = devices; files = files }) ≡ false → exit_status ended ≡ 1
-rescue-reaches false devices files ended old new none = old none
-rescue-reaches true false files ended old new none = old refl
-rescue-reaches true true files ended old new none = new refl none
