@@ -14,6 +14,7 @@ complete -c zonedisk -n __fish_use_subcommand -a info -d 'Shows what the drive i
 complete -c zonedisk -n __fish_use_subcommand -a export -d 'Writes the logical blocks to standard output'
 complete -c zonedisk -n __fish_use_subcommand -a import -d 'Writes standard input to the logical blocks'
 complete -c zonedisk -n __fish_use_subcommand -a convert -d 'Puts a drive into a file of the other kind'
+complete -c zonedisk -n __fish_use_subcommand -a rescue -d 'Gives the disk of a drive that is broken in part'
 complete -c zonedisk -n __fish_use_subcommand -a nvme -d 'Submits the raw entries on standard input'
 complete -c zonedisk -n __fish_use_subcommand -a entry -d 'Shows the raw line of one NVMe command'
 complete -c zonedisk -n __fish_use_subcommand -a fresh -d 'Answers a trace over a fresh drive in memory'
@@ -21,9 +22,9 @@ complete -c zonedisk -n __fish_use_subcommand -a fresh-raw -d 'Submits raw entri
 complete -c zonedisk -n __fish_use_subcommand -a help -d 'Shows the options of a subcommand'
 
 # The file of a drive, and its disk.
-complete -c zonedisk -n '__fish_seen_subcommand_from format run nbd report check plan info export import convert nvme' -l image -r -F -d 'The file with the drive or its image'
-complete -c zonedisk -n '__fish_seen_subcommand_from format run nbd report check info export import nvme' -l device -r -F -d 'A real drive, by its character device'
-complete -c zonedisk -n '__fish_seen_subcommand_from run nbd check plan import fresh' -l blocks -x -d 'Logical blocks'
+complete -c zonedisk -n '__fish_seen_subcommand_from format run nbd report check plan info export import convert rescue nvme' -l image -r -F -d 'The file with the drive or its image'
+complete -c zonedisk -n '__fish_seen_subcommand_from format run nbd report check info export import rescue nvme' -l device -r -F -d 'A real drive, by its character device'
+complete -c zonedisk -n '__fish_seen_subcommand_from run nbd check plan import rescue fresh' -l blocks -x -d 'Logical blocks'
 complete -c zonedisk -n '__fish_seen_subcommand_from format' -l force -d 'Replaces a file that is no image'
 complete -c zonedisk -n '__fish_seen_subcommand_from format' -l in-place -d 'Makes a new drive that stays in its file'
 
@@ -67,7 +68,9 @@ complete -c zonedisk -n '__fish_seen_subcommand_from export import' -l first -x 
 complete -c zonedisk -n '__fish_seen_subcommand_from export' -l count -x -d 'How many logical blocks'
 complete -c zonedisk -n '__fish_seen_subcommand_from import' -l sparse -d 'Trims blocks that are all zeros'
 complete -c zonedisk -n '__fish_seen_subcommand_from convert' -l to -r -F -d 'The new file'
-complete -c zonedisk -n '__fish_seen_subcommand_from run export import' -l progress -d 'Says how far it is'
+complete -c zonedisk -n '__fish_seen_subcommand_from rescue' -l to -r -F -d 'A new drive for the blocks'
+complete -c zonedisk -n '__fish_seen_subcommand_from rescue' -l json -r -F -d 'A new file for the lists'
+complete -c zonedisk -n '__fish_seen_subcommand_from run export import rescue' -l progress -d 'Says how far it is'
 
 # Entries.
 complete -c zonedisk -n '__fish_seen_subcommand_from entry' -a 'append read write flush close finish open reset offline report'

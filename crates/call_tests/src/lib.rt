@@ -45,6 +45,8 @@ mod places;
 #[cfg(test)]
 mod reads_ahead;
 #[cfg(test)]
+mod rescues;
+#[cfg(test)]
 mod runs;
 #[cfg(test)]
 mod shown_zones;

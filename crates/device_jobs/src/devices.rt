@@ -5,6 +5,7 @@ ghost use Rattle.device_jobs.specs.Ways.{HasNoWay};
 
 use crate::fault::DeviceFault;
 use drive_port::{Device, Honest};
+use drive_rescue::Source;
 use nbd_session::Medium;
 use std::alloc::Global;
 use thiserror::Error;
@@ -72,6 +73,9 @@ pub trait Devices {
     /// The drive of a device that is only read.
     type Reader: Device + Honest + Drop;
 
+    /// A device of which a rescue reads what can be read.
+    type Source: Source + Drop;
+
     /// The drive of a device to which entries are sent as they are.
     type Raw: RawDrive + Drop;
 
@@ -96,6 +100,11 @@ pub trait Devices {
         path: &str,
         habit: Habit,
     ) -> Result<Self::Reader, DeviceFault>
+        ensures { has_way self.now ≡ false → HasNoWay result };
+
+    /// Opens the device of this path as a source of a rescue. It is only read, and a block that cannot be read is told as
+    /// such where the way can tell it.
+    fn open_source(&self, alloc: Global, path: &str) -> Result<Self::Source, DeviceFault>
         ensures { has_way self.now ≡ false → HasNoWay result };
 
     /// Opens the device of this path to send entries to it as they are. The habit is that of [`Devices::open`].

@@ -3,6 +3,7 @@ use disk_runs::Taking;
 use job_drives::Stop;
 use nbd_jobs::NbdJob;
 use nvme_wire::ZoneState;
+use rescue_jobs::RescueJob;
 use tool_jobs::{CheckJob, InfoJob, PlanForm, ZonesJob};
 use write_plan::Aim;
 use zone_drive::Habit;
@@ -82,6 +83,8 @@ pub enum DeviceJob {
     },
     /// Copies blocks out of the drive, or into it.
     Copy(CopyJob),
+    /// Gives the disk of a drive, however broken it is. The drive is only read.
+    Rescue(RescueJob),
 }
 
 impl DeviceJob {
@@ -99,6 +102,7 @@ impl DeviceJob {
             DeviceJob::Info(job) => job.image.as_str(),
             DeviceJob::Zones(job) => job.image.as_str(),
             DeviceJob::Copy(job) => job.image(),
+            DeviceJob::Rescue(job) => job.image.as_str(),
         }
     }
 }

@@ -2,6 +2,7 @@
 
 use crate::devices::{Devices, OpenDevice, RawDrive, RawFault};
 use crate::fault::DeviceFault;
+use drive_rescue::DeviceSource;
 use nbd_session::WriteThrough;
 use std::alloc::Global;
 use zone_drive::{Drive, Habit};
@@ -36,6 +37,8 @@ impl Devices for NoDevices {
 
     type Reader = Drive;
 
+    type Source = DeviceSource<Drive>;
+
     type Raw = NoRawDrive;
 
     ghost has_way = { λ _. false };
@@ -55,6 +58,10 @@ impl Devices for NoDevices {
         _path: &str,
         _habit: Habit,
     ) -> Result<Drive, DeviceFault> {
+        Err(DeviceFault::NoWay)
+    }
+
+    fn open_source(&self, _alloc: Global, _path: &str) -> Result<DeviceSource<Drive>, DeviceFault> {
         Err(DeviceFault::NoWay)
     }
 

@@ -9,6 +9,7 @@ use disk_files::LineReader;
 use disk_jobs::{Habit, Stop};
 use disk_runs::Taking;
 use drive_port::{Device, Geometry, Halt};
+use drive_rescue::DeviceSource;
 use nbd_session::WriteThrough;
 use std::alloc::{AllocError, Global};
 use zone_drive::Drive;
@@ -65,7 +66,7 @@ fn with_disk(alloc: Global) -> Result<Drive, DeviceFault> {
 /// The drive of a path.
 pub fn drive_of(alloc: Global, path: &str) -> Result<Drive, DeviceFault> {
     match path {
-        "empty" => empty(alloc),
+        "empty" | "new" => empty(alloc),
         "disk" => with_disk(alloc),
         "foreign" => drive_with(alloc, ZoneState::Empty),
         "read-only" => drive_with(alloc, ZoneState::ReadOnly),
@@ -124,6 +125,8 @@ impl Devices for MemoryDevices {
 
     type Reader = Drive;
 
+    type Source = DeviceSource<Drive>;
+
     type Raw = RawMemory;
 
     ghost has_way = { λ _. true };
@@ -148,6 +151,10 @@ impl Devices for MemoryDevices {
         let mut drive = drive_of(alloc, path)?;
         drive.set_habit(habit);
         Ok(drive)
+    }
+
+    fn open_source(&self, alloc: Global, path: &str) -> Result<DeviceSource<Drive>, DeviceFault> {
+        Ok(DeviceSource::new(drive_of(alloc, path)?))
     }
 
     fn open_raw(&self, alloc: Global, path: &str, habit: Habit) -> Result<RawMemory, DeviceFault> {

@@ -9,6 +9,7 @@ use disk_files::LineReader;
 use disk_jobs::Habit;
 use nbd_jobs::{NbdJob, failed_note, forgotten_note};
 use nbd_session::WriteThrough;
+use rescue_jobs::{RescueJob, lists_text, rescue_to_output};
 use std::alloc::Global;
 use std::test::Fail;
 
@@ -75,6 +76,20 @@ fn show_exported<R: Print>(rt: &R, alloc: Global, job: &ExportJob) -> Result<(),
     Ok(())
 }
 
+/// Rescues the disk of a drive.
+fn show_rescued<R: Print>(rt: &R, alloc: Global, job: &RescueJob) -> Result<(), Fail> {
+    let mut written = Vec::new(alloc);
+    let mut source = MemoryDevices.open_source(alloc, &job.image)?;
+    let rescued = rescue_to_output(alloc, job, &mut source, &mut written);
+    let first = written.first().copied();
+    println!(rt; "{} bytes, the first {first:?}", written.len())?;
+    match rescued {
+        Ok(rescued) => print!(rt; "{}", lists_text(alloc, &rescued)?)?,
+        Err(fault) => println!(rt; "{fault:?}")?,
+    }
+    Ok(())
+}
+
 /// Imports blocks.
 fn show_imported<R: Print>(
     rt: &R,
@@ -101,6 +116,7 @@ pub fn show_streams<R: Print>(
         DeviceJob::Nbd(job) => show_served(rt, alloc, job, lines)?,
         DeviceJob::Copy(CopyJob::Export(job)) => show_exported(rt, alloc, job)?,
         DeviceJob::Copy(CopyJob::Import(job)) => show_imported(rt, alloc, job, lines)?,
+        DeviceJob::Rescue(job) if job.to.is_none() => show_rescued(rt, alloc, job)?,
         _ => return Ok(false),
     }
     Ok(true)

@@ -26,3 +26,4 @@ ends-task true ways (tasks.Nbd job) ended apart ends = tt
 ends-task true ways (tasks.Copy job) ended apart ends = tt
 ends-task true ways (tasks.Tool job) ended apart ends = tt
 ends-task true ways (tasks.Convert job) ended apart ends = ends
+ends-task true ways (tasks.Rescue job) ended apart ends = tt

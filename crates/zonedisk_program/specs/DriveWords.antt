@@ -1,5 +1,5 @@
 -- The jobs whose drive is in a file, or behind a device.
-use Rattle.std.specs.Prelude.{◌≡◌, ◌&&◌, ℕ, true, false, List, [], ◌∷◌, Option, Some, None, codes, min, string_bytes}
+use Rattle.std.specs.Prelude.{◌≡◌, ◌&&◌, ℕ, true, false, List, [], ◌∷◌, Option, Some, None, codes, min, not, option_map, string_bytes}
 use Rattle.clap.specs.Words.{Row, Text, first_of}
 use Rattle.disk_copies.specs.declared.job.CopyJob.{CopyJob}
 use Rattle.disk_copies.specs.declared.job.CopyJob.TheVariants as copies
@@ -7,8 +7,9 @@ use Rattle.device_jobs.specs.declared.job.ConvertJob.{ConvertJob}
 use Rattle.nbd_jobs.specs.declared.job.Fail.{Fail}
 use Rattle.nbd_jobs.specs.declared.job.Forget.{Forget}
 use Rattle.nbd_jobs.specs.declared.job.NbdJob.{NbdJob}
+use Rattle.rescue_jobs.specs.declared.job.RescueJob.{RescueJob}
 use Rattle.zonedisk_program.specs.declared.place.Place.{Place}
-use Rattle.zonedisk_program.specs.Values.{HasDrive, HasFlag, HasHabit, HasImage, HasNumber, HasNumberIf, HasNumberOr, HasStop, is_set, lacks_all}
+use Rattle.zonedisk_program.specs.Values.{HasDrive, HasFlag, HasHabit, HasImage, HasNumber, HasNumberIf, HasNumberOr, HasStop, HasTextIf, is_missing, is_set, lacks_all}
 
 -- How a disk forgets that is not read only. More than 100 of 100 blocks are not lost.
 pub record HasForgetting (rows : List Row) (forget : Forget) : Type 0 where
@@ -53,6 +54,16 @@ AsksForCopy place name rows (copies.Export job) =
 AsksForCopy place name rows (copies.Import job) =
     (name ≡ codes "import") × HasDrive place rows (string_bytes job.image) × HasNumberIf rows (codes "blocks") job.blocks
     × HasNumberOr 0 rows (codes "first") job.first × HasFlag rows (codes "sparse") job.sparse × HasFlag rows (codes "progress") job.progress
+
+-- what a rescue holds is what its options were given
+pub record AsksForRescue (place : Place) (rows : List Row) (job : RescueJob) : Type 0 where
+  pub path : HasDrive place rows (string_bytes job.image)
+  pub blocks : HasNumberIf rows (codes "blocks") job.blocks
+  pub to_is : HasTextIf rows (codes "to") (option_map string_bytes job.to)
+  pub json : HasTextIf rows (codes "json") (option_map string_bytes job.json)
+  pub progress : HasFlag rows (codes "progress") job.progress
+  -- it is not shown how far it is with a new drive
+  pub shown : (is_set rows (codes "progress") && not (is_missing rows (codes "to"))) ≡ false
 
 -- A drive is put into another file, whose path is given too.
 pub record AsksForConvert (rows : List Row) (job : ConvertJob) : Type 0 where

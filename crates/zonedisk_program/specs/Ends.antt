@@ -1,5 +1,5 @@
 -- How the program ends.
-use Rattle.std.specs.Prelude.{◌≡◌, ◌⊎◌, Bool, true, false, Option, Some, None, Result, Ok, codes, ⊤}
+use Rattle.std.specs.Prelude.{◌≡◌, ◌⊎◌, ◌&&◌, Bool, true, false, Option, Some, None, Result, Ok, Err, codes, is_some, ⊤}
 use Rattle.std.specs.Io.KnownBytes.{Appends}
 use Rattle.std.specs.Process.{exit_status}
 use Rattle.zonedisk_program.specs.declared.task.Task.{Task}
@@ -10,7 +10,10 @@ use Rattle.nbd_jobs.specs.declared.fault.NbdFault.{NbdFault}
 use Rattle.job_drives.specs.declared.new_file.Saved.{Saved}
 use Rattle.device_jobs.specs.declared.hardening.HardenFault.{HardenFault}
 use Rattle.device_jobs.specs.declared.job.DeviceJob.{DeviceJob}
-use Rattle.device_jobs.specs.declared.job.DeviceJob.TheVariants.{Create}
+use Rattle.device_jobs.specs.declared.job.DeviceJob.TheVariants.{Create, Rescue}
+use Rattle.drive_rescue.specs.declared.giving.Rescued.{Rescued}
+use Rattle.rescue_jobs.specs.Jobs.{is_whole}
+use Rattle.rescue_jobs.specs.declared.fault.RescueJobFault.{RescueJobFault}
 use Rattle.std.specs.declared.process.ExitCode.{ExitCode}
 use Rattle.zonedisk_program.specs.InPlace.{counterpart}
 
@@ -34,7 +37,13 @@ abbrev pub way_of : Bool → Ways → Bool
 way_of true ways = ways.files
 way_of false ways = ways.devices
 
+-- the same of a rescue: it opens a device, and if it makes a new drive, that one is in a file
+abbrev pub way_of_rescue : Bool → Ways → Bool
+way_of_rescue true ways = ways.devices && ways.files
+way_of_rescue false ways = ways.devices
+
 abbrev pub reaches : Ways → DeviceJob → Bool
+reaches ways (Rescue job) = way_of_rescue (is_some job.to) ways
 reaches ways job = way_of (is_new job) ways
 
 -- what needs a way ends with the status 1 if there is none
@@ -81,3 +90,8 @@ EndsServed told stopped hardened ended = exit_status ended ≡ 1
 abbrev pub EndsSaved : Result (Unit {0}) NbdFault → Result Saved NbdFault → ExitCode → Type 0
 EndsSaved (Ok done) (Ok saved) ended = ⊤
 EndsSaved told saved ended = exit_status ended ≡ 1
+
+-- A rescue ends with the status 1 if it ended by a fault, or if something of the disk is missing.
+abbrev pub EndsRescue : Result Rescued RescueJobFault → ExitCode → Type 0
+EndsRescue (Ok rescued) ended = is_whole rescued ≡ false → exit_status ended ≡ 1
+EndsRescue (Err fault) ended = exit_status ended ≡ 1

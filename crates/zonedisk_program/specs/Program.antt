@@ -144,6 +144,10 @@ import_words = with_options (codes "import")
 abbrev pub convert_words : Shape
 convert_words = with_options (codes "convert") (valued (codes "image") ∷ valued (codes "to") ∷ [])
 
+abbrev pub rescue_words : Shape
+rescue_words = with_options (codes "rescue")
+    (image ∷ device ∷ optional blocks ∷ optional (valued (codes "to")) ∷ optional (valued (codes "json")) ∷ flag (codes "progress") ∷ [])
+
 abbrev pub fresh_words : Bor (List (Bor Text)) → Shape
 fresh_words names = with_options (codes "fresh") (parts true ++ blocks ∷ flag (codes "report") ∷ flag (codes "statistics") ∷ habit names ∷ stops)
 
@@ -154,8 +158,8 @@ fresh_raw names = with_options (codes "fresh-raw") (parts true ++ habit names �
 abbrev pub program : Bor (List (Bor Text)) → App
 program names = record {
   top = record (new_shape (codes "zonedisk")) { is_leaf = false; has_version = true; subcommand_required = true };
-  subs = format ∷ run names ∷ nbd names ∷ export_words ∷ import_words ∷ convert_words ∷ report_words ∷ check_words ∷ info_words ∷ plan_words ∷ nvme names
-      ∷ entry ∷ fresh_words names ∷ fresh_raw names ∷ [];
+  subs = format ∷ run names ∷ nbd names ∷ export_words ∷ import_words ∷ convert_words ∷ rescue_words ∷ report_words ∷ check_words ∷ info_words
+      ∷ plan_words ∷ nvme names ∷ entry ∷ fresh_words names ∷ fresh_raw names ∷ [];
 }
 
 -- these options are added to a command, none of which its subcommands inherit

@@ -34,6 +34,10 @@ HasNumberOr missing rows name n = MatchOption (first_of name rows) (n ≡ missin
 abbrev pub HasNumberIf : List Row → Text → Option ℕ → Type 0
 HasNumberIf rows name value = MatchOption (first_of name rows) (value ≡ None) (λ text. IsSomeAnd value (IsNumber 64 text))
 
+-- the text that an option was given, if it was given one
+abbrev pub HasTextIf : List Row → Text → Option Text → Type 0
+HasTextIf rows name value = first_of name rows ≡ value
+
 -- whether a flag was given
 pub record HasFlag (rows : List Row) (name : Text) (flag : Bool) : Type 0 where
   pub given : one_of name rows ≡ Some (codes "true") → flag ≡ true

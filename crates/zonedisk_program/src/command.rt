@@ -4,8 +4,8 @@ ghost use Rattle.zonedisk_program.specs.Program.{AddsOptions, AddsSubcommand, Is
 ghost use Rattle.zonedisk_program.specs.Program.{blocks, check_words, convert_words, device, entry, entry_numbers, export_words, flag};
 ghost use Rattle.zonedisk_program.specs.Program.{fails, forgets, format, fresh_raw, fresh_words, given_first, habit, image};
 ghost use Rattle.zonedisk_program.specs.Program.{import_words, info_words, limits, nbd, number, nvme, optional};
-ghost use Rattle.zonedisk_program.specs.Program.{part, parts, percent, plan_words, program, report_words, run, shape, stops};
-ghost use Rattle.zonedisk_program.specs.Program.{valued};
+ghost use Rattle.zonedisk_program.specs.Program.{part, parts, percent, plan_words, program, report_words, rescue_words, run};
+ghost use Rattle.zonedisk_program.specs.Program.{shape, stops, valued};
 
 use clap::builder::ValueParser;
 use clap::{Arg, ArgAction, Command, value_parser};
@@ -45,6 +45,13 @@ const CONVERT_EXAMPLE: &str = "Example:
   zonedisk convert --image my.image --to my.drive
 
 A drive of an image is put into a new file in which it stays, and one that stays in its file into a new image.";
+
+const RESCUE_EXAMPLE: &str = "Examples:
+  zonedisk rescue --image my.drive > my.blocks
+  zonedisk rescue --image my.drive --to new.drive --json lists.json
+
+The drive is only read. Standard error says which blocks are lost, and which may be older than they should be. The status
+is 0 only if there are none.";
 
 const REPORT_EXAMPLE: &str = "Example:
   zonedisk report --image my.drive";
@@ -418,6 +425,25 @@ fn convert_command<'a>(alloc: Global) -> Result<Command<'a>, AllocError>
         .arg(needed_option(alloc, "to", "Q", to))
 }
 
+fn rescue_command<'a>(alloc: Global) -> Result<Command<'a>, AllocError>
+    ensures { IfOk result (λ new. IsCommand rescue_words new) }
+{
+    let blocks = "Logical blocks, if no header that is found says how many";
+    let to = "A new drive, to which the blocks are written; nothing may be there";
+    let json = "A new file for the lists of lost and older blocks, as JSON";
+    Command::new(alloc, "rescue")
+        .about(
+            "Writes the disk of a drive that is broken in part to standard output, or to a new drive",
+        )
+        .after_help(RESCUE_EXAMPLE)
+        .arg(image_option(alloc))?
+        .arg(device_option(alloc))?
+        .arg(count_option(alloc, "blocks", "N", blocks))?
+        .arg(text_option(alloc, "to", "Q", to))?
+        .arg(text_option(alloc, "json", "F", json))?
+        .arg(flag(alloc, "progress", PROGRESS_HELP))
+}
+
 fn report_command<'a>(alloc: Global) -> Result<Command<'a>, AllocError>
     ensures { IfOk result (λ new. IsCommand report_words new) }
 {
@@ -612,6 +638,7 @@ pub fn program<'a>(alloc: Global, habits: &'a [&'a str]) -> Result<Command<'a>, 
     let command = with_subcommand(command, export_command(alloc))?;
     let command = with_subcommand(command, import_command(alloc))?;
     let command = with_subcommand(command, convert_command(alloc))?;
+    let command = with_subcommand(command, rescue_command(alloc))?;
     let command = with_subcommand(command, report_command(alloc))?;
     let command = with_subcommand(command, check_command(alloc))?;
     let command = with_subcommand(command, info_command(alloc))?;
@@ -635,6 +662,7 @@ pub fn subcommand_named<'a>(
         "export" => export_command(alloc)?,
         "import" => import_command(alloc)?,
         "convert" => convert_command(alloc)?,
+        "rescue" => rescue_command(alloc)?,
         "report" => report_command(alloc)?,
         "check" => check_command(alloc)?,
         "info" => info_command(alloc)?,

@@ -120,6 +120,7 @@ pub fn in_place(task: Task) -> Result<DeviceJob, Task>
         Task::Nbd(job) => Ok(DeviceJob::Nbd(job)),
         Task::Copy(job) => Ok(DeviceJob::Copy(job)),
         Task::Tool(job) => tool_in_place(job),
+        Task::Rescue(job) => Ok(DeviceJob::Rescue(job)),
         Task::Convert(job) => Err(Task::Convert(job)),
         Task::Device(job) => Err(Task::Device(job)),
     }

@@ -7,6 +7,7 @@ ghost use Rattle.disk_files.specs.Output.{AppendsFront};
 ghost use Rattle.zonedisk_program.specs.Ends.{EndsLines, EndsServed};
 
 use crate::files::{counted, fail, tell_imported, tell_session, tell_size, tell_terminal};
+use crate::rescuing::rescue_device;
 use device_jobs::{
     DeviceFault, DeviceJob, DeviceRun, Devices, FormatFault, NamedDrive, OpenDevice, SendFault,
     Served, answer_report, check_device, explain_run, explain_sent, export_device, format_device,
@@ -69,7 +70,7 @@ fn tell_unsynced<R: Eprint>(rt: &R, path: &str) {
 }
 
 /// Makes durable what a drive has completed. People are told if that fails.
-fn is_synced<R: Eprint, D: Device, M: Medium>(
+pub(crate) fn is_synced<R: Eprint, D: Device, M: Medium>(
     rt: &R,
     alloc: Global,
     path: &str,
@@ -625,5 +626,6 @@ pub fn do_device<R: Clock + Eprint + Files<File = fs::File> + Input + Print, D: 
             do_plan(rt, alloc, devices, device, *aim, *form, output)
         }
         DeviceJob::Copy(job) => do_copy(rt, alloc, devices, job),
+        DeviceJob::Rescue(job) => rescue_device(rt, alloc, devices, devices, job),
     }
 }

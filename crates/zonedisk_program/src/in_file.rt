@@ -23,6 +23,7 @@ fn image_of(task: &Task) -> Option<&str> {
         Task::Copy(job) => Some(job.image()),
         Task::Tool(job) => job.image(),
         Task::Convert(job) => Some(job.image.as_str()),
+        Task::Rescue(job) => Some(job.image.as_str()),
         Task::Device(_) => None,
     }
 }

@@ -9,9 +9,10 @@
 //!
 //! [`run_program`] is the whole program over any two ways: one to devices, and one to drives that stay in their files.
 //! So programs with different ways share all else. [`task_of`] reads the words of the command line, and each job is
-//! done by its crate: [`do_job`], [`do_nbd_job`], [`do_export`], [`do_import`] and [`do_tool_job`] on the drive whose
-//! image is in a file, and those of `device_jobs` on the drive of a device. What people are told goes to standard
-//! error: what a fault is, what a status means with `nvme --explain`, and what to know of the size of a disk.
+//! done by its crate: [`do_job`], [`do_nbd_job`], [`do_export`], [`do_import`], [`do_tool_job`] and `do_rescue` on the
+//! drive whose image is in a file, and those of `device_jobs` on the drive of a device. What people are told goes to
+//! standard error: what a fault is, what a status means with `nvme --explain`, what to know of the size of a disk, and
+//! what is missing of a rescued one.
 //!
 //! A file that is named by `--image` may hold a drive that stays in it. The first bytes of the file say so. Then the
 //! task becomes a job on a device with that path ([`in_place`]), and the second way opens it. A drive is put into a
@@ -29,14 +30,15 @@
 //! * A new drive that stays in its file is asked for by `format --in-place`, with a shape. Then no device is named,
 //!   and nothing is forced (`AsksForNew`).
 //! * A drive is put into another file by `convert`, with both paths (`AsksForConvert`).
+//! * A rescue has the paths and the number that its options were given (`AsksForRescue`).
 //! * Words are refused only where clap refuses them, where they ask for no task in this sense, or where memory runs
 //!   out (`IsAnswerTo`).
 //!
 //! Of the task:
 //!
 //! * [`do_device`] ends each job on a device with the exit status 1 if there is no way to any. So does the program
-//!   with each task that is such a job, or becomes one, and with a `convert` without a way to drives that stay in
-//!   their files.
+//!   with each task that is such a job, or becomes one. Without a way to drives that stay in their files so do a
+//!   `convert`, and a rescue of a device to a new drive.
 //! * [`in_place`] says which job on a drive that stays in its file a task on the image in that file stands for
 //!   (`specs/InPlace.antt`). One that stands for none is refused with the exit status 1.
 //!
@@ -44,6 +46,8 @@
 //!
 //! * A session ends with the exit status 1 if it ended by a fault, if its drive had stopped by itself, or if what it
 //!   did may not be durable or is not saved (`EndsServed`, `EndsSaved` in `specs/Ends.antt`).
+//! * A rescue ends with the exit status 1 if it ended by a fault, or if a block is lost or perhaps older
+//!   (`EndsRescue`).
 //! * A run on a device, and a format of one, end with the line of a device and the exit status 1 if only the sync at
 //!   their end failed (`EndsLines`).
 //!
@@ -75,6 +79,7 @@ mod in_file;
 mod place;
 mod raw_words;
 mod refusal;
+mod rescuing;
 mod task;
 mod tool_words;
 mod words;
@@ -84,6 +89,7 @@ pub use crate::counterpart::in_place;
 pub use crate::devices::do_device;
 use crate::files::{copy, do_lines, do_nbd, fail, use_tool};
 use crate::in_file::{begins_in_place, refuse_in_place};
+use crate::rescuing::{rescue_device, rescue_image};
 pub use crate::task::Task;
 pub use crate::words::task_of;
 use clap::error::ErrorKind;
@@ -130,7 +136,8 @@ fn is_new(job: &DeviceJob) -> bool
     matches!(job, DeviceJob::Create { .. })
 }
 
-/// Does a job on a device, or makes a new drive in a file. It ends with the status of a fault if there is no way to it.
+/// Does a job on a device, or makes a new drive in a file. A rescue may do both. It ends with the status of a fault if
+/// there is no way to it.
 fn do_named<
     R: Clock + Eprint + Files<File = fs::File> + Input + Print,
     D: Devices,
@@ -140,6 +147,9 @@ fn do_named<
     ensures { reaches (record { devices = D.has_way devices.now; files = F.has_way files.now }) job.now ≡ false
         → exit_status result ≡ 1 }
 {
+    if let DeviceJob::Rescue(job) = job {
+        return rescue_device(rt, alloc, devices, files, job);
+    }
     if is_new(job) {
         return do_device(rt, alloc, files, job, output);
     }
@@ -161,6 +171,7 @@ fn do_as_it_is<
         Task::Copy(job) => copy(rt, alloc, job),
         Task::Tool(job) => use_tool(rt, alloc, job, output),
         Task::Convert(job) => into_drive_file(rt, alloc, files, job, output),
+        Task::Rescue(job) => rescue_image(rt, alloc, job),
         Task::Device(job) => do_named(rt, alloc, devices, files, job, output),
     }
 }

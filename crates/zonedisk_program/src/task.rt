@@ -2,6 +2,7 @@ use device_jobs::{ConvertJob, DeviceJob};
 use disk_copies::CopyJob;
 use disk_jobs::Job;
 use nbd_jobs::NbdJob;
+use rescue_jobs::RescueJob;
 use tool_jobs::ToolJob;
 
 /// What the words of a command line ask for.
@@ -17,6 +18,8 @@ pub enum Task {
     Tool(ToolJob),
     /// A drive that is put into a file of the other kind.
     Convert(ConvertJob),
+    /// The disk of a drive, however broken the drive is.
+    Rescue(RescueJob),
     /// A job on the drive of a device, and not on one in a file. Or a new drive is made that stays in its file.
     Device(DeviceJob),
 }

@@ -31,7 +31,7 @@ pub fn is_set(matches: &ArgMatches<'_>, name: &str) -> bool
 }
 
 /// Whether an option was not given.
-fn is_missing(matches: &ArgMatches<'_>, name: &str) -> bool
+pub fn is_missing(matches: &ArgMatches<'_>, name: &str) -> bool
     ensures { result ≡ is_missing (rows_of (found_of matches.now)) name.now }
 {
     given(matches, name).is_none()

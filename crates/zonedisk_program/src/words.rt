@@ -3,8 +3,9 @@ ghost use Rattle.std.specs.List.{list_all};
 ghost use Rattle.std.specs.Char.{is_ascii_digit};
 ghost use Rattle.clap.specs.Words.{first_of, found_of, rows_of, subcommand_rows_of};
 ghost use Rattle.zonedisk_program.specs.Values.{Finds, HasFlag, HasGeometry, HasHabit, HasImage, HasNumber};
-ghost use Rattle.zonedisk_program.specs.Values.{HasNumberIf, HasNumberOr, HasStop, IsNumber, is_set, named_habit};
-ghost use Rattle.zonedisk_program.specs.DriveWords.{AsksForConvert, AsksForCopy, AsksForNbd};
+ghost use Rattle.zonedisk_program.specs.Values.{HasNumberIf, HasNumberOr, HasStop, HasTextIf, IsNumber, is_set};
+ghost use Rattle.zonedisk_program.specs.Values.{named_habit};
+ghost use Rattle.zonedisk_program.specs.DriveWords.{AsksForConvert, AsksForCopy, AsksForNbd, AsksForRescue};
 ghost use Rattle.zonedisk_program.specs.Words.{AsksFor, AsksForFile, AsksForJob, IsAnswerTo};
 ghost use Rattle.zonedisk_program.specs.declared.words.WordFault.TheVariants.{Memory};
 
@@ -16,12 +17,13 @@ use crate::place::{Place, drive_path};
 use crate::raw_words::entry_words;
 use crate::refusal::refusal;
 use crate::task::Task;
-use crate::tool_words::{check_job, info_job, is_set, plan_tool, zones_form};
+use crate::tool_words::{check_job, info_job, is_missing, is_set, plan_tool, zones_form};
 use clap::{ArgMatches, Error};
 use device_jobs::ConvertJob;
 use disk_copies::{CopyJob, ExportJob, ImportJob};
 use disk_jobs::{Habit, Job, Stop};
 use nbd_jobs::NbdJob;
+use rescue_jobs::RescueJob;
 use std::alloc::{AllocError, Global};
 use tool_jobs::{ToolJob, ZonesJob};
 use zone_states::Geometry;
@@ -390,6 +392,43 @@ fn convert_job(alloc: Global, matches: &ArgMatches<'_>) -> Result<ConvertJob, Wo
     })
 }
 
+/// The text that an option was given, if it was given one.
+fn text_if_given(
+    alloc: Global,
+    matches: &ArgMatches<'_>,
+    name: &str,
+) -> Result<Option<String>, WordFault>
+    ensures { Finds (λ value. HasTextIf (rows_of (found_of matches.now)) name.now (option_map string_bytes value)) result }
+{
+    match given(matches, name) {
+        Some(text) => Ok(Some(String::from_str(alloc, text)?)),
+        None => Ok(None),
+    }
+}
+
+/// The job of `rescue`. It is not counted what is written to a new drive.
+pub fn rescue_job(
+    alloc: Global,
+    place: Place,
+    matches: &ArgMatches<'_>,
+) -> Result<RescueJob, WordFault>
+    ensures { Finds (AsksForRescue place (rows_of (found_of matches.now))) result }
+{
+    if is_set(matches, "progress") && !is_missing(matches, "to") {
+        return Err(WordFault::Both("to", "progress"));
+    }
+    let blocks = number_if_given(matches, "blocks")?;
+    let to = text_if_given(alloc, matches, "to")?;
+    let json = text_if_given(alloc, matches, "json")?;
+    Ok(RescueJob {
+        image: drive_path(alloc, place, matches)?,
+        blocks,
+        to,
+        json,
+        progress: has_flag(matches, "progress"),
+    })
+}
+
 /// What a subcommand asks for without a device.
 fn file_task(alloc: Global, name: &str, matches: &ArgMatches<'_>) -> Result<Task, WordFault>
     ensures { Finds (AsksForFile name.now (rows_of (found_of matches.now))) result }
@@ -403,6 +442,7 @@ fn file_task(alloc: Global, name: &str, matches: &ArgMatches<'_>) -> Result<Task
         "info" => Ok(Task::Tool(ToolJob::Info(info_job(alloc, place, matches)?))),
         "plan" => Ok(Task::Tool(plan_tool(alloc, matches)?)),
         "convert" => Ok(Task::Convert(convert_job(alloc, matches)?)),
+        "rescue" => Ok(Task::Rescue(rescue_job(alloc, place, matches)?)),
         "report" => report_task(alloc, matches),
         "format" => format_task(alloc, matches),
         "entry" => Ok(Task::Tool(ToolJob::Entry(entry_words(alloc, matches)?))),
