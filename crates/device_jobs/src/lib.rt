@@ -79,7 +79,7 @@ pub use formatting::format_device;
 pub use hardening::{HardenFault, harden};
 pub use job::{ConvertJob, DeviceJob, DeviceRun};
 pub use looking::{check_device, inform_device, plan_device};
-pub use no_devices::{NoDevices, NoRawDrive};
+pub use no_devices::{NoDevices, NoRawDrive, NoSource};
 pub use raw::{SendFault, send_lines};
 pub use reporting::answer_report;
 pub use running::{run_device, run_fault};

@@ -2,7 +2,9 @@
 
 use crate::devices::{Devices, OpenDevice, RawDrive, RawFault};
 use crate::fault::DeviceFault;
-use drive_rescue::DeviceSource;
+use drive_port::{Device, Halt};
+use drive_rescue::{Reading, Source};
+use drive_survey::ReportedZone;
 use nbd_session::WriteThrough;
 use std::alloc::Global;
 use zone_drive::{Drive, Habit};
@@ -27,6 +29,32 @@ impl RawDrive for NoRawDrive {
     }
 }
 
+/// A drive of which nothing is read. None is ever opened.
+#[derive(Drop)]
+pub struct NoSource {
+    drive: Drive,
+}
+
+impl Source for NoSource {
+    ghost use Rattle.drive_rescue.specs.Sources.{undamaged};
+
+    ghost view = { λ s. undamaged (⟦<Drive as Device>⟧.drive s.drive) };
+
+    fn geometry(&self) -> Geometry {
+        self.drive.geometry()
+    }
+
+    fn report(&mut self, _alloc: Global) -> Result<Vec<ReportedZone>, Halt> {
+        Err(Halt::Stopped)
+    }
+
+    fn read(&mut self, _number: u32, _offset: u32, _into: &mut Vec<u8>) -> Result<Reading, Halt> {
+        // The contract of its shape says that the drive is lawful.
+        let _shape = self.drive.geometry();
+        Err(Halt::Stopped)
+    }
+}
+
 // Types have to be named. No drive of them is ever opened.
 impl Devices for NoDevices {
     ghost use Rattle.std.specs.Prelude.{false};
@@ -37,7 +65,7 @@ impl Devices for NoDevices {
 
     type Reader = Drive;
 
-    type Source = DeviceSource<Drive>;
+    type Source = NoSource;
 
     type Raw = NoRawDrive;
 
@@ -61,7 +89,7 @@ impl Devices for NoDevices {
         Err(DeviceFault::NoWay)
     }
 
-    fn open_source(&self, _alloc: Global, _path: &str) -> Result<DeviceSource<Drive>, DeviceFault> {
+    fn open_source(&self, _alloc: Global, _path: &str) -> Result<NoSource, DeviceFault> {
         Err(DeviceFault::NoWay)
     }
 

@@ -9,7 +9,8 @@ use disk_files::LineReader;
 use disk_jobs::{Habit, Stop};
 use disk_runs::Taking;
 use drive_port::{Device, Geometry, Halt};
-use drive_rescue::DeviceSource;
+use drive_rescue::{DeviceSource, Reading, Source};
+use drive_survey::ReportedZone;
 use nbd_session::WriteThrough;
 use std::alloc::{AllocError, Global};
 use zone_drive::Drive;
@@ -112,6 +113,28 @@ impl RawDrive for RawMemory {
     }
 }
 
+/// A drive in memory of which a rescue reads what can be read.
+#[derive(Drop)]
+pub struct MemorySource {
+    source: DeviceSource<Drive>,
+}
+
+impl Source for MemorySource {
+    ghost view = { λ s. ⟦<DeviceSource<Drive> as Source>⟧.view s.source };
+
+    fn geometry(&self) -> Geometry {
+        self.source.geometry()
+    }
+
+    fn report(&mut self, alloc: Global) -> Result<Vec<ReportedZone>, Halt> {
+        self.source.report(alloc)
+    }
+
+    fn read(&mut self, number: u32, offset: u32, into: &mut Vec<u8>) -> Result<Reading, Halt> {
+        self.source.read(number, offset, into)
+    }
+}
+
 /// A way to drives in memory, by the names that stand for paths. Each time a drive is as it was.
 #[derive(Clone, Copy)]
 pub struct MemoryDevices;
@@ -125,7 +148,7 @@ impl Devices for MemoryDevices {
 
     type Reader = Drive;
 
-    type Source = DeviceSource<Drive>;
+    type Source = MemorySource;
 
     type Raw = RawMemory;
 
@@ -153,8 +176,9 @@ impl Devices for MemoryDevices {
         Ok(drive)
     }
 
-    fn open_source(&self, alloc: Global, path: &str) -> Result<DeviceSource<Drive>, DeviceFault> {
-        Ok(DeviceSource::new(drive_of(alloc, path)?))
+    fn open_source(&self, alloc: Global, path: &str) -> Result<MemorySource, DeviceFault> {
+        let source = DeviceSource::new(drive_of(alloc, path)?);
+        Ok(MemorySource { source })
     }
 
     fn open_raw(&self, alloc: Global, path: &str, habit: Habit) -> Result<RawMemory, DeviceFault> {

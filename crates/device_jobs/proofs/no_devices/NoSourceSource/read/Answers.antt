@@ -1,0 +1,5 @@
+use Rattle.drive_rescue.proofs.KeepLaws.{keeps-source_none}
+use Rattle.device_jobs.proofs.no_devices.NoSourceSource.read.Goals as goal
+
+pub returns-clause-kept : goal.returns-clause-kept
+returns-clause-kept c = keeps-source_none _ c.geometry-shape.ensures.lawful
