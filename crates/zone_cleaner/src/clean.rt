@@ -12,7 +12,8 @@ use batch_log::Entry;
 use drive_port::{Device, Honest, reset};
 use logical_map::Place;
 use std::marker::Model;
-use zone_choice::{Mounted, Second, append_batch, batch_most, halt_of};
+use zone_choice::honest::append_batch;
+use zone_choice::{Mounted, Second, batch_most, halt_of};
 
 /// A clean that runs. It moves the live records of one zone, the victim, to another, and then
 /// empties the victim.
@@ -80,7 +81,10 @@ impl Clean {
 
     /// Appends a Move of the gathered records to the destination. All memory is allocated before
     /// the Append.
-    pub(crate) fn carry<D: Device>(&mut self, disk: &mut Mounted<D>) -> Result<(), CleanFault>
+    pub(crate) fn carry<D: Device + Honest>(
+        &mut self,
+        disk: &mut Mounted<D>,
+    ) -> Result<(), CleanFault>
         requires { IsAtStep Step.Move disk.old self.old }
         ensures leaves { StepLeaves Step.Move disk.old self.old result disk.new (Some self.new) }
         ensures completed { disk.new.drive.completed ≤ disk.old.drive.completed + 2 }

@@ -18,7 +18,8 @@ use drive_port::{Device, Geometry, Halt, Honest};
 use std::alloc::Global;
 use std::marker::Model;
 use std::mem::replace;
-use zone_choice::{BatchBuilder, Filling, Mounted, Tables, append_batch, fill};
+use zone_choice::honest::append_batch;
+use zone_choice::{BatchBuilder, Filling, Mounted, Tables, fill};
 
 /// Cleans the zones of a drive one after the other, in turns. The host's commands may come between
 /// them.
@@ -92,7 +93,7 @@ impl Cleaner {
 
     /// Appends a batch of the host to the host zone and, after the Append, takes the blocks that it names out of the
     /// gathered records. A clean that runs continues, with as many turns left as before, or fewer.
-    pub fn append_batch<D: Device>(
+    pub fn append_batch<D: Device + Honest>(
         &mut self,
         disk: &mut Mounted<D>,
         host: Filling,
