@@ -93,7 +93,8 @@ fn send_close<D: Device>(disk: &mut Mounted<D>, zone: u32) -> Result<(), PortFau
     // tables that call the other zone closed.
     ensures leaves { IsTrue disk.new.drive.clean
         → ByHalt (CloseBesideLeaves disk.old.drive disk.old.tables zone disk.new.drive) result }
-    // It completes one command at most, and none unless another zone may be open that is not full.
+    // The tables never change. It completes one command at most, and none unless another zone may be open that is not
+    // full.
     ensures kept { disk.new.tables ≡ disk.old.tables }
     ensures stays { KeepsShape disk.old.drive disk.new.drive }
     ensures completed { disk.new.drive.completed
