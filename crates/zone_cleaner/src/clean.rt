@@ -72,7 +72,9 @@ impl Clean {
             (Some self.new) }
         ensures completed { disk.new.drive.completed ≤ disk.old.drive.completed + 1 }
     {
-        if let Err(fault) = self.gathered.gather(disk, block, place) {
+        let result = self.gathered.gather(disk, block, place);
+        disk.device.vouch();
+        if let Err(fault) = result {
             return Err(fault);
         }
         self.cursor = block + 1;
