@@ -80,8 +80,8 @@ pub fn fault_of(halt: Halt) -> CleanFault
     }
 }
 
-/// The fault of a clean behind the fault of a Read, which the drive does not refuse while it is clean.
-fn read_fault(fault: PortFault) -> CleanFault
+/// The fault of a clean behind the fault of a command, which the drive does not refuse while it is clean.
+pub fn command_fault(fault: PortFault) -> CleanFault
     ensures { IsHalt fault → result ≡ clean_fault (fault_halt fault) }
 {
     match fault {
@@ -114,7 +114,7 @@ fn fetch<D: Device>(
     ensures err { IsTrue disk.new.drive.clean → IfErr result (IsGatherFault disk.new.drive) }
 {
     if let Err(fault) = batch.read(&mut disk.device, address) {
-        return Err(read_fault(fault));
+        return Err(command_fault(fault));
     }
     Ok(())
 }

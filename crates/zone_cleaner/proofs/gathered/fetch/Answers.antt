@@ -19,7 +19,7 @@ returns-in-Err-clause-err g c = λ clean.
     let e = c.in-Err.ensures.read in
     let stored = (rw (← c.disk.view_is) at c.requires) (e.obeys.trusted clean) in
     let halts = fetch_halts (g.D.Device.drive c.disk.inside.device) _ c.disk.inside.tables c.args.block c.args.address _ c.in-Err.fault stored e.gives.given e.kept.contents e.kept.closing e.obeys e.taken in
-    rw (c.read_fault.ensures halts.halt) halts.cause
+    rw (c.command_fault.ensures halts.halt) halts.cause
 
 pub returns-clause-asks : goal.returns-clause-asks
 returns-clause-asks g c =
