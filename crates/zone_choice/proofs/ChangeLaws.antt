@@ -1,16 +1,15 @@
 -- What commands change of a mounted disk: a halt nothing, an Append of a batch what the batch says.
-use Rattle.std.proofs.Common.{◌≡◌, ◌⊎◌, ℕ, suc, ◌+◌, ◌*◌, ◌/◌, ◌<◌, ◌≤◌, ◌^◌, List, [], ◌∷◌, length, take, drop, set, Some, Ok, Err, refl, sym, ap, ◌∙◌, inl, inr, arith}
-use Rattle.std.specs.List.{AllByRecursion}
+use Rattle.std.proofs.Common.{◌≡◌, ◌⊎◌, ℕ, suc, ◌+◌, ◌*◌, ◌/◌, ◌<◌, ◌≤◌, List, [], ◌∷◌, length, take, drop, set, Some, Ok, Err, refl, ap, ◌∙◌, inl, inr, arith}
 use Rattle.std.specs.Option.{option_map}
 use Rattle.std.proofs.lemmas.Bool.{cases_lt}
 use Rattle.std.proofs.lemmas.List.{length-append, take_all, take_at}
-use Rattle.std.proofs.lemmas.Nat.{div-mul-add, mul-le}
+use Rattle.std.proofs.lemmas.Nat.{div-mul-add}
 use Rattle.std.proofs.Math.Nat.{add-mul}
 use Rattle.zone_states.specs.declared.geometry.Geometry.{Geometry}
 use Rattle.zone_states.specs.Geometry.{IsInRange}
 use Rattle.zone_states.specs.Zone.{cut_blocks}
 use Rattle.zone_states.proofs.Cutting.{length-cut}
-use Rattle.drive_port.specs.Calls.{Appended, AppendedFront, AppendGives, AppendKeeps, CanAppend, IsNotRefused, IsWholeBlocks, Obeys, block_count}
+use Rattle.drive_port.specs.Calls.{Appended, AppendedFront, AppendGives, AppendKeeps, CanAppend, IsNotRefused, Obeys, block_count}
 use Rattle.drive_port.specs.Calls.{AppendLeaves as PortLeaves}
 use Rattle.drive_port.specs.Contents.{Appends, Counts, SameContents, content_at, contents}
 use Rattle.drive_port.specs.Drive.{DriveState, IsLawful}
@@ -20,21 +19,20 @@ use Rattle.batch_log.specs.declared.header.Entry.{Entry}
 use Rattle.batch_log.specs.Header.{IsHeading, header_block}
 use Rattle.batch_log.specs.Log.{Batch, IsBatch, batch_blocks, batch_size, data_count, one_unless, zero_block}
 use Rattle.batch_log.proofs.HeaderLaws.{header_length}
-use Rattle.logical_map.specs.Places.{IsReady, MapView}
+use Rattle.logical_map.specs.Places.{MapView}
 use Rattle.logical_map.specs.declared.place.Place.{Place}
-use Rattle.logical_map.specs.declared.place.Place.TheVariants as places
 use Rattle.zone_choice.specs.Agreement.{Agrees, mounted, mounted_array}
 use Rattle.drive_array.specs.ZoneLogs.{drive_logs, encoded}
 use Rattle.zone_choice.specs.Builder.{BuilderView, IsBuilt, built, placed}
 use Rattle.zone_choice.specs.Changes.{BatchLeaves, CanPlace, IsHalt, KeepsArray, Places, StopsInside, fault_halt, roles_alone, size_with, told_over}
 use Rattle.drive_array.specs.Records.{append_log, batch_records, entry_records, over, place, record_of, shown}
-use Rattle.zone_choice.specs.Roles.{RolesView, closed, fillings, second_with, wrote}
+use Rattle.zone_choice.specs.Roles.{RolesView, closed, second_with, wrote}
 use Rattle.drive_array.specs.Sizes.{extended, size_or}
 use Rattle.zone_choice.specs.Tables.{GrowsTo, SameButReady, TablesView, size_of, with_places}
-use Rattle.zone_choice.proofs.AgreementLaws.{AppendsBatch, IsPlaced, agrees_append, agrees_room, agrees_same, length-extended, size-placed, encoded_append, encoded_same, tables_after, written_in}
+use Rattle.zone_choice.proofs.AgreementLaws.{AppendsBatch, IsPlaced, agrees_append, agrees_room, agrees_same, size-placed, encoded_append, encoded_same, tables_after, written_in}
 use Rattle.drive_array.proofs.AllLaws.{all-weaker}
 use Rattle.zone_choice.proofs.BuilderLaws.{placed-over}
-use Rattle.zone_choice.proofs.CommandLaws.{can_append, fillings-few, filling-in_range, zone-start}
+use Rattle.zone_choice.proofs.CommandLaws.{can_append, zone-start}
 use Rattle.zone_choice.proofs.OpenLaws.{OpensNone, OpensOnly, append-opens}
 use Rattle.zone_choice.proofs.StopLaws.{Left, left-same, left-torn, left-whole}
 
@@ -120,44 +118,12 @@ sized g builder range says is =
       cut = rw number (ap (λ (h : List ℕ). h ∷ cut_blocks block count (drop block bytes)) front);
     }
 
--- the Append is of whole blocks
-pub whole_blocks : (old : DriveState) (tables : TablesView) (zone : ℕ) (builder : BuilderView) (bytes : List ℕ) → bytes ≡ builder.bytes → IsBuilt old.geometry.block builder → CanPlace (mounted old tables) zone (built old.geometry.block builder) → IsWholeBlocks old.geometry.block bytes
-whole_blocks old tables zone builder bytes bytes-are is can =
-    let g = old.geometry in
-    let s = sized g builder can.agrees.geometry can.heading is in
-    let same : length builder.bytes / g.block ≡ batch_size (built g.block builder) = s.count_is in
-    rw bytes-are (record {
-      whole = s.long ∙ ap (λ (n : ℕ). n * g.block) (sym same);
-      some = omega (arith, same);
-      few = omega (arith, same, can.few, can.agrees.geometry.transfer);
-    })
-
--- and the drive takes it
+-- the drive takes it
 place_can : (old : DriveState) (tables : TablesView) (zone start : ℕ) (builder : BuilderView) → IsBuilt old.geometry.block builder → CanPlace (mounted old tables) zone (built old.geometry.block builder) → roles_alone old.geometry tables.roles zone ≡ tables.roles → start ≡ zone * old.geometry.size
     → CanAppend old start (block_count old.geometry builder.bytes)
 place_can old tables zone start builder is can alone start-is =
     let s = sized old.geometry builder can.agrees.geometry can.heading is in
     can_append old tables zone start (block_count old.geometry builder.bytes) can.agrees can.filling alone start-is (omega (arith, s.count_is)) (omega (arith, s.count_is, can.few)) (omega (arith, s.count_is, can.room))
-
--- where a batch is
-pub address-fits : (old new : DriveState) (tables : TablesView) (zone start address : ℕ) (builder : BuilderView) (bytes : List ℕ) → CanPlace (mounted old tables) zone (built old.geometry.block builder) → start ≡ zone * old.geometry.size
-    → Appended old new start bytes address → address < 2 ^ 62
-address-fits old new tables zone start address builder bytes can start-is appended =
-    let g = old.geometry in
-    let index = (zone-start zone g.size can.agrees.geometry.size.0).0 in
-    let here : length (content_at (contents old.zones) (start / g.size)).blocks ≡ written_in old zone = rw (start-is, index) refl in
-    let below : zone * g.size ≤ 65536 * 1048576 = mul-le zone g.size 65536 1048576 (omega (arith, filling-in_range old tables zone can.agrees can.filling, can.agrees.lawful.count, can.agrees.geometry.zones)) (omega (arith, can.agrees.geometry.size)) in
-    omega (arith, appended.address_is, here, start-is, below, can.room, can.agrees.geometry.capacity, can.agrees.geometry.size)
-
--- no zone that is being filled has more written than its number holds
-pub written-fits : (old : DriveState) (tables grown : TablesView) (zone blocks : ℕ) (builder : BuilderView) → CanPlace (mounted old tables) zone (built old.geometry.block builder) → blocks ≡ batch_size (built old.geometry.block builder) → grown.roles ≡ tables.roles
-    → AllByRecursion (λ f. f.written + blocks < 2 ^ 32) (fillings grown.roles)
-written-fits old tables grown zone blocks builder can blocks-is roles =
-    let few = can.few in
-    let transfer = can.agrees.geometry.transfer in
-    let capacity = can.agrees.geometry.capacity in
-    let size = can.agrees.geometry.size in
-    rw roles (all-weaker (λ f. f.written ≤ old.geometry.capacity) (λ f. f.written + blocks < 2 ^ 32) (fillings tables.roles) (λ f le. omega arith) (fillings-few old tables can.agrees))
 
 -- the tables with the places of a batch
 abbrev pub tables_placed : TablesView → ℕ → BuilderView → ℕ → ℕ → TablesView
@@ -171,25 +137,6 @@ tables_placed tables zone builder address blocks = record {
 abbrev advanced : TablesView → ℕ → ℕ → TablesView
 advanced tables zone blocks = record tables { roles = wrote tables.roles zone blocks; next = tables.next + 1 }
 
--- its blocks are the disk's and are ready, once the disk has its size
-pub record GrownReady (grown : TablesView) (entries : List Entry) : Type 0 where
-  pub in_range : AllByRecursion (λ (e : Entry). e.block < size_of grown) entries
-  pub ready : AllByRecursion (λ (e : Entry). IsReady grown.map e.block) entries
-  pub short : size_of grown ≤ 2 ^ 31
-  pub next : grown.next < 2 ^ 63
-
--- once the map has grown, the blocks of the batch can be placed
-pub grown-ready : (old : DriveState) (tables grown : TablesView) (zone : ℕ) (builder : BuilderView) → CanPlace (mounted old tables) zone (built old.geometry.block builder) → GrowsTo tables (size_with tables (built old.geometry.block builder)) grown → GrownReady grown builder.heading.entries
-grown-ready old tables grown zone builder can grows =
-    let size = size_with tables (built old.geometry.block builder) in
-    let long : size_of grown ≡ size = ap length grows.places ∙ length-extended places.None size tables.map.places can.grows in
-    record {
-      in_range = all-weaker (λ (e : Entry). e.block < size_of tables) (λ (e : Entry). e.block < size_of grown) builder.heading.entries (λ e lt. omega (arith, lt, can.grows, long)) can.in_range;
-      ready = all-weaker (λ (e : Entry). IsReady tables.map e.block) (λ (e : Entry). IsReady grown.map e.block) builder.heading.entries (λ e is. grows.ready e.block is) can.ready;
-      short = omega (arith, long, can.reserve.1);
-      next = omega (arith, grows.next, can.next);
-    }
-
 -- how many blocks the batch takes
 pub size-built : (block_bytes blocks : ℕ) (builder : BuilderView) (entries : List Entry) → entries ≡ builder.heading.entries → blocks ≡ 1 + data_count entries → blocks ≡ batch_size (built block_bytes builder)
 size-built block_bytes blocks builder entries entries-are blocks-is = let here = rw entries-are at blocks-is in omega arith
@@ -199,12 +146,6 @@ pub placed-tables : (tables mid after : TablesView) (zone address blocks : ℕ) 
     → after ≡ record mid { roles = wrote mid.roles zone blocks; next = mid.next + 1 } → after ≡ tables_placed tables zone builder address blocks
 placed-tables tables mid after zone address blocks builder entries entries-are mid-is after-is =
     after-is ∙ ap (λ (t : TablesView). advanced t zone blocks) (mid-is ∙ ap (λ (es : List Entry). with_places tables (placed address (address + 1) es tables.map.places)) entries-are)
-
--- a batch that can be placed has few entries
-pub few-entries : (old : DriveState) (tables : TablesView) (zone : ℕ) (builder : BuilderView) → CanPlace (mounted old tables) zone (built old.geometry.block builder) → length builder.heading.entries < 2 ^ 31
-few-entries old tables zone builder can =
-    let room = can.heading.room in
-    elim can.agrees.geometry.block as (λ _. length builder.heading.entries < 2 ^ 31) [ inl e ↦ (let few = rw e at room in omega arith) | inr e ↦ (let few = rw e at room in omega arith) ]
 
 -- ---- the batch is appended
 

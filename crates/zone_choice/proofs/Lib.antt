@@ -11,6 +11,8 @@ pub mod AgreementLaws
 pub mod CommandLaws
 pub mod CloseLaws
 pub mod AloneLaws
+pub mod SaneLaws
+pub mod MayLaws
 pub mod ReadLaws
 pub mod FreshLaws
 pub mod VictimLaws

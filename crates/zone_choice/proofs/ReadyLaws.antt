@@ -1,5 +1,5 @@
 -- Blocks that are ready to be placed.
-use Rattle.std.proofs.Common.{◌≡◌, ℕ, zero, suc, ◌+◌, ◌<◌, List, [], ◌∷◌, length, take, get_or, arith}
+use Rattle.std.proofs.Common.{ℕ, zero, suc, ◌<◌, List, [], ◌∷◌, length, take, get_or, arith}
 use Rattle.std.specs.List.{AllByRecursion}
 use Rattle.batch_log.specs.declared.header.Entry.{Entry}
 use Rattle.logical_map.specs.Places.{IsReady, MapView, Reserves}

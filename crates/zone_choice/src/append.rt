@@ -1,4 +1,4 @@
-ghost use Rattle.std.specs.Prelude.{◌≡◌, ◌+◌, ◌*◌, ◌≤◌, ◌<◌, ◌^◌, ℕ, IfSome, length, map, nat_eq, true, IsTrue};
+ghost use Rattle.std.specs.Prelude.{◌≡◌, ◌+◌, ◌*◌, ◌≤◌, ◌<◌, ◌^◌, ℕ, IfSome, OnErr, OnOk, length, map, nat_eq, true, IsTrue};
 ghost use Rattle.std.specs.List.{AllByRecursion, IsDistinct};
 ghost use Rattle.batch_log.specs.Log.{data_count, one_unless};
 ghost use Rattle.logical_map.specs.Places.{IsReady};
@@ -7,6 +7,7 @@ ghost use Rattle.zone_choice.specs.Builder.{IsBuilt, entry_place, placed};
 ghost use Rattle.zone_choice.specs.Changes.{AloneLeaves, BatchLeaves, CanPlace, CloseBesideLeaves, IsHalt, built_for};
 ghost use Rattle.zone_choice.specs.Changes.{closes_before, closes_beside, fault_halt, roles_alone};
 ghost use Rattle.zone_choice.specs.Roles.{is_filling_at};
+ghost use Rattle.zone_choice.specs.Sane.{ByHalt, IsSane, KeepsShape, MayPlace, TablesAfter, tables_alone};
 ghost use Rattle.drive_array.specs.Sizes.{size_or};
 ghost use Rattle.zone_choice.specs.Tables.{GrowsTo, size_of, with_places};
 
@@ -84,15 +85,18 @@ fn grow_to(tables: &mut Tables, size: Option<u32>)
 
 /// Closes the other zone that is being filled, if it may be open. A full zone is not open, so
 /// nothing is sent to it.
-fn send_close<D: Device>(disk: &mut Mounted<D>, zone: u32) -> Result<(), Halt>
-    // Tables and drive agree, and this zone is being filled.
-    requires agrees { Agrees disk.old }
+fn send_close<D: Device>(disk: &mut Mounted<D>, zone: u32) -> Result<(), PortFault>
+    // This zone is being filled and, while the drive is clean, tables and drive agree.
+    requires agrees { IsTrue disk.old.drive.clean → Agrees disk.old }
     requires filling { is_filling_at disk.old.tables.roles zone ≡ true }
-    // Contents and tables never change. Done, the drive agrees with tables that call the other zone closed.
-    ensures leaves { CloseBesideLeaves disk.old.drive disk.old.tables zone disk.new.drive result }
+    // While the drive is clean, its contents are the same and the Close is not refused. Done, the drive agrees with
+    // tables that call the other zone closed.
+    ensures leaves { IsTrue disk.new.drive.clean
+        → ByHalt (CloseBesideLeaves disk.old.drive disk.old.tables zone disk.new.drive) result }
+    // The tables never change. It completes one command at most, and none unless another zone may be open that is not
+    // full.
     ensures kept { disk.new.tables ≡ disk.old.tables }
-    // It completes one command at most, and none unless another zone may be open that is not full.
-    ensures trusted { IsTrue disk.new.drive.clean → IsTrue disk.old.drive.clean }
+    ensures stays { KeepsShape disk.old.drive disk.new.drive }
     ensures completed { disk.new.drive.completed
         ≤ disk.old.drive.completed + closes_beside disk.old zone }
 {
@@ -104,20 +108,24 @@ fn send_close<D: Device>(disk: &mut Mounted<D>, zone: u32) -> Result<(), Halt>
         return Ok(());
     }
     if let Err(fault) = close(disk.alloc, &mut disk.device, geometry.start_of(other.zone)) {
-        return Err(halt_of(fault));
+        return Err(fault);
     }
     Ok(())
 }
 
 /// At an open limit of 1, makes this zone the only one that may be open.
-fn close_beside<D: Device>(disk: &mut Mounted<D>, zone: u32) -> Result<(), Halt>
-    // Tables and drive agree, and this zone is being filled.
-    requires agrees { Agrees disk.old }
+fn close_beside<D: Device>(disk: &mut Mounted<D>, zone: u32) -> Result<(), PortFault>
+    // This zone is being filled and, while the drive is clean, tables and drive agree.
+    requires agrees { IsTrue disk.old.drive.clean → Agrees disk.old }
     requires filling { is_filling_at disk.old.tables.roles zone ≡ true }
-    // The contents never change. Done at a limit of 1, the tables call the other zone closed, and the drive agrees.
-    ensures leaves { AloneLeaves disk.old disk.new zone result }
+    // While the drive is clean, its contents are the same. Done at a limit of 1, the drive agrees with the tables.
+    ensures leaves { IsTrue disk.new.drive.clean → ByHalt (AloneLeaves disk.old disk.new zone) result }
+    // Done, the tables call the other zone closed, at a limit of 1. Refused, they are the same.
+    ensures alone { OnOk result
+        (disk.new.tables ≡ tables_alone disk.old.drive.geometry disk.old.tables zone) }
+    ensures kept { OnErr result (disk.new.tables ≡ disk.old.tables) }
     // It completes one command at most, and none at a greater limit.
-    ensures trusted { IsTrue disk.new.drive.clean → IsTrue disk.old.drive.clean }
+    ensures stays { KeepsShape disk.old.drive disk.new.drive }
     ensures completed { disk.new.drive.completed
         ≤ disk.old.drive.completed + closes_before disk.old zone }
 {
@@ -134,16 +142,21 @@ fn append_alone<D: Device>(
     disk: &mut Mounted<D>,
     zone: u32,
     batch: &BatchBuilder,
-) -> Result<(), Halt>
-    // The batch is the next one, and the zone can take it. At an open limit of 1 no other zone may be open.
+) -> Result<(), PortFault>
+    // The numbers of tables and batch are in range. At an open limit of 1 no other zone may be open.
     requires built { IsBuilt disk.old.drive.geometry.block batch.now }
-    requires can { CanPlace disk.old zone (built_for disk.old batch.now) }
+    requires may { MayPlace disk.old zone (built_for disk.old batch.now) }
     requires alone { roles_alone disk.old.drive.geometry disk.old.tables.roles zone
         ≡ disk.old.tables.roles }
-    // Done, it has appended the batch, and tables and drive agree. Refused, it has not, unless the drive stopped.
-    ensures leaves { BatchLeaves disk.old disk.new zone (built_for disk.old batch.now) result }
-    // It completes one command at most.
-    ensures trusted { IsTrue disk.new.drive.clean → IsTrue disk.old.drive.clean }
+    // While the drive is clean, the batch is the next one, and the zone can take it.
+    requires can { IsTrue disk.old.drive.clean → CanPlace disk.old zone (built_for disk.old batch.now) }
+    // Then, done, it has appended the batch, and tables and drive agree. Refused, it has not, unless the drive stopped.
+    ensures leaves { IsTrue disk.new.drive.clean
+        → ByHalt (BatchLeaves disk.old disk.new zone (built_for disk.old batch.now)) result }
+    // Whatever the Reads returned, the tables count the batch once it is appended. It completes one command at most.
+    ensures tables { TablesAfter disk.old.drive.geometry disk.old.tables zone
+        (built_for disk.old batch.now) result disk.new.tables }
+    ensures stays { KeepsShape disk.old.drive disk.new.drive }
     ensures completed { disk.new.drive.completed ≤ disk.old.drive.completed + 1 }
 {
     let start = disk.geometry().start_of(zone);
@@ -154,7 +167,7 @@ fn append_alone<D: Device>(
             disk.tables.appended(zone, blocks);
             Ok(())
         }
-        Err(fault) => Err(halt_of(fault)),
+        Err(fault) => Err(fault),
     }
 }
 
@@ -165,19 +178,27 @@ fn append_alone<D: Device>(
 ///
 /// If the drive is out of memory, the batch was not appended. If it stops, the zone may have the
 /// whole batch, a torn tail, or nothing of it. Either way the tables do not have the batch. The
-/// other zone may be closed by then, and the tables may say so.
+/// other zone may be closed by then, and the tables may say so. A drive refuses nothing of this, unless it was not
+/// clean.
 pub fn append_batch<D: Device>(
     disk: &mut Mounted<D>,
     zone: u32,
     batch: &BatchBuilder,
-) -> Result<(), Halt>
-    // The batch is the next one, its blocks are ready to be placed, and the zone has room for it.
+) -> Result<(), PortFault>
+    // The numbers of tables and batch are in range, and the blocks are ready to be placed.
     requires built { IsBuilt disk.old.drive.geometry.block batch.now }
-    requires can { CanPlace disk.old zone (built_for disk.old batch.now) }
-    // Done, it has appended the batch, and tables and drive agree. Refused, it has not, unless the drive stopped.
-    ensures leaves { BatchLeaves disk.old disk.new zone (built_for disk.old batch.now) result }
+    requires may { MayPlace disk.old zone (built_for disk.old batch.now) }
+    // While the drive is clean, the batch is the next one, and the zone has room for it.
+    requires can { IsTrue disk.old.drive.clean → CanPlace disk.old zone (built_for disk.old batch.now) }
+    // Then, done, it has appended the batch, and tables and drive agree. Refused, it has not, unless the drive stopped.
+    ensures leaves { IsTrue disk.new.drive.clean
+        → ByHalt (BatchLeaves disk.old disk.new zone (built_for disk.old batch.now)) result }
+    // Whatever the Reads returned, the tables count the batch once it is appended, with numbers in range.
+    ensures tables { TablesAfter disk.old.drive.geometry disk.old.tables zone
+        (built_for disk.old batch.now) result disk.new.tables }
+    ensures sane { IsSane disk.new }
+    ensures stays { KeepsShape disk.old.drive disk.new.drive }
     // It completes one command at most, or two at an open limit of 1.
-    ensures trusted { IsTrue disk.new.drive.clean → IsTrue disk.old.drive.clean }
     ensures completed { disk.new.drive.completed
         ≤ disk.old.drive.completed + closes_before disk.old zone + 1 }
 {

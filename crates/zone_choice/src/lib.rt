@@ -17,7 +17,7 @@
 //!
 //! # What is promised
 //!
-//! Of any drive that obeys its rules:
+//! Of any drive that obeys its rules, while it is clean: as long as each Read returned what the drive holds.
 //!
 //! * A batch that is appended, of either kind, changes the array by what it says and by nothing else, its size
 //!   included. The tables name the place of each block's newest record again (`Places` in specs/Changes).
@@ -33,12 +33,17 @@
 //! * If one zone is empty and all others are sealed, a zone has so few live records that they fit in the empty one
 //!   (`a_zone_can_be_cleaned`): that is what the reserve gives a cleaner.
 //!
+//! Whatever the Reads returned, an Append ends. The tables count a batch that was appended and no other, and their
+//! numbers stay in range (`TablesAfter` and `IsSane` in specs/Sane). Where a drive is not clean it may refuse a command,
+//! and the fault says so. The calls of `honest` are for a device that is always clean.
+//!
 //! Tests: the rows of `worked_runs`.
 #![tactic(auto)]
 
 mod append;
 mod batch;
 mod empties;
+pub mod honest;
 mod laws;
 mod mounted;
 mod roles;

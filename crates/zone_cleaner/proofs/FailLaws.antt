@@ -41,6 +41,7 @@ pub read_fails : (before after : MountedView) (c : CleanView) (block : ℕ) (pla
 read_fails before after c block place faults.OutOfMemory agrees is kept same cause = (kept, inl same)
 read_fails before after c block place faults.Stopped agrees is kept same cause = stops_kept before after c agrees is kept same cause
 read_fails before after c block place faults.Spent agrees is kept same cause = absurd cause
+read_fails before after c block place faults.Damaged agrees is kept same cause = absurd cause
 
 -- what is known of the next record
 pub record NextRecord (disk : MountedView) (c : CleanView) (block : ℕ) (place : Place) : Type 0 where

@@ -25,3 +25,4 @@ pub mod RunLaws
 pub mod NeedLaws
 pub mod NextLaws
 pub mod BesideLaws
+pub mod SaneLaws

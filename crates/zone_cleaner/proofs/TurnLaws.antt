@@ -177,6 +177,7 @@ fails_give before after c new step faults.Spent is fails same = let spent = spen
   keeps = record { mountable = cleans_mountable before (Some c) is; array = refl; moves = only-same (drive_logs before.drive) (drive_logs before.drive) refl; size = refl; trimmed = refl; given = refl; geometry = refl; refused = refl; durable = refl; next = refl; appended = omega arith };
   cause = spent.1;
 })
+fails_give before after c new step faults.Damaged is fails same = absurd fails
 
 step_gives : (before after : MountedView) (c : CleanView) (new : Option CleanView) (result : Result (Unit {0}) CleanFault) → AgreesWithClean before (Some c) → StepLeaves (next_step (batch_most before.drive.geometry) before.tables c) before c result after new → CleaningLeaves before result after new
 step_gives before after c new (Ok done) is leaves =
@@ -190,6 +191,7 @@ fails-turns : (before after : MountedView) (c : CleanView) (most : ℕ) (step : 
 fails-turns before after c most step faults.OutOfMemory fails = close-turns before after.tables most (Some c) fails.1
 fails-turns before after c most step faults.Stopped fails = close-turns before after.tables most (Some c) fails.tables
 fails-turns before after c most step faults.Spent fails = rw (spent-move before after step fails).0 refl
+fails-turns before after c most step faults.Damaged fails = absurd fails
 
 -- a turn that was refused leaves as many turns
 pub refused-turns : (before after : MountedView) (old new : Option CleanView) (most : ℕ) (result : Result (Unit {0}) CleanFault) → TurnLeaves before old result after new → OnErr result (turns_left most after.tables new ≡ turns_left most before.tables old)

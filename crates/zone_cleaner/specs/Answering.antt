@@ -1,10 +1,10 @@
 -- What the calls of the cleaner promise, whatever they answer.
-use Rattle.std.specs.Prelude.{◌≡◌, ◌+◌, ◌*◌, ◌++◌, ◌≤◌, List, [], ◌∷◌, Option, Result, IfErr, OnErr, OnOk}
+use Rattle.std.specs.Prelude.{◌≡◌, ◌+◌, ◌*◌, ◌++◌, ◌≤◌, List, [], ◌∷◌, Option, Result, IfErr, IsTrue, OnErr, OnOk}
 use Rattle.zone_choice.specs.Agreement.{MountedView}
 use Rattle.zone_cleaner.specs.declared.fault.CleanFault.{CleanFault}
 use Rattle.zone_cleaner.specs.Clean.{CleanView, turns_of}
 use Rattle.zone_cleaner.specs.LiveRecords.{LiveRecord}
-use Rattle.zone_cleaner.specs.Reading.{IsGatherFault, OnlyReads}
+use Rattle.zone_cleaner.specs.Reading.{AddsRecord, IsGatherFault, OnlyAsks, OnlyReads}
 use Rattle.zone_cleaner.specs.Start.{CleanDone, CleanLeaves, CleaningLeaves, EndLeaves}
 use Rattle.zone_cleaner.specs.Start.{HasNextZone, KeepsTurns, TurnDone, TurnLeaves}
 
@@ -12,12 +12,14 @@ use Rattle.zone_cleaner.specs.Start.{HasNextZone, KeepsTurns, TurnDone, TurnLeav
 pub record GatherAnswers (before : MountedView) (gathered : List LiveRecord) (more : LiveRecord)
     (result : Result (Unit {0}) CleanFault)
     (after : MountedView) (now : List LiveRecord) : Type 0 where
-  pub reads : OnlyReads before after
-  -- it is after those that were gathered before
-  pub ok : OnOk result (now ≡ gathered ++ more ∷ [])
-  -- or these are the same
+  pub asks : OnlyAsks before after
+  -- a record is after those that were gathered before, or these are the same
+  pub adds : OnOk result (AddsRecord before.drive.geometry.block more.block gathered now)
   pub failed : OnErr result (now ≡ gathered)
-  pub err : IfErr result (IsGatherFault after.drive)
+  -- while the drive is clean, the contents are the same, and it is this record
+  pub reads : IsTrue after.drive.clean → OnlyReads before after
+  pub ok : IsTrue after.drive.clean → OnOk result (now ≡ gathered ++ more ∷ [])
+  pub err : IsTrue after.drive.clean → IfErr result (IsGatherFault after.drive)
 
 -- One turn of cleaning.
 pub record TurnAnswers (before : MountedView) (old : Option CleanView) (result : Result (Unit {0}) CleanFault)

@@ -1,5 +1,5 @@
 -- How the record of a block is read from the drive, and gathered.
-use Rattle.std.specs.Prelude.{◌≡◌, ℕ, ◌+◌, ◌<◌, ◌≤◌, true, List, [], Some, slice_index_or}
+use Rattle.std.specs.Prelude.{◌≡◌, ℕ, ◌+◌, ◌<◌, ◌≤◌, ◌++◌, true, List, [], ◌∷◌, length, Option, Some, IfSome, slice_index_or}
 use Rattle.std.specs.List.{AllByRecursion}
 use Rattle.drive_port.specs.Contents.{SameContents}
 use Rattle.drive_port.specs.Drive.{DriveState}
@@ -7,11 +7,27 @@ use Rattle.logical_map.specs.declared.place.Place.{Place}
 use Rattle.logical_map.specs.declared.place.Place.TheVariants as places
 use Rattle.zone_choice.specs.Agreement.{Agrees, MountedView, mounted_array}
 use Rattle.zone_choice.specs.Changes.{KeepsArray}
+use Rattle.zone_choice.specs.Sane.{KeepsShape}
 use Rattle.zone_choice.specs.Tables.{size_of}
 use Rattle.zone_cleaner.specs.declared.fault.CleanFault.{CleanFault}
 use Rattle.zone_cleaner.specs.declared.fault.CleanFault.TheVariants as faults
 use Rattle.zone_cleaner.specs.Gathered.{AreOfLength}
 use Rattle.zone_cleaner.specs.LiveRecords.{LiveRecord, live_content, gathered_data}
+
+-- One Read was sent, or none, whatever it returned: the tables are the same.
+pub record OnlyAsks (before after : MountedView) : Type 0 where
+  pub shape : KeepsShape before.drive after.drive
+  pub tables : after.tables ≡ before.tables
+  pub completed : after.drive.completed ≤ before.drive.completed + 1
+
+-- a block of that many bytes comes after these
+abbrev pub AddsBlock : ℕ → List ℕ → List ℕ → Type 0
+AddsBlock block_bytes old new = (bytes : List ℕ) × (new ≡ old ++ bytes) × (length bytes ≡ block_bytes)
+
+-- a record of this block comes after those that were gathered, a trim or with data as long as that of the drive's blocks
+abbrev pub AddsRecord : ℕ → ℕ → List LiveRecord → List LiveRecord → Type 0
+AddsRecord block_bytes block old new =
+    (content : Option (List ℕ)) × (new ≡ old ++ record { block = block; content = content } ∷ []) × IfSome content (λ bytes. length bytes ≡ block_bytes)
 
 -- tables and drive agree, and the newest record of a block is stored at this place
 pub record IsStoredAt (disk : MountedView) (block : ℕ) (at : Place) : Type 0 where
@@ -19,9 +35,8 @@ pub record IsStoredAt (disk : MountedView) (block : ℕ) (at : Place) : Type 0 w
   pub in_range : block < size_of disk.tables
   pub place : at ≡ slice_index_or disk.tables.map.places block places.None
 
--- such a record, of a block above those that were gathered, with data as long as that of the drive's blocks
-pub record CanGather (disk : MountedView) (block : ℕ) (at : Place) (gathered : List LiveRecord) : Type 0 where
-  pub stored : IsStoredAt disk block at
+-- The block is above those that were gathered, whose data are as long as that of the drive's blocks.
+pub record MayGather (disk : MountedView) (block : ℕ) (gathered : List LiveRecord) : Type 0 where
   pub above : AllByRecursion (λ (r : LiveRecord). r.block < block) gathered
   pub whole : AreOfLength disk.drive.geometry.block (gathered_data gathered)
 
@@ -45,3 +60,4 @@ abbrev pub IsGatherFault : DriveState → CleanFault → Type 0
 IsGatherFault drive faults.OutOfMemory = Unit {0}
 IsGatherFault drive faults.Stopped = drive.stopped ≡ true
 IsGatherFault drive faults.Spent = ⊥
+IsGatherFault drive faults.Damaged = ⊥

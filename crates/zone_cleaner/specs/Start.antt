@@ -94,6 +94,7 @@ abbrev pub IsCleaningCause : DriveState → ℕ → CleanFault → Type 0
 IsCleaningCause drive next faults.OutOfMemory = Unit {0}
 IsCleaningCause drive next faults.Stopped = drive.stopped ≡ true
 IsCleaningCause drive next faults.Spent = sequence_end drive.geometry ≤ next
+IsCleaningCause drive next faults.Damaged = ⊥
 
 -- whether the newest record of a block is a trim, by its place
 abbrev pub trims : Place → Option Bool

@@ -121,6 +121,7 @@ StepFails step faults.OutOfMemory before after = KeepsArray before after × MayC
 StepFails step faults.Stopped before after = StopsClean before after
 StepFails Move faults.Spent before after = (after ≡ before) × (sequence_end before.drive.geometry ≤ before.tables.next)
 StepFails step faults.Spent before after = ⊥
+StepFails step faults.Damaged before after = ⊥
 
 -- after a step, by its answer: the clean continues from here, or it has ended; where the step was not done, it is unchanged
 abbrev pub StepLeaves : Step → MountedView → CleanView → Result (Unit {0}) CleanFault → MountedView → Option CleanView → Type 0

@@ -1,18 +1,21 @@
-ghost use Rattle.std.specs.Prelude.{◌≡◌, ◌≤◌, ◌<◌, ◌+◌, ◌^◌, List, length, IfErr, OnOk, Some};
+ghost use Rattle.std.specs.Prelude.{◌≡◌, ◌≤◌, ◌<◌, ◌+◌, ◌^◌, List, length, IfErr, IsTrue, OnOk, Some, true};
 ghost use Rattle.std.specs.List.{AllByRecursion};
 ghost use Rattle.zone_states.specs.Geometry.{IsInRange};
+ghost use Rattle.zone_choice.specs.Roles.{is_sealed_at};
+ghost use Rattle.zone_choice.specs.Sane.{IsSane, KeepsShape};
 ghost use Rattle.zone_cleaner.specs.Clean.{forgotten, destination_written, started};
 ghost use Rattle.zone_cleaner.specs.LiveRecords.{LiveRecord};
 ghost use Rattle.zone_cleaner.specs.Turns.{EmptiesVictim, IsAtStep, StepFails, StepLeaves, last_step, step_due};
 
 use crate::fault::CleanFault;
-use crate::gathered::{Gathered, MoveHeader, fault_of};
+use crate::gathered::{Gathered, MoveHeader, command_fault, fault_of};
 use crate::step::Step;
 use batch_log::Entry;
 use drive_port::{Device, Honest, reset};
 use logical_map::Place;
 use std::marker::Model;
-use zone_choice::{Mounted, Second, append_batch, batch_most, halt_of};
+use zone_choice::honest::append_batch;
+use zone_choice::{Mounted, Second, batch_most};
 
 /// A clean that runs. It moves the live records of one zone, the victim, to another, and then
 /// empties the victim.
@@ -71,7 +74,9 @@ impl Clean {
             (Some self.new) }
         ensures completed { disk.new.drive.completed ≤ disk.old.drive.completed + 1 }
     {
-        if let Err(fault) = self.gathered.gather(disk, block, place) {
+        let result = self.gathered.gather(disk, block, place);
+        disk.device.vouch();
+        if let Err(fault) = result {
             return Err(fault);
         }
         self.cursor = block + 1;
@@ -80,7 +85,10 @@ impl Clean {
 
     /// Appends a Move of the gathered records to the destination. All memory is allocated before
     /// the Append.
-    pub(crate) fn carry<D: Device>(&mut self, disk: &mut Mounted<D>) -> Result<(), CleanFault>
+    pub(crate) fn carry<D: Device + Honest>(
+        &mut self,
+        disk: &mut Mounted<D>,
+    ) -> Result<(), CleanFault>
         requires { IsAtStep Step.Move disk.old self.old }
         ensures leaves { StepLeaves Step.Move disk.old self.old result disk.new (Some self.new) }
         ensures completed { disk.new.drive.completed ≤ disk.old.drive.completed + 2 }
@@ -114,16 +122,24 @@ impl Clean {
 
     /// Empties the victim, once all its records are moved.
     pub(crate) fn empty_victim<D: Device>(&self, disk: &mut Mounted<D>) -> Result<(), CleanFault>
-        requires { IsAtStep Step.Reset disk.old self.now }
-        // The array never changes. Done, the victim is empty, and the destination is the next zone.
-        ensures ok { OnOk result (EmptiesVictim disk.old disk.new self.now.victim) }
-        ensures err { IfErr result (λ fault. StepFails Step.Reset fault disk.old disk.new) }
-        // It completes one command at most.
+        // The victim is sealed, and the numbers of the disk are in range.
+        requires sane { IsSane disk.old }
+        requires sealed { is_sealed_at disk.old.tables.roles self.now.victim ≡ true }
+        // While the drive is clean, this step is due.
+        requires at { IsTrue disk.old.drive.clean → IsAtStep Step.Reset disk.old self.now }
+        // Then the array never changes. Done, the victim is empty, and the destination is the next zone.
+        ensures ok { IsTrue disk.new.drive.clean
+            → OnOk result (EmptiesVictim disk.old disk.new self.now.victim) }
+        ensures err { IsTrue disk.new.drive.clean
+            → IfErr result (λ fault. StepFails Step.Reset fault disk.old disk.new) }
+        // Whatever the Reads returned, the numbers stay in range. It completes one command at most.
+        ensures sane { IsSane disk.new }
+        ensures stays { KeepsShape disk.old.drive disk.new.drive }
         ensures completed { disk.new.drive.completed ≤ disk.old.drive.completed + 1 }
     {
         let start = disk.geometry().start_of(self.victim);
         if let Err(fault) = reset(disk.alloc, &mut disk.device, start) {
-            return Err(fault_of(halt_of(fault)));
+            return Err(command_fault(fault));
         }
         disk.tables.end_clean(self.victim);
         Ok(())

@@ -1,8 +1,9 @@
-ghost use Rattle.std.specs.Prelude.{◌≡◌, ◌≤◌, ◌<◌, ◌+◌, ◌^◌, None, Some, is_some, length};
+ghost use Rattle.std.specs.Prelude.{◌≡◌, ◌≤◌, ◌<◌, ◌+◌, ◌^◌, IsTrue, None, Some, is_some, length};
 ghost use Rattle.std.specs.List.{AllByRecursion};
 ghost use Rattle.std.specs.Option.{option_map};
 ghost use Rattle.zone_choice.specs.Builder.{IsBuilt};
 ghost use Rattle.zone_choice.specs.Changes.{CanPlace, built_for};
+ghost use Rattle.zone_choice.specs.Sane.{ByHalt, IsSane, KeepsShape, MayPlace, TablesAfter};
 ghost use Rattle.zone_cleaner.specs.Answering.{CleanAnswers, EndAnswers, TurnAnswers};
 ghost use Rattle.zone_cleaner.specs.Clean.{forgotten, started};
 ghost use Rattle.zone_cleaner.specs.Host.{HostLeaves};
@@ -14,7 +15,7 @@ use crate::fault::CleanFault;
 use crate::gathered::Gathered;
 use crate::step::Step;
 use batch_log::Entry;
-use drive_port::{Device, Geometry, Halt, Honest};
+use drive_port::{Device, Geometry, Honest, PortFault};
 use std::alloc::Global;
 use std::marker::Model;
 use std::mem::replace;
@@ -97,16 +98,25 @@ impl Cleaner {
         disk: &mut Mounted<D>,
         host: Filling,
         batch: &BatchBuilder,
-    ) -> Result<(), Halt>
-        // Tables, drive and clean agree, the batch is the next one, and the host zone has room for it.
-        requires cleaned { AgreesWithClean disk.old self.old }
+    ) -> Result<(), PortFault>
+        // The batch goes to the host zone, and the numbers of tables and batch are in range.
         requires host { disk.old.tables.roles.host ≡ Some host }
         requires built { IsBuilt disk.old.drive.geometry.block batch.now }
-        requires can { CanPlace disk.old host.zone (built_for disk.old batch.now) }
-        // Done, it has appended the batch, and the clean has forgotten its blocks.
+        requires may { MayPlace disk.old host.zone (built_for disk.old batch.now) }
+        // While the drive is clean, tables, drive and clean agree, and the zone has room for the batch, the next one.
+        requires cleaned { IsTrue disk.old.drive.clean → AgreesWithClean disk.old self.old }
+        requires can { IsTrue disk.old.drive.clean
+            → CanPlace disk.old host.zone (built_for disk.old batch.now) }
+        // Then, done, it has appended the batch, and the clean has forgotten its blocks.
         // Refused, the clean is the same, and nothing was appended, unless the drive stopped.
-        ensures leaves { HostLeaves disk.old self.old host.zone (built_for disk.old batch.now)
-            result disk.new self.new }
+        ensures leaves { IsTrue disk.new.drive.clean
+            → ByHalt (λ answer. HostLeaves disk.old self.old host.zone (built_for disk.old batch.now)
+            answer disk.new self.new) result }
+        // Whatever the Reads returned, the tables count the batch once it is appended, with numbers in range.
+        ensures tables { TablesAfter disk.old.drive.geometry disk.old.tables host.zone
+            (built_for disk.old batch.now) result disk.new.tables }
+        ensures sane { IsSane disk.new }
+        ensures stays { KeepsShape disk.old.drive disk.new.drive }
         // It completes two commands at most.
         ensures completed { disk.new.drive.completed ≤ disk.old.drive.completed + 2 }
     {
@@ -115,7 +125,7 @@ impl Cleaner {
                 self.forget(batch.entries());
                 Ok(())
             }
-            Err(halt) => Err(halt),
+            Err(fault) => Err(fault),
         }
     }
 
@@ -169,7 +179,9 @@ impl Cleaner {
             Step::Gather(block, place) => clean.gather(disk, block, place),
             Step::Move => clean.carry(disk),
             Step::Reset => {
-                clean.empty_victim(disk)?;
+                let result = clean.empty_victim(disk);
+                disk.device.vouch();
+                result?;
                 self.end();
                 Ok(())
             }

@@ -13,6 +13,10 @@ pub enum CleanFault {
     /// The sequence numbers that are left are kept for the repair of a zone, at a mount. Nothing was sent.
     #[error("no sequence number is left for a Move")]
     Spent,
+    /// The drive refused a command, or the tables do not fit the clean: a Read returned other bytes than the drive
+    /// holds. While the drive is clean this is never answered.
+    #[error("the drive does not hold what it returned")]
+    Damaged,
 }
 
 impl From<AllocError> for CleanFault {

@@ -1,5 +1,5 @@
 ghost use Rattle.std.specs.Prelude.{◌≡◌, ◌⊎◌, ◌≤◌, ◌<◌, ◌+◌, ◌++◌, ◌∷◌, ◌^◌, false, [], drop, length};
-ghost use Rattle.std.specs.Prelude.{None, Some, IfErr, IfSome, OnOk, OnErr, slice_index_or};
+ghost use Rattle.std.specs.Prelude.{None, Some, IfErr, IfSome, IsTrue, OnOk, OnErr, slice_index_or};
 ghost use Rattle.std.specs.List.{AllByRecursion, concat};
 ghost use Rattle.std.specs.Option.{option_map};
 ghost use Rattle.batch_log.specs.Header.{IsHeading};
@@ -9,17 +9,19 @@ ghost use Rattle.zone_cleaner.specs.Answering.{GatherAnswers};
 ghost use Rattle.zone_cleaner.specs.Gathered.{AreOfLength, AreWithin, stored_bytes, data_bytes, entries_for, entry_for};
 ghost use Rattle.zone_cleaner.specs.Moving.{HoldsMove, headed_bytes, heading_for, move_with};
 ghost use Rattle.zone_cleaner.specs.LiveRecords.{gathered_data, trim_record, without_all, without_block};
-ghost use Rattle.zone_cleaner.specs.Reading.{CanGather, IsGatherFault, IsStoredAt, OnlyReads, data_record, live_record};
+ghost use Rattle.zone_choice.specs.Changes.{IsHalt, fault_halt};
+ghost use Rattle.zone_cleaner.specs.Reading.{AddsBlock, IsGatherFault, IsStoredAt, MayGather, OnlyAsks, OnlyReads};
+ghost use Rattle.zone_cleaner.specs.Reading.{data_record, live_record};
 ghost use Rattle.zone_cleaner.specs.Turns.{clean_fault};
 
 use crate::fault::CleanFault;
 use batch_log::{Entry, Kind};
-use drive_port::{Device, Halt, Honest};
+use drive_port::{Device, Halt, PortFault};
 use indexmap::IndexMap;
 use logical_map::Place;
 use std::alloc::{AllocError, Global};
 use std::marker::Model;
-use zone_choice::{BatchBuilder, Mounted, halt_of};
+use zone_choice::{BatchBuilder, Mounted};
 
 /// The live records for the next Move, in the order in which they were gathered. A record has
 /// data, or none if it is a trim. Data is read straight into the bytes of the Move.
@@ -78,30 +80,42 @@ pub fn fault_of(halt: Halt) -> CleanFault
     }
 }
 
+/// The fault of a clean behind the fault of a command, which the drive does not refuse while it is clean.
+pub fn command_fault(fault: PortFault) -> CleanFault
+    ensures { IsHalt fault → result ≡ clean_fault (fault_halt fault) }
+{
+    match fault {
+        PortFault::Memory => CleanFault::OutOfMemory,
+        PortFault::Stopped => CleanFault::Stopped,
+        PortFault::Refused(_) => CleanFault::Damaged,
+    }
+}
+
 /// Reads the data of a block from its address, and adds it to a batch.
-fn fetch<D: Device + Honest>(
+fn fetch<D: Device>(
     batch: &mut BatchBuilder,
     disk: &mut Mounted<D>,
     block: u32,
     address: u64,
 ) -> Result<(), CleanFault>
-    requires { IsStoredAt disk.old block (Place.At address) }
-    // Whatever it answers, it has sent one Read at most, and tables, contents and heading are the same.
-    ensures reads { OnlyReads disk.old disk.new }
+    // While the drive is clean, the newest record of the block is stored there.
+    requires { IsTrue disk.old.drive.clean → IsStoredAt disk.old block (Place.At address) }
+    // Whatever the Read returned, it has sent one command at most, and tables and heading are the same. Done, as many
+    // bytes as a block has follow those that the batch had; refused, these are the same.
+    ensures asks { OnlyAsks disk.old disk.new }
     ensures heading { batch.new.heading ≡ batch.old.heading }
-    // Done, the block's bytes follow the bytes that the batch had.
-    ensures ok { OnOk result
-        (batch.new.bytes ≡ batch.old.bytes ++ slice_index_or (mounted_array disk.old) block []) }
-    ensures length { OnOk result
-        (length batch.new.bytes ≡ length batch.old.bytes + disk.old.drive.geometry.block) }
-    // Refused, the bytes are the same. It is out of memory, or the drive has stopped.
+    ensures adds { OnOk result (AddsBlock disk.old.drive.geometry.block batch.old.bytes batch.new.bytes) }
     ensures failed { OnErr result (batch.new.bytes ≡ batch.old.bytes) }
-    ensures err { IfErr result (IsGatherFault disk.new.drive) }
+    // While the drive is clean, the contents are the same, and the bytes are the block's. Then it is refused only out of
+    // memory, or where the drive has stopped.
+    ensures reads { IsTrue disk.new.drive.clean → OnlyReads disk.old disk.new }
+    ensures ok { IsTrue disk.new.drive.clean → OnOk result
+        (batch.new.bytes ≡ batch.old.bytes ++ slice_index_or (mounted_array disk.old) block []) }
+    ensures err { IsTrue disk.new.drive.clean → IfErr result (IsGatherFault disk.new.drive) }
 {
     if let Err(fault) = batch.read(&mut disk.device, address) {
-        return Err(fault_of(halt_of(fault)));
+        return Err(command_fault(fault));
     }
-    disk.device.vouch();
     Ok(())
 }
 
@@ -152,20 +166,16 @@ impl Gathered {
 
     /// Adds a record with data, which is read from an address. Its block is greater than those
     /// that are gathered. If it runs out of memory, the drive may have completed a Read.
-    fn read<D: Device + Honest>(
+    fn read<D: Device>(
         &mut self,
         disk: &mut Mounted<D>,
         block: u32,
         address: u64,
     ) -> Result<(), CleanFault>
-        requires { CanGather disk.old block (Place.At address) self.old.records }
-        // Whatever it answers, it has sent one Read at most, and tables and contents are the same.
-        ensures reads { OnlyReads disk.old disk.new }
-        // Done, the record is the last one. Refused, the records are the same, and the fault has its cause.
-        ensures ok { OnOk result
-            (self.new.records ≡ self.old.records ++ data_record disk.old block ∷ []) }
-        ensures failed { OnErr result (self.new.records ≡ self.old.records) }
-        ensures err { IfErr result (IsGatherFault disk.new.drive) }
+        requires may { MayGather disk.old block self.old.records }
+        requires stored { IsTrue disk.old.drive.clean → IsStoredAt disk.old block (Place.At address) }
+        ensures { GatherAnswers disk.old self.old.records (data_record disk.old block) result
+            disk.new self.new.records }
     {
         let block_bytes = disk.geometry().block;
         self.make_room(block_bytes)?;
@@ -179,13 +189,14 @@ impl Gathered {
 
     /// Gathers the record of a block, which is at this place. The block is greater than those that
     /// are gathered.
-    pub fn gather<D: Device + Honest>(
+    pub fn gather<D: Device>(
         &mut self,
         disk: &mut Mounted<D>,
         block: u32,
         place: Place,
     ) -> Result<(), CleanFault>
-        requires { CanGather disk.old block place self.old.records }
+        requires may { MayGather disk.old block self.old.records }
+        requires stored { IsTrue disk.old.drive.clean → IsStoredAt disk.old block place }
         ensures { GatherAnswers disk.old self.old.records (live_record disk.old block place) result
             disk.new self.new.records }
     {

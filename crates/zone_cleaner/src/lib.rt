@@ -40,6 +40,7 @@ mod clean;
 mod cleaner;
 mod fault;
 mod gathered;
+pub mod honest;
 mod step;
 
 pub use cleaner::Cleaner;

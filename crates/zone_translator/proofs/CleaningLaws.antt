@@ -308,6 +308,7 @@ turn-fails {V} before after (Some c) new cause leaves = (
     by faults.OutOfMemory fails = newer-same before.tables.next (drive_logs before.drive) (drive_logs after.drive) fails.0.logs
     by faults.Stopped fails = tt
     by faults.Spent fails = newer-same before.tables.next (drive_logs before.drive) (drive_logs after.drive) (ap (λ (m : MountedView). drive_logs m.drive) (spent step fails))
+    by faults.Damaged fails = absurd fails
 
 end-fails : {V : Type 0} (before after : MountedView) (old new : Option CleanView) (cause : CleanFault) → AgreesWithClean before old → EndLeaves before old (Err cause) after new → KeepsCleaning {V = V} before old (Err (cleaning_fault cause)) after new
 end-fails {V} before after old new cause is ends =

@@ -213,6 +213,7 @@ pub refused-turn : (a b : MountedView) (clean clean' : Option CleanView) (cause 
 refused-turn a b clean clean' faults.OutOfMemory was fits serves kept on cause = refused-serving a b clean clean' OutOfMemory was fits refl (kept, on)
 refused-turn a b clean clean' faults.Stopped was fits serves kept on cause = refused-stopped a b clean clean' was fits serves (room-stops a b kept cause)
 refused-turn a b clean clean' faults.Spent was fits serves kept on cause = refused-serving a b clean clean' Spent was fits refl (kept, on)
+refused-turn a b clean clean' faults.Damaged was fits serves kept on cause = absurd cause
 
 -- with the front of a write that was made
 pub record RefusedWrite (a b : MountedView) (clean clean' : Option CleanView) (first : ℕ) (blocks : List (List ℕ)) (fault : DiskFault) (was : DiskStatus) : Type 0 where

@@ -114,6 +114,7 @@ pub clean_cause : (drive : DriveState) (next : ℕ) (cause : CleanFault) → IsC
 clean_cause drive next faults.OutOfMemory is = tt
 clean_cause drive next faults.Stopped is = is
 clean_cause drive next faults.Spent is = is
+clean_cause drive next faults.Damaged is = absurd is
 
 -- ---- the host zone
 

@@ -44,6 +44,7 @@ abbrev pub cleaning_fault : CleanFault → DiskFault
 cleaning_fault faults.OutOfMemory = OutOfMemory
 cleaning_fault faults.Stopped = Stopped
 cleaning_fault faults.Spent = Spent
+cleaning_fault faults.Damaged = Stopped
 
 -- at most how many commands a batch takes: the turns of a clean, a Finish, a Close, and the Append
 abbrev pub batch_commands : Geometry → ℕ

@@ -53,6 +53,8 @@ impl From<CleanFault> for DiskFault {
             CleanFault::OutOfMemory => DiskFault::OutOfMemory,
             CleanFault::Stopped => DiskFault::Stopped,
             CleanFault::Spent => DiskFault::Spent,
+            // A device that is always clean gives no cause for it.
+            CleanFault::Damaged => DiskFault::Stopped,
         }
     }
 }

@@ -22,6 +22,7 @@ use drive_port::{Device, Geometry, Honest};
 use std::alloc::AllocError;
 use zone_choice::{BatchBuilder, Filling, Mounted, batch_most};
 use zone_cleaner::Cleaner;
+use zone_cleaner::honest::append_batch;
 
 /// What is left of a list of blocks, each written or trimmed: the blocks, and the data of those that are written.
 #[derive(Clone, Copy)]
@@ -175,7 +176,7 @@ pub(crate) fn next_listed<D: Device + Honest>(
 {
     let host = find_room(disk, cleaner)?;
     let taken = build_listed(disk, batch, host, left)?;
-    match cleaner.append_batch(disk, host, batch) {
+    match append_batch(cleaner, disk, host, batch) {
         Ok(()) => Ok(taken),
         Err(halt) => Err(fault_of(halt)),
     }

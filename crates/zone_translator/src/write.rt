@@ -18,6 +18,7 @@ use drive_port::{Device, Geometry, Honest};
 use std::alloc::AllocError;
 use zone_choice::{BatchBuilder, Filling, Mounted, batch_most};
 use zone_cleaner::Cleaner;
+use zone_cleaner::honest::append_batch;
 
 /// What is written to blocks that follow one another.
 #[derive(Clone, Copy)]
@@ -214,7 +215,7 @@ pub(crate) fn next_batch<D: Device + Honest>(
 {
     let host = find_room(disk, cleaner)?;
     let count = build_batch(disk, batch, host, rest)?;
-    match cleaner.append_batch(disk, host, batch) {
+    match append_batch(cleaner, disk, host, batch) {
         Ok(()) => Ok(count),
         Err(halt) => Err(fault_of(halt)),
     }
@@ -242,7 +243,7 @@ pub(crate) fn grow_batch<D: Device + Honest>(
     let host = find_room(disk, cleaner)?;
     batch.start(Kind::Host, next_sequence(disk), 0, Some(blocks));
     batch.encode(disk.geometry().block)?;
-    match cleaner.append_batch(disk, host, batch) {
+    match append_batch(cleaner, disk, host, batch) {
         Ok(()) => Ok(()),
         Err(halt) => Err(fault_of(halt)),
     }

@@ -1,26 +1,45 @@
-use Rattle.std.proofs.Common.{◌∙◌, ◌++◌, List, ℕ, ap}
+use Rattle.std.proofs.Common.{◌∙◌, ◌++◌, List, ℕ, ap, arith, length, refl}
+use Rattle.std.proofs.lemmas.List.{length-append}
 use Rattle.zone_cleaner.proofs.FetchLaws.{fetch_halts, fetch_reads, fetch_shown}
 use Rattle.zone_cleaner.proofs.gathered.fetch.Goals as goal
 
-pub halt_of-requires : goal.halt_of-requires
-halt_of-requires g c =
-    let stored = rw (← c.disk.view_is) at c.requires in
+pub returns-in-Err-clause-asks : goal.returns-in-Err-clause-asks
+returns-in-Err-clause-asks g c =
     let e = c.in-Err.ensures.read in
-    (fetch_halts (g.D.Device.drive c.disk.inside.device) _ c.disk.inside.tables c.args.block c.args.address _ c.in-Err.fault stored e.gives.given e.kept.contents e.kept.closing e.obeys e.taken).halt
+    rw (← c.disk.view_is) (record { shape = record { geometry = e.obeys.geometry; trusted = e.obeys.trusted }; tables = refl; completed = e.obeys.completed })
 
 pub returns-in-Err-clause-reads : goal.returns-in-Err-clause-reads
-returns-in-Err-clause-reads g c =
-    let stored = rw (← c.disk.view_is) at c.requires in
+returns-in-Err-clause-reads g c = λ clean.
     let e = c.in-Err.ensures.read in
+    let stored = (rw (← c.disk.view_is) at c.requires) (e.obeys.trusted clean) in
     rw (← c.disk.view_is) (fetch_halts (g.D.Device.drive c.disk.inside.device) _ c.disk.inside.tables c.args.block c.args.address _ c.in-Err.fault stored e.gives.given e.kept.contents e.kept.closing e.obeys e.taken).reads
 
-pub returns-clause-reads : goal.returns-clause-reads
-returns-clause-reads g c =
-    let stored = rw (← c.disk.view_is) at c.requires in
+pub returns-in-Err-clause-err : goal.returns-in-Err-clause-err
+returns-in-Err-clause-err g c = λ clean.
+    let e = c.in-Err.ensures.read in
+    let stored = (rw (← c.disk.view_is) at c.requires) (e.obeys.trusted clean) in
+    let halts = fetch_halts (g.D.Device.drive c.disk.inside.device) _ c.disk.inside.tables c.args.block c.args.address _ c.in-Err.fault stored e.gives.given e.kept.contents e.kept.closing e.obeys e.taken in
+    rw (c.command_fault.ensures halts.halt) halts.cause
+
+pub returns-clause-asks : goal.returns-clause-asks
+returns-clause-asks g c =
     let e = c.in_default.ensures.read in
+    rw (← c.disk.view_is) (record { shape = record { geometry = e.obeys.geometry; trusted = e.obeys.trusted }; tables = refl; completed = e.obeys.completed })
+
+pub returns-clause-adds : goal.returns-clause-adds
+returns-clause-adds g c =
+    let e = c.in_default.ensures.read in
+    let returned = e.gives.returned in
+    rw (← c.disk.view_is) (returned, e.gives.joined, omega (arith, e.shown.length_is, ap length e.gives.joined, length-append c.args.batch.now.bytes returned))
+
+pub returns-clause-reads : goal.returns-clause-reads
+returns-clause-reads g c = λ clean.
+    let e = c.in_default.ensures.read in
+    let stored = (rw (← c.disk.view_is) at c.requires) (e.obeys.trusted clean) in
     rw (← c.disk.view_is) (fetch_reads _ _ c.disk.inside.tables _ _ stored e.kept.contents e.kept.closing e.obeys.lawful e.obeys.durable e.shown.counts)
 
 pub returns-clause-ok : goal.returns-clause-ok
-returns-clause-ok g c =
-    let stored = rw (← c.disk.view_is) at c.requires in
-    rw (← c.disk.view_is) (c.in_default.ensures.read.shown.bytes c.vouch.ensures ∙ ap (λ (bytes : List ℕ). c.args.batch.now.bytes ++ bytes) (fetch_shown (g.D.Device.drive c.disk.inside.device) c.disk.inside.tables c.args.block c.args.address stored))
+returns-clause-ok g c = λ clean.
+    let e = c.in_default.ensures.read in
+    let stored = (rw (← c.disk.view_is) at c.requires) (e.obeys.trusted clean) in
+    rw (← c.disk.view_is) (e.shown.bytes clean ∙ ap (λ (bytes : List ℕ). c.args.batch.now.bytes ++ bytes) (fetch_shown (g.D.Device.drive c.disk.inside.device) c.disk.inside.tables c.args.block c.args.address stored))

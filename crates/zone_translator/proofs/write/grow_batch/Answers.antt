@@ -41,7 +41,7 @@ returns-in-Ok-clause-leaves g c =
     let found = c.in_ok-host.ensures in
     let next = grow-next c.args.disk.now c.find_room.new.disk c.in_ok-host.host c.args.blocks c.encode.new.self c.geometry.result c.geometry.ensures found.leaves.0 found.leaves.1.0 found.ok c.requires.grows c.requires.reserve
     (c.encode.ensures.heading ∙ rw c.next_sequence.ensures at c.start.ensures.heading) (rw (c.start.ensures.heading, c.next_sequence.ensures) at c.in_ok-encode.ensures.bytes) in
-    growth-writes c.args.disk.now c.find_room.new.disk c.append_batch.new.disk c.find_room.new.cleaner c.append_batch.new.self c.in_ok-host.host c.args.blocks c.encode.new.self found.leaves.0 found.leaves.1 next c.in-Ok.ensures.leaves
+    growth-writes c.args.disk.now c.find_room.new.disk c.append_batch.new.disk c.find_room.new.cleaner c.append_batch.new.cleaner c.in_ok-host.host c.args.blocks c.encode.new.self found.leaves.0 found.leaves.1 next c.in-Ok.ensures.leaves
 
 pub returns-in-Ok-clause-clean : goal.returns-in-Ok-clause-clean
 returns-in-Ok-clause-clean g c =
@@ -50,8 +50,8 @@ returns-in-Ok-clause-clean g c =
     let next = grow-next c.args.disk.now c.find_room.new.disk c.in_ok-host.host c.args.blocks c.encode.new.self c.geometry.result c.geometry.ensures keeps found.leaves.1.0 found.ok c.requires.grows c.requires.reserve
     (c.encode.ensures.heading ∙ rw c.next_sequence.ensures at c.start.ensures.heading) (rw (c.start.ensures.heading, c.next_sequence.ensures) at c.in_ok-encode.ensures.bytes) in
     let first = cleaning-stays {V = Filling} c.args.disk.now c.find_room.new.disk c.args.cleaner.now c.find_room.new.cleaner c.in_ok-host.host (omega (arith, keeps.next, keeps.appended)) keeps.geometry found.clean in
-    let last = append-stays c.find_room.new.disk c.append_batch.new.disk c.find_room.new.cleaner c.append_batch.new.self c.in_ok-host.host.zone _ (Ok tt) next.can c.in-Ok.ensures.leaves in
-    stays-cleaning c.args.disk.now c.append_batch.new.disk c.args.cleaner.now c.append_batch.new.self (Ok tt) (stays-join c.args.disk.now c.find_room.new.disk c.append_batch.new.disk c.args.cleaner.now c.find_room.new.cleaner c.append_batch.new.self first last)
+    let last = append-stays c.find_room.new.disk c.append_batch.new.disk c.find_room.new.cleaner c.append_batch.new.cleaner c.in_ok-host.host.zone _ (Ok tt) next.can c.in-Ok.ensures.leaves in
+    stays-cleaning c.args.disk.now c.append_batch.new.disk c.args.cleaner.now c.append_batch.new.cleaner (Ok tt) (stays-join c.args.disk.now c.find_room.new.disk c.append_batch.new.disk c.args.cleaner.now c.find_room.new.cleaner c.append_batch.new.cleaner first last)
 
 pub returns-in-Err-clause-leaves : goal.returns-in-Err-clause-leaves
 returns-in-Err-clause-leaves g c =
@@ -59,7 +59,7 @@ returns-in-Err-clause-leaves g c =
     let next = grow-next c.args.disk.now c.find_room.new.disk c.in_ok-host.host c.args.blocks c.encode.new.self c.geometry.result c.geometry.ensures found.leaves.0 found.leaves.1.0 found.ok c.requires.grows c.requires.reserve
     (c.encode.ensures.heading ∙ rw c.next_sequence.ensures at c.start.ensures.heading) (rw (c.start.ensures.heading, c.next_sequence.ensures) at c.in_ok-encode.ensures.bytes) in
     rw c.fault_of.ensures
-    (growth-halts c.args.disk.now c.find_room.new.disk c.append_batch.new.disk c.find_room.new.cleaner c.append_batch.new.self c.in_ok-host.host c.args.blocks c.encode.new.self c.in-Err.halt found.leaves.0 found.leaves.1 next c.in-Err.ensures.leaves).0
+    (growth-halts c.args.disk.now c.find_room.new.disk c.append_batch.new.disk c.find_room.new.cleaner c.append_batch.new.cleaner c.in_ok-host.host c.args.blocks c.encode.new.self c.in-Err.halt found.leaves.0 found.leaves.1 next c.in-Err.ensures.leaves).0
 
 pub returns-in-Err-clause-cause : goal.returns-in-Err-clause-cause
 returns-in-Err-clause-cause g c =
@@ -67,7 +67,7 @@ returns-in-Err-clause-cause g c =
     let next = grow-next c.args.disk.now c.find_room.new.disk c.in_ok-host.host c.args.blocks c.encode.new.self c.geometry.result c.geometry.ensures found.leaves.0 found.leaves.1.0 found.ok c.requires.grows c.requires.reserve
     (c.encode.ensures.heading ∙ rw c.next_sequence.ensures at c.start.ensures.heading) (rw (c.start.ensures.heading, c.next_sequence.ensures) at c.in_ok-encode.ensures.bytes) in
     rw c.fault_of.ensures
-    (growth-halts c.args.disk.now c.find_room.new.disk c.append_batch.new.disk c.find_room.new.cleaner c.append_batch.new.self c.in_ok-host.host c.args.blocks c.encode.new.self c.in-Err.halt found.leaves.0 found.leaves.1 next c.in-Err.ensures.leaves).1
+    (growth-halts c.args.disk.now c.find_room.new.disk c.append_batch.new.disk c.find_room.new.cleaner c.append_batch.new.cleaner c.in_ok-host.host c.args.blocks c.encode.new.self c.in-Err.halt found.leaves.0 found.leaves.1 next c.in-Err.ensures.leaves).1
 
 pub returns-in-Err-clause-clean : goal.returns-in-Err-clause-clean
 returns-in-Err-clause-clean g c =
@@ -76,5 +76,5 @@ returns-in-Err-clause-clean g c =
     let next = grow-next c.args.disk.now c.find_room.new.disk c.in_ok-host.host c.args.blocks c.encode.new.self c.geometry.result c.geometry.ensures keeps found.leaves.1.0 found.ok c.requires.grows c.requires.reserve
     (c.encode.ensures.heading ∙ rw c.next_sequence.ensures at c.start.ensures.heading) (rw (c.start.ensures.heading, c.next_sequence.ensures) at c.in_ok-encode.ensures.bytes) in
     let first = cleaning-stays {V = Filling} c.args.disk.now c.find_room.new.disk c.args.cleaner.now c.find_room.new.cleaner c.in_ok-host.host (omega (arith, keeps.next, keeps.appended)) keeps.geometry found.clean in
-    let last = append-stays c.find_room.new.disk c.append_batch.new.disk c.find_room.new.cleaner c.append_batch.new.self c.in_ok-host.host.zone _ (Err c.in-Err.halt) next.can c.in-Err.ensures.leaves in
-    stays-cleaning c.args.disk.now c.append_batch.new.disk c.args.cleaner.now c.append_batch.new.self (Err c.fault_of.result) (stays-join c.args.disk.now c.find_room.new.disk c.append_batch.new.disk c.args.cleaner.now c.find_room.new.cleaner c.append_batch.new.self first last)
+    let last = append-stays c.find_room.new.disk c.append_batch.new.disk c.find_room.new.cleaner c.append_batch.new.cleaner c.in_ok-host.host.zone _ (Err c.in-Err.halt) next.can c.in-Err.ensures.leaves in
+    stays-cleaning c.args.disk.now c.append_batch.new.disk c.args.cleaner.now c.append_batch.new.cleaner (Err c.fault_of.result) (stays-join c.args.disk.now c.find_room.new.disk c.append_batch.new.disk c.args.cleaner.now c.find_room.new.cleaner c.append_batch.new.cleaner first last)

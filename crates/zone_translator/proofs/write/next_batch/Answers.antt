@@ -58,7 +58,7 @@ pub returns-in-Ok-clause-leaves : goal.returns-in-Ok-clause-leaves
 returns-in-Ok-clause-leaves g c =
     let found = c.in_ok-host.ensures.leaves in
     let ready = kept-room c.args.disk.now c.find_room.new.disk c.build_batch.new.disk c.find_room.new.cleaner found.0 found.1 c.build_batch.ensures.drive c.build_batch.ensures.kept in
-    writes c.args.disk.now c.build_batch.new.disk c.append_batch.new.disk c.find_room.new.cleaner c.append_batch.new.self c.in_ok-host.host c.args.rest c.in_ok-count.count c.build_batch.new.batch ready.0 ready.1 c.requires.can c.in_ok-count.ensures.ok c.in-Ok.ensures.leaves
+    writes c.args.disk.now c.build_batch.new.disk c.append_batch.new.disk c.find_room.new.cleaner c.append_batch.new.cleaner c.in_ok-host.host c.args.rest c.in_ok-count.count c.build_batch.new.batch ready.0 ready.1 c.requires.can c.in_ok-count.ensures.ok c.in-Ok.ensures.leaves
 
 pub returns-in-Ok-clause-count : goal.returns-in-Ok-clause-count
 returns-in-Ok-clause-count g c =
@@ -77,22 +77,22 @@ pub returns-in-Ok-clause-clean : goal.returns-in-Ok-clause-clean
 returns-in-Ok-clause-clean g c =
     let found = c.in_ok-host.ensures in
     let ready = found-stays c.args.disk.now c.find_room.new.disk c.build_batch.new.disk c.args.cleaner.now c.find_room.new.cleaner c.in_ok-host.host found.leaves found.clean c.build_batch.ensures.drive c.build_batch.ensures.kept in
-    let last = append-stays c.build_batch.new.disk c.append_batch.new.disk c.find_room.new.cleaner c.append_batch.new.self c.in_ok-host.host.zone _ (Ok tt) c.in_ok-count.ensures.ok.can c.in-Ok.ensures.leaves in
-    stays-cleaning c.args.disk.now c.append_batch.new.disk c.args.cleaner.now c.append_batch.new.self (Ok c.in_ok-count.count) (stays-join c.args.disk.now c.build_batch.new.disk c.append_batch.new.disk c.args.cleaner.now c.find_room.new.cleaner c.append_batch.new.self ready last)
+    let last = append-stays c.build_batch.new.disk c.append_batch.new.disk c.find_room.new.cleaner c.append_batch.new.cleaner c.in_ok-host.host.zone _ (Ok tt) c.in_ok-count.ensures.ok.can c.in-Ok.ensures.leaves in
+    stays-cleaning c.args.disk.now c.append_batch.new.disk c.args.cleaner.now c.append_batch.new.cleaner (Ok c.in_ok-count.count) (stays-join c.args.disk.now c.build_batch.new.disk c.append_batch.new.disk c.args.cleaner.now c.find_room.new.cleaner c.append_batch.new.cleaner ready last)
 
 pub returns-in-Err-clause-leaves : goal.returns-in-Err-clause-leaves
 returns-in-Err-clause-leaves g c =
     let found = c.in_ok-host.ensures.leaves in
     let ready = kept-room c.args.disk.now c.find_room.new.disk c.build_batch.new.disk c.find_room.new.cleaner found.0 found.1 c.build_batch.ensures.drive c.build_batch.ensures.kept in
     rw c.fault_of.ensures
-    (write_halts c.args.disk.now c.build_batch.new.disk c.append_batch.new.disk c.find_room.new.cleaner c.append_batch.new.self c.in_ok-host.host c.args.rest c.in_ok-count.count c.build_batch.new.batch c.in-Err.halt ready.0 ready.1 c.in_ok-count.ensures.ok c.in-Err.ensures.leaves).0
+    (write_halts c.args.disk.now c.build_batch.new.disk c.append_batch.new.disk c.find_room.new.cleaner c.append_batch.new.cleaner c.in_ok-host.host c.args.rest c.in_ok-count.count c.build_batch.new.batch c.in-Err.halt ready.0 ready.1 c.in_ok-count.ensures.ok c.in-Err.ensures.leaves).0
 
 pub returns-in-Err-clause-cause : goal.returns-in-Err-clause-cause
 returns-in-Err-clause-cause g c =
     let found = c.in_ok-host.ensures.leaves in
     let ready = kept-room c.args.disk.now c.find_room.new.disk c.build_batch.new.disk c.find_room.new.cleaner found.0 found.1 c.build_batch.ensures.drive c.build_batch.ensures.kept in
     rw c.fault_of.ensures
-    (write_halts c.args.disk.now c.build_batch.new.disk c.append_batch.new.disk c.find_room.new.cleaner c.append_batch.new.self c.in_ok-host.host c.args.rest c.in_ok-count.count c.build_batch.new.batch c.in-Err.halt ready.0 ready.1 c.in_ok-count.ensures.ok c.in-Err.ensures.leaves).1
+    (write_halts c.args.disk.now c.build_batch.new.disk c.append_batch.new.disk c.find_room.new.cleaner c.append_batch.new.cleaner c.in_ok-host.host c.args.rest c.in_ok-count.count c.build_batch.new.batch c.in-Err.halt ready.0 ready.1 c.in_ok-count.ensures.ok c.in-Err.ensures.leaves).1
 
 pub returns-in-Err-clause-cut : goal.returns-in-Err-clause-cut
 returns-in-Err-clause-cut g c =
@@ -101,11 +101,11 @@ returns-in-Err-clause-cut g c =
     let here = same-room c.find_room.new.disk c.build_batch.new.disk c.in_ok-host.host c.build_batch.ensures.drive c.build_batch.ensures.kept c.in_ok-host.ensures.ok in
     cut-appended c.args.disk.now c.build_batch.new.disk c.append_batch.new.disk.drive c.in_ok-host.host c.args.rest c.in_ok-count.count c.build_batch.new.batch ready.0 ready.1.0 here c.requires.can.some
     (rw c.build_batch.ensures.drive c.in_ok-count.ensures.count) c.in_ok-count.ensures.ok.entries
-    (halted-logs c.build_batch.new.disk c.append_batch.new.disk c.find_room.new.cleaner c.append_batch.new.self c.in_ok-host.host.zone _ c.in-Err.halt c.in-Err.ensures.leaves)
+    (halted-logs c.build_batch.new.disk c.append_batch.new.disk c.find_room.new.cleaner c.append_batch.new.cleaner c.in_ok-host.host.zone _ c.in-Err.halt c.in-Err.ensures.leaves)
 
 pub returns-in-Err-clause-clean : goal.returns-in-Err-clause-clean
 returns-in-Err-clause-clean g c =
     let found = c.in_ok-host.ensures in
     let ready = found-stays c.args.disk.now c.find_room.new.disk c.build_batch.new.disk c.args.cleaner.now c.find_room.new.cleaner c.in_ok-host.host found.leaves found.clean c.build_batch.ensures.drive c.build_batch.ensures.kept in
-    let last = append-stays c.build_batch.new.disk c.append_batch.new.disk c.find_room.new.cleaner c.append_batch.new.self c.in_ok-host.host.zone _ (Err c.in-Err.halt) c.in_ok-count.ensures.ok.can c.in-Err.ensures.leaves in
-    stays-cleaning c.args.disk.now c.append_batch.new.disk c.args.cleaner.now c.append_batch.new.self (Err c.fault_of.result) (stays-join c.args.disk.now c.build_batch.new.disk c.append_batch.new.disk c.args.cleaner.now c.find_room.new.cleaner c.append_batch.new.self ready last)
+    let last = append-stays c.build_batch.new.disk c.append_batch.new.disk c.find_room.new.cleaner c.append_batch.new.cleaner c.in_ok-host.host.zone _ (Err c.in-Err.halt) c.in_ok-count.ensures.ok.can c.in-Err.ensures.leaves in
+    stays-cleaning c.args.disk.now c.append_batch.new.disk c.args.cleaner.now c.append_batch.new.cleaner (Err c.fault_of.result) (stays-join c.args.disk.now c.build_batch.new.disk c.append_batch.new.disk c.args.cleaner.now c.find_room.new.cleaner c.append_batch.new.cleaner ready last)

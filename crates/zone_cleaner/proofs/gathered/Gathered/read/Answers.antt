@@ -1,4 +1,5 @@
-use Rattle.std.proofs.Common.{ap, arith, length, ◌∙◌}
+use Rattle.std.proofs.Common.{◌≡◌, ◌+◌, ap, arith, length, ◌∙◌, Some}
+use Rattle.std.proofs.lemmas.List.{length-append}
 use Rattle.zone_cleaner.proofs.EntryLaws.{adds-data, on-ok}
 use Rattle.zone_cleaner.proofs.gathered.Gathered.read.Goals as goal
 
@@ -9,15 +10,26 @@ invariant_of-self-2 g c =
     let size = ap (λ v. v.block_bytes) c.self.view_is ∙ c.in_ok-make_room.ensures.room ∙ ap (λ v. v.block) c.geometry-block_bytes.ensures in
     let entries = rw c.reserve.ensures.entries at (on-ok c.insert.result (c.insert.ensures.succeeds (omega (arith, c.in_ok-reserve.ensures.ok))) c.insert.ensures.entries) in
     let at = ap length c.bytes-position.ensures in
-    let longer = rw (← size) at c.in_ok-fetch.ensures.length in
-    let a = adds-data s.block_bytes c.args.block (length c.bytes-position.result.now) s.records.entries c.insert.new.self.entries s.batch.bytes _ c.fetch.new.batch.bytes c.self.invariant.0 c.self.invariant.1 (rw (← same) at c.requires.above) at entries c.in_ok-fetch.ensures.ok longer in
+    let more = c.in_ok-fetch.ensures.adds in
+    let longer : length c.fetch.new.batch.bytes ≡ length s.batch.bytes + s.block_bytes = omega (arith, ap length more.1, length-append s.batch.bytes more.0, more.2, size) in
+    let a = adds-data s.block_bytes c.args.block (length c.bytes-position.result.now) s.records.entries c.insert.new.self.entries s.batch.bytes more.0 c.fetch.new.batch.bytes c.self.invariant.0 c.self.invariant.1 (rw (← same) at c.requires.may.above) at entries more.1 longer in
     (omega (arith, longer, c.self.invariant.0), a.within, λ none. a.order (c.self.invariant.2 none))
 
-pub returns-clause-ok : goal.returns-clause-ok
-returns-clause-ok g c =
+pub returns : goal.returns
+returns g c =
     let s = c.self.inside in
     let same = ap (λ v. v.records) c.self.view_is ∙ c.in_ok-make_room.ensures.records in
     let size = ap (λ v. v.block_bytes) c.self.view_is ∙ c.in_ok-make_room.ensures.room ∙ ap (λ v. v.block) c.geometry-block_bytes.ensures in
     let entries = rw c.reserve.ensures.entries at (on-ok c.insert.result (c.insert.ensures.succeeds (omega (arith, c.in_ok-reserve.ensures.ok))) c.insert.ensures.entries) in
     let at = ap length c.bytes-position.ensures in
-    rw (← same) (adds-data s.block_bytes c.args.block (length c.bytes-position.result.now) s.records.entries c.insert.new.self.entries s.batch.bytes _ c.fetch.new.batch.bytes c.self.invariant.0 c.self.invariant.1 (rw (← same) at c.requires.above) at entries c.in_ok-fetch.ensures.ok (rw (← size) at c.in_ok-fetch.ensures.length)).shows
+    let above = rw (← same) at c.requires.may.above in
+    let more = c.in_ok-fetch.ensures.adds in
+    let longer : length c.fetch.new.batch.bytes ≡ length s.batch.bytes + s.block_bytes = omega (arith, ap length more.1, length-append s.batch.bytes more.0, more.2, size) in
+    record {
+      asks = c.fetch.ensures.asks;
+      adds = (Some more.0, rw (← same) (adds-data s.block_bytes c.args.block (length c.bytes-position.result.now) s.records.entries c.insert.new.self.entries s.batch.bytes more.0 c.fetch.new.batch.bytes c.self.invariant.0 c.self.invariant.1 above at entries more.1 longer).shows, more.2);
+      failed = tt;
+      reads = c.fetch.ensures.reads;
+      ok = λ clean. rw (← same) (adds-data s.block_bytes c.args.block (length c.bytes-position.result.now) s.records.entries c.insert.new.self.entries s.batch.bytes _ c.fetch.new.batch.bytes c.self.invariant.0 c.self.invariant.1 above at entries (c.in_ok-fetch.ensures.ok clean) longer).shows;
+      err = λ clean. tt;
+    }
