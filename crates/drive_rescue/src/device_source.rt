@@ -46,10 +46,7 @@ fn halt_of(fault: PortFault) -> Halt
 }
 
 /// The zones as a device reports them.
-pub(crate) fn report_of<D: Device>(
-    alloc: Global,
-    device: &mut D,
-) -> Result<Vec<ReportedZone>, Halt>
+pub(crate) fn report_of<D: Device>(alloc: Global, device: &mut D) -> Result<Vec<ReportedZone>, Halt>
     requires range { IsInRange (D.drive device.old).geometry }
     requires lawful { IsLawful (D.drive device.old) }
     ensures ok { IfOk result (λ reported. TellsAll (D.drive device.old).geometry.capacity

@@ -46,11 +46,7 @@ impl Findings {
 
 /// Searches the zones of a drive. `given` is how many blocks its disk has if no header says how many. The drive is
 /// only read.
-pub fn find<S: Source>(
-    alloc: Global,
-    source: &mut S,
-    given: u32,
-) -> Result<Findings, RescueFault>
+pub fn find<S: Source>(alloc: Global, source: &mut S, given: u32) -> Result<Findings, RescueFault>
     ensures ok { IfOk result (IsFound (S.view source.new) given) }
     ensures err { IfErr result (FindFails (S.view source.old) given) }
     ensures kept { KeepsSource (S.view source.old) (S.view source.new) }

@@ -12,7 +12,11 @@ fn path_of(path: &Option<String>) -> &str {
 }
 
 /// One line for people that says what a fault is, without a line feed.
-pub fn explain(alloc: Global, job: &RescueJob, fault: RescueJobFault) -> Result<String, AllocError> {
+pub fn explain(
+    alloc: Global,
+    job: &RescueJob,
+    fault: RescueJobFault,
+) -> Result<String, AllocError> {
     let image = job.image.as_str();
     let new = path_of(&job.to);
     match fault {
@@ -20,7 +24,9 @@ pub fn explain(alloc: Global, job: &RescueJob, fault: RescueJobFault) -> Result<
             String::from_str(alloc, "standard output failed")
         }
         RescueJobFault::Mount(fault) => format!(in alloc; "{new}: {fault}"),
-        RescueJobFault::Disk(_) | RescueJobFault::NewImage(_) => format!(in alloc; "{new}: {fault}"),
+        RescueJobFault::Disk(_) | RescueJobFault::NewImage(_) => format!(in alloc;
+            "{new}: {fault}"
+        ),
         RescueJobFault::Lists(fault) => {
             let lists = path_of(&job.json);
             format!(in alloc; "{lists}: {fault}")

@@ -24,6 +24,7 @@
 //!
 //! # What is not proved
 //!
+//! * That the disk on the new drive has no block after those. `tools/rescue_runs` compares its whole export.
 //! * [`do_rescue`], [`rescue_to_output`] and [`ListFile`] open files, or write to them: no contract says what a file
 //!   holds. The texts of the lists are tested.
 //!

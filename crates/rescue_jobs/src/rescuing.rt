@@ -8,7 +8,7 @@ ghost use Rattle.rescue_jobs.specs.Jobs.{FindsNoDisk, IsFlushed, RescuesInto, Re
 use crate::fault::RescueJobFault;
 use disk_copies::DiskWriter;
 use drive_port::{Device, Halt, Honest};
-use drive_rescue::{Findings, Rescued, RescueFault, Source, find, give};
+use drive_rescue::{Findings, RescueFault, Rescued, Source, find, give};
 use job_drives::mount_served;
 use std::alloc::Global;
 use std::io::{BufWriter, Write};
