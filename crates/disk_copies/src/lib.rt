@@ -43,6 +43,7 @@
 //!
 //! # What is not proved
 //!
+//! * That a [`DiskWriter`] takes bytes at all while its disk has room, and which refusal it keeps.
 //! * That `Input` and `Output` come only if the reader or the writer failed.
 //! * That `sparse` trims blocks of zeros. `tools/real_copies` copies real files, dense and sparse, compares their
 //!   bytes, and counts the trimmed blocks.

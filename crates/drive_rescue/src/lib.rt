@@ -2,8 +2,8 @@
 //!
 //! ```text
 //! let mut source = DeviceSource::new(device);
-//! let rescued = rescue(alloc, &mut source, 9, &mut writer)?; // the blocks of the disk, as flat bytes; or in two steps:
-//! let findings = find(alloc, &mut source, 9)?;
+//! let rescued = rescue(alloc, &mut source, 9, &mut writer)?; // the blocks of the disk, as flat bytes
+//! let findings = find(alloc, &mut source, 9)?;               // or in two steps
 //! let rescued = give(alloc, &mut source, &findings, &mut writer)?;
 //! rescued.blocks; // how many they are: 9 if no header says a size
 //! rescued.lost;   // ranges of blocks whose newest data cannot be read, given as zeros
@@ -52,15 +52,16 @@
 //!
 //! # What is not proved
 //!
+//! * That a halt, or an unreadable block of a [`WaySource`], has a cause: such a source may call any block unreadable.
 //! * That an unreadable block is tried once more: the contract of a source lets it answer so at once. The rows of
 //!   `rescue_rows` show it.
 //! * How much memory is taken: a slot of 24 bytes for each block up to the highest that a batch names.
 //! * The number of Reads: one for each header and each lost block, one for each block of the disk that has data, and
 //!   one for each zero block at the end of a Read Only zone. An unreadable block takes one more each time.
 //!
-//! A device is a source by [`DeviceSource`]; its Reads do not fail alone. [`WaySource`] is one over a drive behind a way
-//! that passes commands through: there a Read that the drive refuses is a lost block. [`WithDamage`] makes chosen blocks of a
-//! source unreadable, for tests.
+//! A device is a source by [`DeviceSource`]; its Reads do not fail alone. [`WaySource`] is a drive to which a way passes
+//! single commands: a block that the drive does not give is lost there. [`WithDamage`] makes chosen blocks of a source
+//! unreadable, for tests.
 //!
 //! Tests: `rescue_rows`.
 #![tactic(auto)]

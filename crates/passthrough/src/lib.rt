@@ -36,7 +36,7 @@
 //! * It stops for ever at an answer that is not Success, at an Append with another address than the table says, and at
 //!   a report with a zone in another state, at another pointer, or of another shape (`specs/Showing.antt`). Then it
 //!   sends nothing.
-//! * [`PassthroughDrive::try_read`] goes on after a Read that the drive refused: it is for a drive that is broken in part.
+//! * [`PassthroughDrive::try_read`] goes on after a Read that the drive refused. A rescue reads so.
 //! * It sends only what the contract of a way asks for: Reads of written blocks, Appends and actions that fit the
 //!   table, and reports of no more than one transfer. A block that is not written is zeros, whatever the drive says.
 //! * A Flush looks before it is answered. Once the drive has done it, the device asks for a report of each zone that is
@@ -69,6 +69,7 @@
 //! * That the device asks for a report of a zone after a Finish and a Reset, and how many commands are sent with
 //!   [`ReadAhead`]: `call_tests` counts them.
 //! * Which fault of a first report is named.
+//! * That [`PassthroughDrive::try_read`] tells a Read as not done only if the drive did not do it.
 //! * A Flush that a drive refused, and that a way told as done, is refused by no contract: a drive of this profile has
 //!   no volatile write cache.
 //! * What a loss of power leaves of the drive. Of a way it is only known that all that was appended is flushed. The

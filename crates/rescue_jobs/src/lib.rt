@@ -19,11 +19,13 @@
 //!   or a failed writer a beginning of it (`RescuesNot`).
 //! * [`rescue_into`] mounts the new drive as a disk of as many blocks, and writes to it what a rescue gives: afterwards
 //!   its first blocks show these bytes. It is flushed, and can be mounted again (`RescuesInto`).
-//! * `NoSize` comes where no header that was found says a size and no number above 0 was given. Nothing is written then.
+//! * `NoSize` comes where no header that was found says a size, and no number above 0 was given. Then nothing is
+//!   written.
 //! * The broken drive is only read.
 //!
 //! # What is not proved
 //!
+//! * Why [`rescue_into`] fails: it has no clause of its faults.
 //! * That the disk on the new drive has no block after those. `tools/rescue_runs` compares its whole export.
 //! * [`do_rescue`], [`rescue_to_output`] and [`ListFile`] open files, or write to them: no contract says what a file
 //!   holds. The texts of the lists are tested.
