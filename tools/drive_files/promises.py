@@ -55,6 +55,13 @@ class Promises:
             found.append(self.arrays[-1])
         return found[-1:] if self.ends_with_flush and self.trace.ended[event] == 0 else found
 
+    def since_flush(self, event):
+        """How many calls were done at the last flush before an event, if one was answered, and at most after it."""
+        if event < 0:
+            return None, 0
+        past = [done for done in self.flushes if done <= self.answered(event)]
+        return past[-1] if past else None, self.received(event)
+
     def after_kill(self, event):
         """How many calls are done at least after a kill that follows an event, and how many at most."""
         return self.answered(event), self.received(event)

@@ -90,6 +90,8 @@ WAYS = {
     "other bytes": left_other,
 }
 CHANCES = (1, 1, 3, 4, 4, 5, 5, 2)
+# Those in which each sector is whole, and of one moment.
+WHOLE = ("all", "none", "the first ones", "sectors of different ages")
 
 
 class File:

@@ -1,5 +1,5 @@
 -- No zone is in a place where the last flush has more of its blocks.
-use Rattle.std.proofs.Common.{◌≡◌, ◌≢◌, ◌⊎◌, ℕ, zero, suc, ◌+◌, ◌<◌, ◌≤◌, ◌^◌, Bool, true, false, cond, eqb, leb, not, ◌||◌, List, [], ◌∷◌, length, map, set, get_or, take, Some, None, Option, Result, Ok, Err, refl, ap, ◌∙◌, inl, inr, arith}
+use Rattle.std.proofs.Common.{◌≡◌, ◌≢◌, ◌⊎◌, ℕ, zero, suc, ◌+◌, ◌<◌, ◌≤◌, ◌^◌, Bool, true, false, cond, eqb, leb, not, ◌||◌, List, [], ◌∷◌, length, map, set, get_or, take, Some, None, Option, Result, Ok, Err, refl, sym, subst, ap, ◌∙◌, inl, inr, arith}
 use Rattle.std.proofs.lemmas.Bool.{cases_eq, eqb-true, le-leb, leb-true}
 use Rattle.std.proofs.lemmas.List.{get_or-map, get_or_default, get_or-set_other, get_or-set_same, length-map, length-set}
 use Rattle.nvme_wire.specs.declared.command.Action.{Action}
@@ -9,12 +9,13 @@ use Rattle.nvme_wire.specs.declared.zone_state.ZoneState.{ZoneState}
 use Rattle.zone_states.specs.declared.geometry.Geometry.{Geometry}
 use Rattle.zone_states.specs.Transition.{state_after}
 use Rattle.drive_port.specs.Step.{is_selected, one_if}
-use Rattle.file_drive.specs.InFile.{AreApart, AreWithin, entry_at, flushed_at, is_apart}
+use Rattle.file_drive.specs.InFile.{AreApart, AreSummed, AreWithin, entry_at, flushed_at, is_apart, is_summed}
 use Rattle.file_drive.specs.Tables.{acted, entry_after, entry_of, next_entries, next_entry, place_of, word_of}
 use Rattle.file_drive.specs.declared.entry.Entry.{Entry}
 use Rattle.file_drive.proofs.DataLaws.{within-at}
 use Rattle.file_drive.proofs.PlaceLaws.{places-apart}
 use Rattle.file_drive.proofs.ServedLaws.{word-says}
+use Rattle.file_drive.proofs.SumLaws.{acted-summed}
 use Rattle.file_drive.proofs.StoreLaws.{acted-few, no_entry}
 
 -- ---- one zone
@@ -130,6 +131,21 @@ pub apart-next : (action : Option Action) (words : List ℕ) (entries : List Ent
 apart-next action words entries same apart number low =
     let low' : number < length entries = omega (arith, low, length-next action words entries) in
     rw (next-at action words entries number no_entry (omega (arith, low', same)) low') (next-apart action (flushed_at words number) (entry_at entries number) (apart number low'))
+
+next-summed : (g : Geometry) (file : List ℕ) (number : ℕ) (action : Option Action) (last entry : Entry) → is_summed g file number last entry ≡ true → is_summed g file number last (next_entry action last entry) ≡ true
+next-summed g file number None last entry was = was
+next-summed g file number (Some action) last entry was = by (is_selected action entry.state)
+  where
+    by : (selected : Bool) → is_summed g file number last (cond selected (acted action last entry) entry) ≡ true
+    by true = acted-summed g file number action last entry was
+    by false = was
+
+pub summed-next : (g : Geometry) (file : List ℕ) (action : Option Action) (words : List ℕ) (entries : List Entry) → length words ≡ length entries → length entries ≡ g.zones → AreWithin g entries
+    → AreSummed g file words entries → AreSummed g file words (next_entries action words entries)
+summed-next g file action words entries same count within was number low few =
+    let low' : number < length entries = omega (arith, low, count) in
+    subst (λ (entry : Entry). is_summed g file number (flushed_at words number) entry ≡ true) (sym (next-at action words entries number no_entry (omega (arith, low', same)) low'))
+    (next-summed g file number action (flushed_at words number) (entry_at entries number) (was number low (within-at g entries number no_entry within low')))
 
 -- of one zone something else is known
 pub apart-set : (words : List ℕ) (entries : List Entry) (index : ℕ) (entry : Entry) → AreApart words entries → is_apart (flushed_at words index) entry ≡ true → AreApart words (set entries index entry)

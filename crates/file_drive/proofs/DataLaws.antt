@@ -8,12 +8,13 @@ use Rattle.zone_states.specs.declared.geometry.Geometry.{Geometry}
 use Rattle.file_bytes.specs.Changes.{SameBeside}
 use Rattle.file_drive.specs.Layout.{at_table, at_place, file_length, part, place_room}
 use Rattle.file_drive.specs.Tables.{entry_of, place_of, zones_in}
-use Rattle.file_drive.specs.InFile.{AreWithin, IsServed, KeepsOthers, KeepsPromise, Words, other_table, promised_zones, spare_table}
+use Rattle.file_drive.specs.InFile.{AreWithin, IsServed, KeepsOthers, KeepsPromise, Words, entry_at, other_table, promised_zones, spare_table}
 use Rattle.file_drive.specs.declared.boot.Boot.{Boot}
 use Rattle.file_drive.specs.declared.entry.Entry.{Entry}
 use Rattle.file_drive.proofs.PartLaws.{Apart, part-beside}
 use Rattle.file_drive.proofs.PlaceLaws.{place-low, zone-ends, zones-after}
 use Rattle.file_drive.proofs.ServedLaws.{flushed-few, length-safe, live-few, promised-beside, served-beside}
+use Rattle.file_drive.proofs.SumLaws.{summed-parts}
 
 -- zones whose parts are the same
 pub zones-by-parts : (g : Geometry) (old new : List ℕ) (number : ℕ) (entries : List Entry)
@@ -81,13 +82,17 @@ module _ (g : Geometry) (place first n : ℕ) (below : place < 2 * g.zones) (roo
       (clear : IsClear (map entry_of words.safe))
       (beside : SameBeside (at_place g place + first * g.block) n (seen old) (seen new))
       (follows : Follows (SameBeside (at_place g place + first * g.block) n) (may_leave old) (may_leave new)) where
-    pub data-served : IsServed g boot (seen new) entries live flushed words
-    data-served =
+    pub data-served : length entries ≡ g.zones → IsClear entries → IsServed g boot (seen new) entries live flushed words
+    data-served count free =
         let few = live-few g (seen old) live was.live_is in
         let most = flushed-few g (seen old) flushed was.flushed_is in
         served-beside g (at_place g place + first * g.block) n (seen old) (seen new) entries live flushed words beside (omega arith)
         (inl (omega arith)) (inl (omega arith)) (tables-before live (omega (arith, few))) (tables-before (spare_table live) (omega arith))
-        (tables-before flushed most.1) (tables-before (other_table flushed) (omega (arith, most.0))) was
+        (tables-before flushed most.1) (tables-before (other_table flushed) (omega (arith, most.0)))
+        (summed-parts g (seen old) (seen new) words.safe entries (λ number low few.
+        data-keeps (seen old) (seen new) beside (place_of number (entry_at entries number)) (entry_at entries number).written (place-low number g.zones (entry_at entries number) low) few
+        (free number _ (omega (arith, low, count)))) was.summed)
+        was
 
     safe-count : length (map entry_of words.safe) ≡ g.zones
     safe-count = length-map words.safe entry_of ∙ length-safe g (seen old) entries live flushed words was

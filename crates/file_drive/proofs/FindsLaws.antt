@@ -1,5 +1,5 @@
 -- A file of a drive is opened.
-use Rattle.std.proofs.Common.{◌≡◌, ◌⊎◌, ℕ, zero, suc, ◌+◌, ◌/◌, ◌%◌, ◌<◌, ◌≤◌, ◌^◌, Bool, true, false, cond, eqb, List, [], ◌∷◌, length, map, get_or, slice_index, drop, None, refl, sym, ap, ◌∙◌, subst, inl, inr, arith}
+use Rattle.std.proofs.Common.{◌≡◌, ℕ, ◌+◌, ◌/◌, ◌%◌, ◌<◌, ◌≤◌, ◌^◌, Bool, true, false, cond, eqb, ◌&&◌, List, [], ◌∷◌, length, map, slice_index, drop, None, refl, sym, ap, ◌∙◌, subst, inl, inr, arith}
 use Rattle.std.specs.Prelude.{not}
 use Rattle.std.specs.List.{AllByRecursion, count_by}
 use Rattle.std.proofs.Math.Nat.{mul-div_cancel}
@@ -18,20 +18,20 @@ use Rattle.zone_drive.specs.Held.{restarted_stored}
 use Rattle.zone_drive.proofs.CountLaws.{count-cons}
 use Rattle.drive_port.proofs.ClosingLaws.{active-restarted, may_hold-restarted, open-restarted}
 use Rattle.zone_drive.proofs.ZonesLaws.{block-some, may_hold-is, may_hold-true}
-use Rattle.file_drive.specs.Faults.{IsApartFault, AreTableFaults, IsHeadFault, IsOpenFault, IsReadFault, IsTableFault, narrow, shape_in}
+use Rattle.file_drive.specs.Faults.{AreTableFaults, IsHeadFault, IsOpenFault, IsReadFault, IsTableFault, narrow, shape_in}
 use Rattle.file_drive.specs.Finds.{Finds}
 use Rattle.file_drive.specs.Head.{at_second, boot_in, is_known, is_of_boot, magic, shape_words}
 use Rattle.file_drive.specs.InFile.{AreApart, AreWithin, AreWords, CanOpen, IsServed, Words}
 use Rattle.file_drive.specs.Layout.{at_table, file_length, word_in}
-use Rattle.file_drive.specs.Opening.{AreFew, Holds, IsTable, IsWord, opened_table, opened_zones}
+use Rattle.file_drive.specs.Opening.{AreFew, Holds, IsTable, IsWord, opened_table, opened_zones, proves_live}
 use Rattle.file_drive.specs.Tables.{entry_of, flushed_table, flushed_zones, live_table, word_of, words_in, zone_in, zones_by, zones_in}
 use Rattle.file_drive.specs.declared.boot.Boot.{Boot}
 use Rattle.file_drive.specs.declared.entry.Entry.{Entry}
 use Rattle.file_drive.specs.declared.fault.OpenFault.{OpenFault}
 use Rattle.file_drive.specs.declared.fault.OpenFault.TheVariants as faults
-use Rattle.file_drive.proofs.ApartLaws.{apart-again, apart-self}
 use Rattle.file_drive.proofs.OpenLaws.{zones-few}
 use Rattle.file_drive.proofs.PartLaws.{length-words}
+use Rattle.file_drive.proofs.ProveLaws.{all-at, served-proves}
 use Rattle.file_drive.proofs.ServedLaws.{are-words, small-capacity, word-says, words-say}
 use Rattle.file_drive.proofs.StoreLaws.{length-written, no_entry}
 
@@ -92,12 +92,6 @@ every-hold g file number (entry ∷ entries) some long few within lawful =
       every-hold g file (number + 1) entries some long (omega (arith, few)) within.1 lawful.1,
     )
 
--- what holds of all holds of each
-all-at : {X : Type 0} (P : X → Type 0) (xs : List X) (i : ℕ) (d : X) → AllByRecursion P xs → i < length xs → P (get_or xs i d)
-all-at P [] i d all low = absurd (omega (arith, low))
-all-at P (x ∷ xs) zero d all low = all.0
-all-at P (x ∷ xs) (suc i) d all low = all-at P xs i d all.1 (omega (arith, low))
-
 -- ---- after a restart
 
 hold-restarted : (state : ZoneState) (capacity written : ℕ) → may_hold state capacity written ≡ true → may_hold (restarted_state state) capacity written ≡ true
@@ -139,9 +133,6 @@ module _ (g : Geometry) (small : g.capacity < 2 ^ 32) where
 module _ (g : Geometry) (boot : Boot) (file : List ℕ) (in_range : IsInRange g) (long : length file ≡ file_length g) (head : words_in file 0 8 ≡ shape_words g) where
   abbrev flushed : List ℕ
   flushed = words_in file (at_table g (flushed_table file)) g.zones
-
-  abbrev opened : List ℕ
-  opened = words_in file (at_table g (opened_table boot file)) g.zones
 
   word-is : word_in file 0 ≡ magic
   word-is = ap (λ (words : List ℕ). slice_index words 0) head
@@ -194,7 +185,7 @@ module _ (g : Geometry) (boot : Boot) (file : List ℕ) (in_range : IsInRange g)
   no-head-fault (faults.Input error) is = tt
   no-head-fault faults.OutOfMemory is = tt
 
-  module _ (last : IsTable g flushed) (now : IsTable g opened) (apart : AreApart flushed (map entry_of opened)) where
+  module _ (last : IsTable g flushed) where
     no-table : (words : List ℕ) → IsTable g words → (fault : OpenFault) → IsTableFault g words fault → IsReadFault fault
     no-table words table faults.NotADrive none = none
     no-table words table faults.Version none = none
@@ -210,29 +201,11 @@ module _ (g : Geometry) (boot : Boot) (file : List ℕ) (in_range : IsInRange g)
     no-table words table (faults.Unsynced error) none = none
     no-table words table faults.OutOfMemory none = tt
 
-    no-apart : (fault : OpenFault) → IsApartFault flushed (map entry_of opened) fault → IsReadFault fault
-    no-apart faults.NotADrive none = none
-    no-apart faults.Version none = none
-    no-apart (faults.Geometry part) none = none
-    no-apart faults.Short none = none
-    no-apart faults.Long none = none
-    no-apart (faults.Table number) past = absurd (past.1 (apart number past.0))
-    no-apart faults.Limits none = none
-    no-apart (faults.Input error) none = tt
-    no-apart (faults.Unsynced error) none = none
-    no-apart faults.OutOfMemory none = tt
-
-    no-tables : (fault : OpenFault) → AreTableFaults boot file fault → IsReadFault fault
+    no-tables : (fault : OpenFault) → AreTableFaults file fault → IsReadFault fault
     no-tables fault (other, is, past) =
-        elim (subst (λ (s : Geometry). IsTableFault s (words_in file (at_table s (flushed_table file)) s.zones) fault
-        ⊎ IsTableFault s (words_in file (at_table s (opened_table boot file)) s.zones) fault
-        ⊎ IsApartFault (words_in file (at_table s (flushed_table file)) s.zones) (map entry_of (words_in file (at_table s (opened_table boot file)) s.zones)) fault)
-        (shape-is other g (sym is ∙ head)) past) [
-          | inl flush ↦ no-table flushed last fault flush
-          | inr rest ↦ elim rest [ inl counts ↦ no-table opened now fault counts | inr near ↦ no-apart fault near ]
-        ]
+        no-table flushed last fault (subst (λ (s : Geometry). IsTableFault s (words_in file (at_table s (flushed_table file)) s.zones) fault) (shape-is other g (sym is ∙ head)) past)
 
-    opens : (fault : OpenFault) → IsOpenFault boot file fault → IsReadFault fault
+    opens : (fault : OpenFault) → IsOpenFault file fault → IsReadFault fault
     opens faults.NotADrive is = no-head-fault faults.NotADrive is
     opens faults.Version is = no-head-fault faults.Version is
     opens (faults.Geometry part) is = no-head-fault (faults.Geometry part) is
@@ -292,22 +265,35 @@ pub kill-finds : (g : Geometry) (boot : Boot) (file : List ℕ) (entries : List 
     → Finds g boot file (map restarted_stored (zones_in g file 0 entries))
 kill-finds g boot file entries live flushed words served in_range count within safe apart known zones promised =
     let small = small-capacity g in_range in
-    let counts : opened_table boot file ≡ live = ap (λ (b : Bool). cond b (live_table file) (flushed_table file)) (of-boot boot file served.boot_is known) ∙ served.live_is in
-    let now : words_in file (at_table g (opened_table boot file)) g.zones ≡ map word_of entries = ap (λ (t : ℕ). words_in file (at_table g t) g.zones) counts ∙ served.live_words in
-    let last : words_in file (at_table g (flushed_table file)) g.zones ≡ words.safe = rw served.flushed_is served.safe_words in
     let table = entries-table g file entries in_range served.long count within zones in
+    let proves = served-proves g file entries live flushed words served small count within apart table in
+    let both : (is_of_boot boot file && proves_live g file) ≡ true = rw (of-boot boot file served.boot_is known, proves) refl in
+    let counts : opened_table g boot file ≡ live = ap (λ (b : Bool). cond b (live_table file) (flushed_table file)) both ∙ served.live_is in
+    let now : words_in file (at_table g (opened_table g boot file)) g.zones ≡ map word_of entries = ap (λ (t : ℕ). words_in file (at_table g t) g.zones) counts ∙ served.live_words in
+    let last : words_in file (at_table g (flushed_table file)) g.zones ≡ words.safe = rw served.flushed_is served.safe_words in
     let flush = zones-table g file (words_in file (at_table g (flushed_table file)) g.zones) in_range served.long (length-words file (at_table g (flushed_table file)) g.zones)
     (subst (λ (ws : List ℕ). AreWords g ws) (sym last) safe) promised in
-    let found = finds g boot file in_range served.long served.head flush (subst (λ (ws : List ℕ). IsTable g ws) (sym now) table) (rw (last, now) (apart-again g words.safe entries small within apart)) in
+    let found = finds g boot file in_range served.long served.head flush in
     record { opens = found.opens; shape = found.shape; zones_are = ap (λ (ws : List ℕ). zones_in g file 0 (map entry_of ws)) now ∙ words-say g file 0 entries small within }
 
 -- what a loss of power left, in another boot
 pub power-finds : (g : Geometry) (boot : Boot) (bytes : List ℕ) → IsInRange g → CanOpen g bytes → is_of_boot boot bytes ≡ false → AreZones g (flushed_zones g bytes)
     → Finds g boot bytes (flushed_zones g bytes)
 power-finds g boot bytes in_range can another zones =
-    let which : opened_table boot bytes ≡ flushed_table bytes = ap (λ (b : Bool). cond b (live_table bytes) (flushed_table bytes)) another in
+    let which : opened_table g boot bytes ≡ flushed_table bytes = ap (λ (b : Bool). cond (b && proves_live g bytes) (live_table bytes) (flushed_table bytes)) another in
     let words = words_in bytes (at_table g (flushed_table bytes)) g.zones in
     let table = zones-table g bytes words in_range can.long (length-words bytes (at_table g (flushed_table bytes)) g.zones) can.words zones in
-    let found = finds g boot bytes in_range can.long can.head table (subst (λ (t : ℕ). IsTable g (words_in bytes (at_table g t) g.zones)) (sym which) table)
-    (subst (λ (t : ℕ). AreApart words (map entry_of (words_in bytes (at_table g t) g.zones))) (sym which) (apart-self words)) in
+    let found = finds g boot bytes in_range can.long can.head table in
     record { opens = found.opens; shape = found.shape; zones_are = ap (λ (t : ℕ). zones_by g bytes t) which }
+
+-- what a loss of power left, in any boot
+pub left-finds : (g : Geometry) (boot : Boot) (bytes : List ℕ) → IsInRange g → CanOpen g bytes → AreZones g (flushed_zones g bytes) → Finds g boot bytes (opened_zones g boot bytes)
+left-finds g boot bytes in_range can zones =
+    let words = words_in bytes (at_table g (flushed_table bytes)) g.zones in
+    finds g boot bytes in_range can.long can.head
+    (zones-table g bytes words in_range can.long (length-words bytes (at_table g (flushed_table bytes)) g.zones) can.words zones)
+
+-- where the file does not prove its live table, those are the zones of the last flush
+pub set-back-zones : (g : Geometry) (boot : Boot) (bytes : List ℕ) → proves_live g bytes ≡ false → opened_zones g boot bytes ≡ flushed_zones g bytes
+set-back-zones g boot bytes unproved =
+    ap (λ (b : Bool). zones_by g bytes (cond b (live_table bytes) (flushed_table bytes))) (and_right (is_of_boot boot bytes) (proves_live g bytes) unproved)

@@ -1,5 +1,5 @@
 -- A file of zeros is made a drive.
-use Rattle.std.proofs.Common.{◌≡◌, ℕ, zero, suc, ◌+◌, ◌-◌, ◌*◌, ◌%◌, ◌<◌, ◌≤◌, Bool, true, false, cond, List, [], ◌∷◌, ◌++◌, length, map, replicate, take, slice_index, refl, sym, ap, ◌∙◌, subst, inl, inr, arith}
+use Rattle.std.proofs.Common.{◌≡◌, ℕ, zero, suc, ◌+◌, ◌-◌, ◌*◌, ◌%◌, ◌<◌, ◌≤◌, Bool, true, false, cond, ◌&&◌, List, [], ◌∷◌, ◌++◌, length, map, replicate, take, slice_index, refl, sym, ap, ◌∙◌, subst, inl, inr, arith}
 use Rattle.std.specs.List.{AllByRecursion, count_by}
 use Rattle.std.proofs.lemmas.Bool.{cases_lt}
 use Rattle.std.proofs.lemmas.Grind.{same_number_lists}
@@ -16,11 +16,10 @@ use Rattle.file_drive.specs.Finds.{Finds, empty_zones}
 use Rattle.file_drive.specs.Head.{is_of_boot, shape_words}
 use Rattle.file_drive.specs.InFile.{AreWithin}
 use Rattle.file_drive.specs.Layout.{at_flushed, at_live, at_table, file_length, part, word_in}
-use Rattle.file_drive.specs.Opening.{AreFew, Holds, IsTable, opened_table}
+use Rattle.file_drive.specs.Opening.{AreFew, Holds, IsTable, opened_table, proves_live}
 use Rattle.file_drive.specs.Tables.{entry_of, flushed_table, live_table, word_of, words_in, zones_in}
 use Rattle.file_drive.specs.declared.boot.Boot.{Boot}
 use Rattle.file_drive.specs.declared.entry.Entry.{Entry}
-use Rattle.file_drive.proofs.ApartLaws.{apart-self}
 use Rattle.file_drive.proofs.FindsLaws.{every-word, finds}
 use Rattle.file_drive.proofs.PartLaws.{word-beside, words-beside, words-next}
 use Rattle.file_drive.proofs.PlaceLaws.{zones-after}
@@ -116,10 +115,10 @@ fresh-finds g boot file in_range beside head =
     let flushed : flushed_table file ≡ 2 = ap (λ (w : ℕ). 2 + w % 2) (word-beside 0 64 at_flushed (zeros n) file beside (inr (omega arith)) ∙ word-zero n at_flushed (omega (arith, zones-after g 0 (omega arith)))) in
     let table : (t : ℕ) → t < 4 → words_in file (at_table g t) g.zones ≡ zeros g.zones =
     λ t few. words-beside 0 64 (at_table g t) g.zones (zeros n) file beside (inr (omega arith)) ∙ words-zero n (at_table g t) g.zones (omega (arith, zones-after g t few)) in
-    let low : opened_table boot file < 4 = by (is_of_boot boot file) live flushed in
+    let low : opened_table g boot file < 4 = by (is_of_boot boot file && proves_live g file) live flushed in
     let last : words_in file (at_table g (flushed_table file)) g.zones ≡ zeros g.zones = table (flushed_table file) (omega (arith, flushed)) in
-    let now = table (opened_table boot file) low in
-    let found = finds g boot file in_range long head (subst (λ (ws : List ℕ). IsTable g ws) (sym last) (zero-table g g.zones)) (subst (λ (ws : List ℕ). IsTable g ws) (sym now) (zero-table g g.zones)) (rw (last, now) (apart-self (zeros g.zones))) in
+    let now = table (opened_table g boot file) low in
+    let found = finds g boot file in_range long head (subst (λ (ws : List ℕ). IsTable g ws) (sym last) (zero-table g g.zones)) in
     record { opens = found.opens; shape = found.shape; zones_are = ap (λ (ws : List ℕ). zones_in g file 0 (map entry_of ws)) now ∙ zero-zones g file 0 g.zones }
   where
     by : (same : Bool) → live_table file ≡ 0 → flushed_table file ≡ 2 → cond same (live_table file) (flushed_table file) < 4

@@ -1,7 +1,8 @@
 -- What a change of the file keeps, while a drive is served from it.
-use Rattle.std.proofs.Common.{◌≡◌, ℕ, ◌+◌, ◌*◌, ◌<◌, ◌≤◌, Bool, false, true, List, length, map, get_or, sym, subst, ap, ◌∙◌, arith}
+use Rattle.std.proofs.Common.{◌≡◌, ℕ, ◌+◌, ◌*◌, ◌<◌, ◌≤◌, Bool, false, true, List, length, map, get_or, sym, subst, ap, ◌∙◌, inl, inr, arith}
 use Rattle.std.proofs.lemmas.Grind.{get_or_default_zero}
-use Rattle.std.proofs.lemmas.List.{get_or-map, length-map}
+use Rattle.std.proofs.lemmas.Bool.{cases_eq}
+use Rattle.std.proofs.lemmas.List.{get_or-map, get_or_default, length-map}
 use Rattle.sqlite_disk.specs.Disk.{Follows}
 use Rattle.nvme_wire.specs.declared.zone_state.ZoneState.TheVariants.{Empty}
 use Rattle.zone_states.specs.Stored.{StoredZone}
@@ -18,7 +19,7 @@ use Rattle.file_drive.specs.declared.zones.FileZones.TheView.{invariant}
 use Rattle.file_drive.proofs.ApartLaws.{apart-clear, free-clear}
 use Rattle.file_drive.proofs.DataLaws.{IsClear, data-keeps, data-promise, data-promises, data-served, data-within, data-zones, within-at}
 use Rattle.file_drive.proofs.OutLaws.{same-owned, still-owned}
-use Rattle.file_drive.proofs.PlaceLaws.{place-low, zone-ends}
+use Rattle.file_drive.proofs.PlaceLaws.{place-low, places-apart, zone-ends}
 use Rattle.file_drive.proofs.ServedLaws.{durable-same, durable-stays, length-safe, other-promise, other-promises, other-same, promised-durable, put-promise, put-promises, put-same, served-other, served-spare, spare-promise, spare-promises, spare-same, switch-promise, switch-promises}
 use Rattle.file_drive.proofs.StoreLaws.{entry-read, no_entry, stored-length}
 
@@ -102,8 +103,8 @@ module _ {F S : Type 0} (f : FileGhosts F) (s : SystemGhosts S) (z : Inside F S)
         (is : at ≡ at_place z.geometry place + first * z.geometry.block) (clear : IsClear z.geometry place first n below room (map entry_of z.safe.items))
         (beside : SameBeside at n (f.seen z.file) (f.seen new)) (follows : Follows (SameBeside at n) (f.may_leave z.file) (f.may_leave new)) where
       -- the tables say the same as before
-      pub place-served : IsServed z.geometry z.named (f.seen new) z.entries.items z.live z.flushed words
-      place-served = data-served z.geometry place first n below room f.seen f.may_leave z.file new z.entries.items z.live z.flushed words held.4 held.5.within (held.6 going).1 clear (rw is at beside) (rw is at follows)
+      pub place-served : IsClear z.geometry place first n below room z.entries.items → IsServed z.geometry z.named (f.seen new) z.entries.items z.live z.flushed words
+      place-served free = data-served z.geometry place first n below room f.seen f.may_leave z.file new z.entries.items z.live z.flushed words held.4 held.5.within (held.6 going).1 clear (rw is at beside) (rw is at follows) held.1 free
 
       -- and so does the last flush
       pub place-kept : Kept f z new z.other.items
@@ -204,6 +205,13 @@ module _ {F S : Type 0} (f : FileGhosts F) (s : SystemGhosts S) (z : Inside F S)
     pub behind-within : at + n ≤ length (f.seen z.file)
     behind-within = rw (behind, held.4.long) (data-within z.geometry place first n below room)
 
+    -- no zone has a block there
+    behind-clear : IsClear z.geometry place first n below room z.entries.items
+    behind-clear i d inside = elim (cases_eq i index) [
+      | inl same ↦ inr (rw same (omega (arith, ap (λ (e : Entry). e.written) (get_or_default z.entries.items index d no_entry low))))
+      | inr away ↦ inl (places-apart i index (get_or z.entries.items i d) (entry_at z.entries.items index) away)
+    ]
+
     module _ (new : F) (beside : SameBeside at n (f.seen z.file) (f.seen new)) where
       -- all other blocks are the same
       pub behind-others : KeepsOthers z.geometry place first (f.seen z.file) (f.seen new)
@@ -212,7 +220,7 @@ module _ {F S : Type 0} (f : FileGhosts F) (s : SystemGhosts S) (z : Inside F S)
       module _ (going : z.failed ≡ false) (follows : Follows (SameBeside at n) (f.may_leave z.file) (f.may_leave new)) where
         -- the tables say the same as before
         pub behind-served : IsServed z.geometry z.named (f.seen new) z.entries.items z.live z.flushed words
-        behind-served = place-served going new place first n at below room behind (apart-clear z.safe.items z.entries.items index held.8 low) beside follows
+        behind-served = place-served going new place first n at below room behind (apart-clear z.safe.items z.entries.items index held.8 low) beside follows behind-clear
 
         -- and so does the last flush
         pub behind-kept : Kept f z new z.other.items
@@ -221,10 +229,10 @@ module _ {F S : Type 0} (f : FileGhosts F) (s : SystemGhosts S) (z : Inside F S)
   -- ---- the room of a place is given back, where no zone has a block
 
   module _ (index n at : ℕ) (second : Bool) (low : index < length z.entries.items) (all : n ≡ z.geometry.capacity * z.geometry.block)
-      (is_at : at ≡ at_place z.geometry (place_of index (record { state = Empty; written = 0; second = second }))) where
+      (is_at : at ≡ at_place z.geometry (place_of index (record { state = Empty; written = 0; second = second; sum = 0 }))) where
     -- the zone in that place, with no block
     abbrev free : Entry
-    free = record { state = Empty; written = 0; second = second }
+    free = record { state = Empty; written = 0; second = second; sum = 0 }
 
     -- the place begins there
     begins : at ≡ at_place z.geometry (place_of index free) + 0 * z.geometry.block
@@ -242,12 +250,15 @@ module _ {F S : Type 0} (f : FileGhosts F) (s : SystemGhosts S) (z : Inside F S)
     pub free-within : at + n ≤ length (f.seen z.file)
     free-within = rw (begins, held.4.long) (data-within z.geometry (place_of index free) 0 n below-free room-free)
 
+    -- no zone has a block there
+    entries-clear : (read : Entry) → read ≡ get_or z.entries.items index read → is_apart read free ≡ true → IsClear z.geometry (place_of index free) 0 n below-free room-free z.entries.items
+    entries-clear read is apart = free-clear z.entries.items index free low (rw (← (entry-read z.entries.items index read low is)) apart)
+
     module _ (new : F) (beside : SameBeside at n (f.seen z.file) (f.seen new)) where
       -- the zones have the same blocks
       pub free-zones : (read : Entry) → read ≡ get_or z.entries.items index read → is_apart read free ≡ true → zones_in z.geometry (f.seen new) 0 z.entries.items ≡ zones_in z.geometry (f.seen z.file) 0 z.entries.items
       free-zones read is apart =
-          let clear = free-clear z.entries.items index free low (rw (← (entry-read z.entries.items index read low is)) apart) in
-          data-zones z.geometry (place_of index free) 0 n below-free room-free (f.seen z.file) (f.seen new) z.entries.items (rw begins at beside) held.1 held.2 clear
+          data-zones z.geometry (place_of index free) 0 n below-free room-free (f.seen z.file) (f.seen new) z.entries.items (rw begins at beside) held.1 held.2 (entries-clear read is apart)
 
       module _ (going : z.failed ≡ false) (follows : Follows (SameBeside at n) (f.may_leave z.file) (f.may_leave new))
           (word : ℕ) (last : Entry) (is_word : word ≡ get_or z.safe.items index word) (is_last : last ≡ entry_of word) (apart : is_apart last free ≡ true) where
@@ -264,8 +275,8 @@ module _ {F S : Type 0} (f : FileGhosts F) (s : SystemGhosts S) (z : Inside F S)
             free-clear (map entry_of z.safe.items) index free (omega (arith, low_safe, length-map z.safe.items entry_of)) (rw said (subst (λ (e : Entry). is_apart e free ≡ true) is apart))
 
         -- the tables say the same as before
-        pub free-served : IsServed z.geometry z.named (f.seen new) z.entries.items z.live z.flushed words
-        free-served = place-served going new (place_of index free) 0 n at below-free room-free begins clear-free beside follows
+        pub free-served : (read : Entry) → read ≡ get_or z.entries.items index read → is_apart read free ≡ true → IsServed z.geometry z.named (f.seen new) z.entries.items z.live z.flushed words
+        free-served read is_read apart' = place-served going new (place_of index free) 0 n at below-free room-free begins clear-free beside follows (entries-clear read is_read apart')
 
         -- and so does the last flush
         pub free-kept : Kept f z new z.other.items

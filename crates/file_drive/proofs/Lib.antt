@@ -1,5 +1,6 @@
 pub mod PartLaws
 pub mod PlaceLaws
+pub mod SumLaws
 pub mod ServedLaws
 pub mod DataLaws
 pub mod StoreLaws
@@ -9,6 +10,7 @@ pub mod PickLaws
 pub mod OutLaws
 pub mod ReadLaws
 pub mod FaultLaws
+pub mod ProveLaws
 mod OpenLaws
 mod TakeLaws
 mod OpenedLaws

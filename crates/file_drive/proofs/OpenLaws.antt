@@ -1,5 +1,6 @@
 -- What an open finds.
-use Rattle.std.proofs.Common.{◌≡◌, ◌⊎◌, ℕ, ◌+◌, ◌/◌, ◌%◌, ◌≤◌, Bool, true, false, cond, eqb, ◌&&◌, List, [], ◌∷◌, length, map, refl, sym, subst, ap, ◌∙◌, inl, inr, arith}
+use Rattle.std.proofs.Common.{◌≡◌, ℕ, ◌+◌, ◌/◌, ◌%◌, ◌≤◌, Bool, true, false, cond, eqb, ◌&&◌, List, [], ◌∷◌, Vec, Global, length, map, refl, sym, subst, ap, ◌∙◌, inr, arith}
+use Rattle.std.proofs.lemmas.Bool.{and_parts}
 use Rattle.std.specs.List.{AllByRecursion, count_by, list_all}
 use Rattle.std.proofs.Math.Nat.{mul-div_cancel, mul-mod_left}
 use Rattle.std.proofs.lemmas.List.{length-map}
@@ -10,12 +11,12 @@ use Rattle.zone_states.specs.Transition.{is_active, is_open}
 use Rattle.zone_drive.specs.Stored.{AreZones, is_lawful}
 use Rattle.zone_drive.proofs.CountLaws.{count-stored}
 use Rattle.zone_drive.proofs.ZonesLaws.{are-zones, block-some}
-use Rattle.file_drive.specs.Faults.{AreTableFaults, IsApartFault, IsOpenFault, IsTableFault}
-use Rattle.file_drive.specs.Found.{AreTables, IsHead}
+use Rattle.file_drive.specs.Faults.{AreTableFaults, IsOpenFault, IsReadFault, IsTableFault}
+use Rattle.file_drive.specs.Found.{AreTables, IsFound, IsHead, is_set_back}
 use Rattle.file_drive.specs.Head.{is_known, is_of_boot}
-use Rattle.file_drive.specs.InFile.{AreWithin, AreWords}
+use Rattle.file_drive.specs.InFile.{AreApart, AreSummed, AreWithin, AreWords}
 use Rattle.file_drive.specs.Layout.{at_table, file_length}
-use Rattle.file_drive.specs.Opening.{AreFew, Holds, IsTable, IsWord, opened_table}
+use Rattle.file_drive.specs.Opening.{AreFew, Holds, IsTable, IsWord, are_few, are_proved, opened_table, proves_live}
 use Rattle.file_drive.specs.Tables.{entry_of, flushed_table, live_table, word_of, words_in, zone_in, zones_in}
 use Rattle.file_drive.specs.declared.boot.Boot.{Boot}
 use Rattle.file_drive.specs.declared.entry.Entry.{Entry}
@@ -23,6 +24,9 @@ use Rattle.file_drive.specs.declared.fault.OpenFault.{OpenFault}
 use Rattle.file_drive.specs.declared.fault.OpenFault.TheVariants as faults
 use Rattle.file_drive.specs.declared.head.Head.{Head}
 use Rattle.file_drive.specs.declared.tables.Tables.{Tables}
+use Rattle.file_drive.proofs.ApartLaws.{apart-self}
+use Rattle.file_drive.proofs.PartLaws.{length-words}
+use Rattle.file_drive.proofs.ProveLaws.{proved-apart, proved-summed, proved-table, summed-self}
 use Rattle.file_drive.proofs.StoreLaws.{length-written, length-zones, zones-count}
 
 -- ---- words that a table may have
@@ -81,57 +85,89 @@ module _ (boot : Boot) (file : List ℕ) (head : Head) (tables : Tables) (is : I
   abbrev g : Geometry
   g = head.geometry
 
-  -- the words of the table that counts
-  pub counting-is : (same : Bool) (words : List ℕ) → same ≡ (is_known boot && (eqb head.boot.first boot.first && eqb head.boot.second boot.second))
-      → words ≡ cond same tables.current.items tables.safe.items → words ≡ words_in file (at_table g (opened_table boot file)) g.zones
-  counting-is same words same-is words-are =
-      let there : same ≡ is_of_boot boot file = same-is ∙ ap (λ (b : Boot). is_known boot && (eqb b.first boot.first && eqb b.second boot.second)) (sym is.boot_is) in
-      words-are ∙ ap (λ (b : Bool). cond b tables.current.items tables.safe.items) there ∙ by (is_of_boot boot file)
-    where
-      by : (counts : Bool) → cond counts tables.current.items tables.safe.items ≡ words_in file (at_table g (cond counts (live_table file) (flushed_table file))) g.zones
-      by true = rw are.live_is (sym are.current)
-      by false = rw are.flushed_is (sym are.safe)
+  -- the words of the table of the last flush, and of the live one
+  last : words_in file (at_table g (flushed_table file)) g.zones ≡ tables.safe.items
+  last = rw are.flushed_is are.safe
 
-  -- words of the table of the last flush, or of the one that counts, that are no table
-  table-fault : (words flushed opened : List ℕ) → (words ≡ flushed) ⊎ (words ≡ opened) → flushed ≡ words_in file (at_table g (flushed_table file)) g.zones
-      → opened ≡ words_in file (at_table g (opened_table boot file)) g.zones → (fault : OpenFault) → IsTableFault g words fault → AreTableFaults boot file fault
-  table-fault words flushed opened which flushed-is opened-is fault past = (
-    g,
-    is.words,
-    elim which [
-      | inl last ↦ inl (subst (λ (ws : List ℕ). IsTableFault g ws fault) (last ∙ flushed-is) past)
-      | inr now ↦ inr (inl (subst (λ (ws : List ℕ). IsTableFault g ws fault) (now ∙ opened-is) past))
-    ],
-  )
+  live : words_in file (at_table g (live_table file)) g.zones ≡ tables.current.items
+  live = rw are.live_is are.current
 
-  open-fault : (words : List ℕ) → ((fault : OpenFault) → IsTableFault g words fault → AreTableFaults boot file fault) → (fault : OpenFault) → IsTableFault g words fault → IsOpenFault boot file fault
-  open-fault words are faults.NotADrive none = absurd none
-  open-fault words are faults.Version none = absurd none
-  open-fault words are (faults.Geometry part) none = absurd none
-  open-fault words are faults.Short none = absurd none
-  open-fault words are faults.Long none = absurd none
-  open-fault words are (faults.Table number) past = are (faults.Table number) past
-  open-fault words are faults.Limits past = are faults.Limits past
-  open-fault words are (faults.Input error) none = absurd none
-  open-fault words are (faults.Unsynced error) none = absurd none
-  open-fault words are faults.OutOfMemory past = inr (inr (inr tt))
+  pub safe-count : length tables.safe.items ≡ g.zones
+  safe-count = sym (ap length are.safe) ∙ length-words file (at_table g tables.flushed) g.zones
 
-  pub flushed-fault : (words : List ℕ) → words ≡ words_in file (at_table g (flushed_table file)) g.zones → (fault : OpenFault) → IsTableFault g words fault → IsOpenFault boot file fault
-  flushed-fault words last = open-fault words (λ fault past. table-fault words words _ (inl refl) last refl fault past)
+  pub current-count : length tables.current.items ≡ g.zones
+  current-count = sym (ap length are.current) ∙ length-words file (at_table g tables.live) g.zones
 
-  pub opened-fault : (words : List ℕ) → words ≡ words_in file (at_table g (opened_table boot file)) g.zones → (fault : OpenFault) → IsTableFault g words fault → IsOpenFault boot file fault
-  opened-fault words now = open-fault words (λ fault past. table-fault words _ words (inr refl) refl now fault past)
+  -- the test of the boot that was read is the test of the file
+  pub head-test : (same : Bool) → same ≡ (is_known boot && (eqb head.boot.first boot.first && eqb head.boot.second boot.second)) → (b : Bool) → same ≡ b → is_of_boot boot file ≡ b
+  head-test same told b e = ap (λ (served : Boot). is_known boot && (eqb served.first boot.first && eqb served.second boot.second)) is.boot_is ∙ sym told ∙ e
 
-  -- a zone that is where the last flush has more blocks of it
-  pub apart-fault : (words : List ℕ) (entries : List Entry) → words ≡ words_in file (at_table g (flushed_table file)) g.zones
-      → entries ≡ map entry_of (words_in file (at_table g (opened_table boot file)) g.zones) → (fault : OpenFault) → IsApartFault words entries fault → IsOpenFault boot file fault
-  apart-fault words entries last now faults.NotADrive none = absurd none
-  apart-fault words entries last now faults.Version none = absurd none
-  apart-fault words entries last now (faults.Geometry part) none = absurd none
-  apart-fault words entries last now faults.Short none = absurd none
-  apart-fault words entries last now faults.Long none = absurd none
-  apart-fault words entries last now (faults.Table number) past = (g, is.words, inr (inr (rw (← last, ← now) past)))
-  apart-fault words entries last now faults.Limits none = absurd none
-  apart-fault words entries last now (faults.Input error) none = absurd none
-  apart-fault words entries last now (faults.Unsynced error) none = absurd none
-  apart-fault words entries last now faults.OutOfMemory none = absurd none
+  -- words of the table of the last flush that are no table
+  table-fault : (fault : OpenFault) → IsTableFault g tables.safe.items fault → AreTableFaults file fault
+  table-fault fault past = (g, is.words, subst (λ (ws : List ℕ). IsTableFault g ws fault) (sym last) past)
+
+  pub flushed-fault : (fault : OpenFault) → IsTableFault g tables.safe.items fault → IsOpenFault file fault
+  flushed-fault faults.NotADrive none = absurd none
+  flushed-fault faults.Version none = absurd none
+  flushed-fault (faults.Geometry part) none = absurd none
+  flushed-fault faults.Short none = absurd none
+  flushed-fault faults.Long none = absurd none
+  flushed-fault (faults.Table number) past = table-fault (faults.Table number) past
+  flushed-fault faults.Limits past = table-fault faults.Limits past
+  flushed-fault (faults.Input error) none = absurd none
+  flushed-fault (faults.Unsynced error) none = absurd none
+  flushed-fault faults.OutOfMemory past = inr (inr (inr tt))
+
+  -- a read that failed
+  pub read-fault : (fault : OpenFault) → IsReadFault fault → IsOpenFault file fault
+  read-fault faults.NotADrive none = absurd none
+  read-fault faults.Version none = absurd none
+  read-fault (faults.Geometry part) none = absurd none
+  read-fault faults.Short none = absurd none
+  read-fault faults.Long none = absurd none
+  read-fault (faults.Table number) none = absurd none
+  read-fault faults.Limits none = absurd none
+  read-fault (faults.Input error) past = inr (inr (inr past))
+  read-fault (faults.Unsynced error) none = absurd none
+  read-fault faults.OutOfMemory past = inr (inr (inr past))
+
+  module _ (safe : IsTable g tables.safe.items) (entries : Vec Entry Global) where
+    -- the flushed table counts
+    pub found-flushed : entries.items ≡ map entry_of tables.safe.items → (is_of_boot boot file && proves_live g file) ≡ false → (back : Bool) → back ≡ is_set_back g boot file
+        → IsFound boot file (record { head = head; tables = tables; entries = entries; set_back = back })
+    found-flushed say not_live back told =
+        let which : opened_table g boot file ≡ flushed_table file = ap (λ (b : Bool). cond b (live_table file) (flushed_table file)) not_live in
+        let words : words_in file (at_table g (opened_table g boot file)) g.zones ≡ tables.safe.items = ap (λ (t : ℕ). words_in file (at_table g t) g.zones) which ∙ last in
+        record {
+          head = is;
+          tables = are;
+          entries = say ∙ ap (map entry_of) (sym words);
+          words = subst (λ (ws : List ℕ). IsTable g ws) (sym words) safe;
+          safe = safe;
+          apart = subst (λ (es : List Entry). AreApart tables.safe.items es) (sym say) (apart-self tables.safe.items);
+          summed = subst (λ (es : List Entry). AreSummed g file tables.safe.items es) (sym say) (summed-self g file tables.safe.items safe-count);
+          set_back = told;
+        }
+
+    -- the live table counts
+    pub found-live : entries.items ≡ map entry_of tables.current.items → is_of_boot boot file ≡ true → proves_live g file ≡ true
+        → IsFound boot file (record { head = head; tables = tables; entries = entries; set_back = false })
+    found-live say of_boot proves =
+        let counts : (is_of_boot boot file && proves_live g file) ≡ true = rw (of_boot, proves) refl in
+        let which : opened_table g boot file ≡ live_table file = ap (λ (b : Bool). cond b (live_table file) (flushed_table file)) counts in
+        let words : words_in file (at_table g (opened_table g boot file)) g.zones ≡ tables.current.items = ap (λ (t : ℕ). words_in file (at_table g t) g.zones) which ∙ live in
+        let parts = and_parts (are_proved g file 0 (words_in file (at_table g (flushed_table file)) g.zones) (words_in file (at_table g (live_table file)) g.zones))
+        (are_few g (map entry_of (words_in file (at_table g (live_table file)) g.zones))) proves in
+        let all : are_proved g file 0 tables.safe.items tables.current.items ≡ true = rw (last, live) at parts.0 in
+        let few : are_few g (map entry_of tables.current.items) ≡ true = rw live at parts.1 in
+        let same : length tables.safe.items ≡ length tables.current.items = safe-count ∙ sym current-count in
+        record {
+          head = is;
+          tables = are;
+          entries = say ∙ ap (map entry_of) (sym words);
+          words = subst (λ (ws : List ℕ). IsTable g ws) (sym words) (proved-table g file tables.safe.items tables.current.items same all few);
+          safe = safe;
+          apart = subst (λ (es : List Entry). AreApart tables.safe.items es) (sym say) (proved-apart g file tables.safe.items tables.current.items same all);
+          summed = subst (λ (es : List Entry). AreSummed g file tables.safe.items es) (sym say) (proved-summed g file tables.safe.items tables.current.items same all current-count);
+          set_back = rw (of_boot, proves) refl;
+        }

@@ -1,6 +1,7 @@
 -- A file that is made ready for a boot of the system.
 use Rattle.std.proofs.Common.{◌≡◌, ◌⊎◌, ℕ, Bool, true, false, cond, eqb, ◌&&◌, List, length, map, IsTrue, subst, refl, sym, ap, ◌∙◌, inl, inr, arith}
-use Rattle.std.proofs.lemmas.Bool.{eqb-true, and_parts}
+use Rattle.std.specs.Prelude.{not}
+use Rattle.std.proofs.lemmas.Bool.{eqb-true, and_parts, false≢true}
 use Rattle.std.proofs.lemmas.List.{length-map}
 use Rattle.sqlite_disk.specs.Disk.{Follows, Only}
 use Rattle.zone_states.specs.declared.geometry.Geometry.{Geometry}
@@ -8,9 +9,9 @@ use Rattle.zone_states.specs.Stored.{StoredZone}
 use Rattle.zone_drive.specs.Stored.{AreZones}
 use Rattle.file_drive.specs.Found.{IsFound, IsRead}
 use Rattle.file_drive.specs.Head.{is_known, is_of_boot}
-use Rattle.file_drive.specs.InFile.{AreWithin, AreWords, IsPromised, IsServed, promised_zones}
+use Rattle.file_drive.specs.InFile.{AreSummed, AreWithin, AreWords, IsPromised, IsServed, promised_zones}
 use Rattle.file_drive.specs.Layout.{at_table}
-use Rattle.file_drive.specs.Opening.{KeepsFlushed, Unnoticed, opened_table, opened_zones}
+use Rattle.file_drive.specs.Opening.{KeepsFlushed, Unnoticed, opened_table, opened_zones, proves_live}
 use Rattle.file_drive.specs.Opened.{IsOpened}
 use Rattle.file_drive.specs.Tables.{entry_of, flushed_table, flushed_zones, live_table, word_of, words_in, zones_by, zones_in}
 use Rattle.file_drive.specs.declared.boot.Boot.{Boot}
@@ -19,6 +20,7 @@ use Rattle.file_drive.specs.declared.found.Found.{Found}
 use Rattle.file_drive.proofs.OpenLaws.{all-words, table-zones}
 use Rattle.file_drive.proofs.PartLaws.{length-words}
 use Rattle.file_drive.proofs.ServedLaws.{zones-kept}
+use Rattle.file_drive.proofs.SumLaws.{summed-places}
 
 -- ---- the boot
 
@@ -31,12 +33,30 @@ same-boot boot served e =
     let both : record { first = served.first; second = served.second } ≡ record { first = boot.first; second = boot.second } = rw (first, second) refl in
     both
 
+-- ---- whether the live table counts
+
+not-true : (b : Bool) → not b ≡ true → b ≡ false
+not-true false e = refl
+not-true true e = absurd (false≢true e)
+
+proved-there : (of_boot proves : Bool) → of_boot ≡ true → (of_boot && not proves) ≡ false → (of_boot && proves) ≡ true
+proved-there true true e back = refl
+proved-there true false e back = absurd (false≢true (sym back))
+proved-there false proves e back = absurd (false≢true e)
+
+unproved-there : (of_boot proves back : Bool) → back ≡ (of_boot && not proves) → (of_boot && not back) ≡ false → (of_boot && proves) ≡ false
+unproved-there false proves back told tested = refl
+unproved-there true false back told tested = refl
+unproved-there true true false told tested = absurd (false≢true (sym tested))
+unproved-there true true true told tested = absurd (false≢true (sym told))
+
 -- ---- what is shown, served
 
 pub served-of-read : (boot : Boot) (file : List ℕ) (found : Found) → IsRead file found → found.head.boot ≡ boot → found.tables.current.items ≡ map word_of found.entries.items
+    → AreSummed found.head.geometry file found.tables.safe.items found.entries.items
     → IsServed found.head.geometry boot file found.entries.items found.tables.live found.tables.flushed
     (record { spare = found.tables.spare.items; safe = found.tables.safe.items; other = found.tables.other.items })
-served-of-read boot file found read is live = record {
+served-of-read boot file found read is live summed = record {
   long = read.head.long;
   head = read.head.words;
   boot_is = read.head.boot_is ∙ is;
@@ -46,6 +66,7 @@ served-of-read boot file found read is live = record {
   flushed_is = read.tables.flushed_is;
   safe_words = read.tables.safe;
   other_words = read.tables.other;
+  summed = summed;
 }
 
 module _ (g : Geometry) (flushed : ℕ) (safe : List ℕ) (count : length safe ≡ g.zones) (words : AreWords g safe) where
@@ -71,10 +92,10 @@ module _ (boot : Boot) {F : Type 0} (seen : F → List ℕ) (may_leave : F → L
   g = found.head.geometry
 
   abbrev words : List ℕ
-  words = words_in (seen old) (at_table g (opened_table boot (seen old))) g.zones
+  words = words_in (seen old) (at_table g (opened_table g boot (seen old))) g.zones
 
   pub found-count : length found.entries.items ≡ g.zones
-  found-count = ap length is.entries ∙ length-map words entry_of ∙ length-words (seen old) (at_table g (opened_table boot (seen old))) g.zones
+  found-count = ap length is.entries ∙ length-map words entry_of ∙ length-words (seen old) (at_table g (opened_table g boot (seen old))) g.zones
 
   safe-count : length found.tables.safe.items ≡ g.zones
   safe-count = sym (ap length is.tables.safe) ∙ length-words (seen old) (at_table g found.tables.flushed) g.zones
@@ -90,7 +111,7 @@ module _ (boot : Boot) {F : Type 0} (seen : F → List ℕ) (may_leave : F → L
 
   found-zones : AreZones g (zones_in g (seen old) 0 found.entries.items)
   found-zones = subst (λ (entries : List Entry). AreZones g (zones_in g (seen old) 0 entries)) (sym is.entries)
-      (table-zones g (seen old) words is.head.in_range is.head.long (length-words (seen old) (at_table g (opened_table boot (seen old))) g.zones) is.words)
+      (table-zones g (seen old) words is.head.in_range is.head.long (length-words (seen old) (at_table g (opened_table g boot (seen old))) g.zones) is.words)
 
   -- a drive can have the zones of the last flush
   shown-zones : AreZones g (flushed_zones g (seen old))
@@ -120,17 +141,21 @@ module _ (boot : Boot) {F : Type 0} (seen : F → List ℕ) (may_leave : F → L
 
   -- ---- in the same boot
 
-  pub opened-now : IsTrue (is_usable old) → (is_known boot && (eqb found.head.boot.first boot.first && eqb found.head.boot.second boot.second)) ≡ true
+  pub opened-now : IsTrue (is_usable old) → ((is_known boot && (eqb found.head.boot.first boot.first && eqb found.head.boot.second boot.second)) && not found.set_back) ≡ true
       → IsOpened seen may_leave is_usable boot old found
-  opened-now usable e =
-      let counts = boot-test true e in
-      let live : opened_table boot (seen old) ≡ found.tables.live = ap (λ (b : Bool). cond b (live_table (seen old)) (flushed_table (seen old))) counts ∙ is.tables.live_is in
+  opened-now usable ready =
+      let parts = and_parts _ _ ready in
+      let e = parts.0 in
+      let of_boot = boot-test true e in
+      let back : found.set_back ≡ false = not-true found.set_back parts.1 in
+      let counts : (is_of_boot boot (seen old) && proves_live g (seen old)) ≡ true = proved-there (is_of_boot boot (seen old)) (proves_live g (seen old)) of_boot (sym is.set_back ∙ back) in
+      let live : opened_table g boot (seen old) ≡ found.tables.live = ap (λ (b : Bool). cond b (live_table (seen old)) (flushed_table (seen old))) counts ∙ is.tables.live_is in
       let current : found.tables.current.items ≡ map word_of found.entries.items = sym is.tables.current ∙ ap (λ (t : ℕ). words_in (seen old) (at_table g t) g.zones) (sym live) ∙ said in
       record {
         in_range = is.head.in_range;
         count = found-count;
         within = within;
-        served = served-of-read boot (seen old) found (record { head = is.head; tables = is.tables }) (same-boot boot found.head.boot e) current;
+        served = served-of-read boot (seen old) found (record { head = is.head; tables = is.tables }) (same-boot boot found.head.boot e) current is.summed;
         safe = safe-words;
         apart = is.apart;
         usable = usable;
@@ -166,7 +191,7 @@ module _ (boot : Boot) {F : Type 0} (seen : F → List ℕ) (may_leave : F → L
         in_range = read.head.in_range;
         count = rw (geometry, entries) found-count;
         within = rw (geometry, entries) within;
-        served = served-of-read boot (seen new) taken read is_boot live;
+        served = served-of-read boot (seen new) taken read is_boot live (rw (geometry, safe, entries) (summed-places g (seen old) (seen new) found.tables.safe.items found.entries.items keeps.zones is.summed));
         safe = rw (geometry, safe) safe-words;
         apart = rw (safe, entries) is.apart;
         usable = usable;
@@ -181,10 +206,10 @@ module _ (boot : Boot) {F : Type 0} (seen : F → List ℕ) (may_leave : F → L
   -- what a system in any boot finds then
   anyone : (new : F) (taken : Found) → taken.head.geometry ≡ g → taken.entries.items ≡ found.entries.items → IsRead (seen new) taken
       → (other : Boot) → (is_of_boot other (seen new) ≡ true → (taken.tables.current.items ≡ map word_of taken.entries.items) ⊎ (seen new ≡ seen old))
-      → KeepsFlushed g (seen old) (seen new) → (b : Bool) → is_of_boot other (seen new) ≡ b
+      → KeepsFlushed g (seen old) (seen new) → (b : Bool) → (is_of_boot other (seen new) && proves_live g (seen new)) ≡ b
       → (zones_by g (seen new) (cond b (live_table (seen new)) (flushed_table (seen new))) ≡ opened_zones g boot (seen old))
       ⊎ ((seen new ≡ seen old) ⊎ (zones_by g (seen new) (cond b (live_table (seen new)) (flushed_table (seen new))) ≡ flushed_zones g (seen old)))
-  anyone new taken geometry entries read other counts keeps true e = elim (counts e) [
+  anyone new taken geometry entries read other counts keeps true e = elim (counts (and_parts (is_of_boot other (seen new)) (proves_live g (seen new)) e).0) [
     | inl now ↦
         let live : words_in (seen new) (at_table g (live_table (seen new))) g.zones ≡ map word_of found.entries.items =
         rw (read.tables.live_is, ← geometry) read.tables.current ∙ now ∙ ap (map word_of) entries in
@@ -194,15 +219,19 @@ module _ (boot : Boot) {F : Type 0} (seen : F → List ℕ) (may_leave : F → L
   anyone new taken geometry entries read other counts keeps false e = inr (inr (flushed-same (seen new) keeps))
 
   pub unnoticed : (new : F) (taken : Found) → taken ≡ record found { head = record found.head { boot = taken.head.boot }; tables = record found.tables { current = taken.tables.current } }
-      → is_of_boot boot (seen old) ≡ false → IsRead (seen new) taken
+      → ((is_known boot && (eqb found.head.boot.first boot.first && eqb found.head.boot.second boot.second)) && not found.set_back) ≡ false → IsRead (seen new) taken
       → ((other : Boot) → is_of_boot other (seen new) ≡ true → (taken.tables.current.items ≡ map word_of taken.entries.items) ⊎ (seen new ≡ seen old))
       → KeepsFlushed g (seen old) (seen new) → Follows (KeepsFlushed g) (may_leave old) (may_leave new)
       → Unnoticed seen may_leave boot g old new
   unnoticed new taken same another read counts keeps follows =
       let geometry : taken.head.geometry ≡ g = ap (λ (f : Found). f.head.geometry) same in
       let entries : taken.entries.items ≡ found.entries.items = ap (λ (f : Found). f.entries.items) same in
-      let last : opened_zones g boot (seen old) ≡ flushed_zones g (seen old) = ap (λ (b : Bool). zones_by g (seen old) (cond b (live_table (seen old)) (flushed_table (seen old)))) another in
-      let finds = λ (other : Boot). anyone new taken geometry entries read other (counts other) keeps (is_of_boot other (seen new)) refl in
+      let tested : (is_of_boot boot (seen old) && not found.set_back) ≡ false =
+      ap (λ (served : Boot). (is_known boot && (eqb served.first boot.first && eqb served.second boot.second)) && not found.set_back) is.head.boot_is ∙ another in
+      let unproved : (is_of_boot boot (seen old) && proves_live g (seen old)) ≡ false =
+      unproved-there (is_of_boot boot (seen old)) (proves_live g (seen old)) found.set_back is.set_back tested in
+      let last : opened_zones g boot (seen old) ≡ flushed_zones g (seen old) = ap (λ (b : Bool). zones_by g (seen old) (cond b (live_table (seen old)) (flushed_table (seen old)))) unproved in
+      let finds = λ (other : Boot). anyone new taken geometry entries read other (counts other) keeps (is_of_boot other (seen new) && proves_live g (seen new)) refl in
       record {
         long = keeps.long;
         head = keeps.head;

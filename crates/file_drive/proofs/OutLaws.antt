@@ -15,6 +15,7 @@ use Rattle.file_drive.specs.declared.boot.Boot.{Boot}
 use Rattle.file_drive.specs.declared.entry.Entry.{Entry}
 use Rattle.file_drive.proofs.PartLaws.{length-words, word-beside, words-beside}
 use Rattle.file_drive.proofs.ServedLaws.{promised-same, zones-kept}
+use Rattle.file_drive.proofs.SumLaws.{summed-places}
 use Rattle.file_drive.proofs.TakeLaws.{keeps-boot}
 
 module _ (g : Geometry) (old new : List ℕ) (beside : SameBeside at_second 8 old new) where
@@ -42,6 +43,7 @@ module _ (g : Geometry) (old new : List ℕ) (beside : SameBeside at_second 8 ol
     flushed_is = keeps.picked ∙ was.flushed_is;
     safe_words = table-kept flushed ∙ was.safe_words;
     other_words = table-kept (other_table flushed) ∙ was.other_words;
+    summed = summed-places g old new words.safe entries out-places was.summed;
   }
 
   -- the same zones may be found after a loss of power

@@ -18,11 +18,12 @@ use Rattle.file_bytes.specs.Changes.{SameBeside}
 use Rattle.file_drive.specs.Head.{at_boot, boot_in}
 use Rattle.file_drive.specs.Layout.{SamePlaces, at_flushed, at_live, at_table, at_zones, word_in}
 use Rattle.file_drive.specs.Tables.{acted, entry_of, flushed_table, flushed_zones, live_table, place_of, state_from, table_code, word_of, words_in, zones_in}
-use Rattle.file_drive.specs.InFile.{AllDurable, AreWithin, AreWords, CanOpen, FiledZones, IsPromised, IsServed, KeepsPromise, Words, durable_zones, filed, other_table, promised_zones, spare_table}
+use Rattle.file_drive.specs.InFile.{AllDurable, AreSummed, AreWithin, AreWords, CanOpen, FiledZones, IsPromised, IsServed, KeepsPromise, Words, durable_zones, entry_at, filed, flushed_at, is_summed, other_table, promised_zones, spare_table}
 use Rattle.file_drive.specs.declared.boot.Boot.{Boot}
 use Rattle.file_drive.specs.declared.entry.Entry.{Entry}
 use Rattle.file_drive.proofs.PartLaws.{Apart, length-words, word-beside, words-at, words-beside, words-put}
 use Rattle.file_drive.proofs.PlaceLaws.{one-few, place-low, tables-apart, whole-apart, zones-after, zones-beside}
+use Rattle.file_drive.proofs.SumLaws.{acted-summed, close-written, summed-few, summed-flushed, summed-places, summed-set}
 
 -- ---- lists
 
@@ -67,8 +68,8 @@ module _ (g : Geometry) where
       → at_live ≤ at → Apart at n at_live 8 → Apart at n at_flushed 8 → Apart at n (at_table g live) (8 * g.zones)
       → Apart at n (at_table g (spare_table live)) (8 * g.zones)
       → Apart at n (at_table g flushed) (8 * g.zones) → Apart at n (at_table g (other_table flushed)) (8 * g.zones)
-      → IsServed g boot old entries live flushed words → IsServed g boot new entries live flushed words
-  served-beside at n old new entries live flushed words beside h a b c s d e was = record {
+      → AreSummed g new words.safe entries → IsServed g boot old entries live flushed words → IsServed g boot new entries live flushed words
+  served-beside at n old new entries live flushed words beside h a b c s d e summed was = record {
     long = beside.long ∙ was.long;
     head = head-beside at n old new beside h ∙ was.head;
     boot_is = boot-beside at n old new beside h ∙ was.boot_is;
@@ -78,6 +79,7 @@ module _ (g : Geometry) where
     flushed_is = ap (λ (w : ℕ). 2 + w % 2) (word-beside at n at_flushed old new beside b) ∙ was.flushed_is;
     safe_words = words-beside at n (at_table g flushed) g.zones old new beside d ∙ was.safe_words;
     other_words = words-beside at n (at_table g (other_table flushed)) g.zones old new beside e ∙ was.other_words;
+    summed = summed;
   }
 
   -- what is promised, after a change that does not meet it
@@ -137,8 +139,8 @@ module _ (g : Geometry) where
   -- a zone's word was put there
   pub served-put : {boot : Boot} (old new : List ℕ) (entries : List Entry) (live flushed : ℕ) (words : Words) (index : ℕ) (entry : Entry) → IsServed g boot old entries live flushed words
       → length entries ≡ g.zones → index < length entries → SameBeside (at_table g live + 8 * index) 8 old new → word_in new (at_table g live + 8 * index) ≡ word_of entry
-      → IsServed g boot new (set entries index entry) live flushed words
-  served-put old new entries live flushed words index entry was count low beside is =
+      → is_summed g old index (flushed_at words.safe index) entry ≡ true → IsServed g boot new (set entries index entry) live flushed words
+  served-put old new entries live flushed words index entry was count low beside is summed =
       let at = at_table g live + 8 * index in
       let few = live-few old live was.live_is in
       let most = flushed-few old flushed was.flushed_is in
@@ -153,6 +155,8 @@ module _ (g : Geometry) where
         flushed_is = ap (λ (w : ℕ). 2 + w % 2) (word-beside at 8 at_flushed old new beside (inl (omega arith))) ∙ was.flushed_is;
         safe_words = words-beside at 8 (at_table g flushed) g.zones old new beside (tables-apart g live flushed index (λ e. absurd (omega (arith, e, few, most.0))) below) ∙ was.safe_words;
         other_words = words-beside at 8 (at_table g (other_table flushed)) g.zones old new beside (tables-apart g live (other_table flushed) index (λ e. absurd (omega (arith, e, few, most.1))) below) ∙ was.other_words;
+        summed = summed-places g old new words.safe (set entries index entry) (zones-beside g at 8 old new beside (omega (arith, zones-after g live (omega (arith, few)), below)))
+            (summed-set g old words.safe entries index entry low was.summed (λ inside room. summed));
       }
 
   -- that keeps all blocks
@@ -247,6 +251,7 @@ module _ (g : Geometry) where
           flushed_is = ap (λ (w : ℕ). 2 + w % 2) (word-beside at n at_flushed (seen old) (seen new) beside (inl (omega arith))) ∙ was.flushed_is;
           safe_words = words-beside at n (at_table g flushed) g.zones (seen old) (seen new) beside (whole-apart g (other_table flushed) flushed (λ e. absurd (omega (arith, e)))) ∙ was.safe_words;
           other_words = is;
+          summed = summed-places g (seen old) (seen new) words.safe entries other-same was.summed;
         }
 
   -- ---- the words of the live table that is not picked are written
@@ -289,6 +294,7 @@ module _ (g : Geometry) where
           flushed_is = ap (λ (w : ℕ). 2 + w % 2) (word-beside at n at_flushed (seen old) (seen new) beside (inl (omega arith))) ∙ was.flushed_is;
           safe_words = words-beside at n (at_table g flushed) g.zones (seen old) (seen new) beside (whole-apart g (spare_table live) flushed (λ e. absurd (omega (arith, e, bounds.0)))) ∙ was.safe_words;
           other_words = words-beside at n (at_table g (other_table flushed)) g.zones (seen old) (seen new) beside (whole-apart g (spare_table live) (other_table flushed) (λ e. absurd (omega (arith, e, bounds.1)))) ∙ was.other_words;
+          summed = summed-places g (seen old) (seen new) words.safe entries spare-same was.summed;
         }
 
   -- ---- that table is picked
@@ -309,9 +315,9 @@ module _ (g : Geometry) where
     pub switch-promises : promised_zones g (seen new) words.safe ≡ promised_zones g (seen old) words.safe
     switch-promises = promised-same g (seen old) (seen new) words.safe switch-same (length-safe g (seen old) entries live flushed words was) within
 
-    pub served-switch : (next : List Entry) → words.spare ≡ map word_of next → word_in (seen new) at_live ≡ spare_table live
+    pub served-switch : (next : List Entry) → words.spare ≡ map word_of next → AreSummed g (seen old) words.safe next → word_in (seen new) at_live ≡ spare_table live
         → IsServed g boot (seen new) next (spare_table live) flushed (record words { spare = map word_of entries })
-    served-switch next spare is =
+    served-switch next spare summed is =
         let little = live-few g (seen old) live was.live_is in
         let back : spare_table (spare_table live) ≡ live = omega (arith, little) in
         let kept : (table : ℕ) → words_in (seen new) (at_table g table) g.zones ≡ words_in (seen old) (at_table g table) g.zones =
@@ -326,6 +332,7 @@ module _ (g : Geometry) where
           flushed_is = ap (λ (w : ℕ). 2 + w % 2) (word-beside at_live 8 at_flushed (seen old) (seen new) beside (inr (omega arith))) ∙ was.flushed_is;
           safe_words = kept flushed ∙ was.safe_words;
           other_words = kept (other_table flushed) ∙ was.other_words;
+          summed = summed-places g (seen old) (seen new) words.safe next switch-same summed;
         }
 
 -- entries of which one is another
@@ -349,16 +356,28 @@ second-is : (b : Bool) → eqb (one_if b) 1 ≡ b
 second-is true = refl
 second-is false = refl
 
+code-few : (state : ZoneState) → table_code state < 16
+code-few Empty = omega arith
+code-few ImplicitlyOpened = omega arith
+code-few ExplicitlyOpened = omega arith
+code-few Closed = omega arith
+code-few ReadOnly = omega arith
+code-few Full = omega arith
+code-few Offline = omega arith
+
 -- the word of a zone says what a restart leaves of it
 pub word-says : (entry : Entry) → entry.written < 2 ^ 32
     → ((entry_of (word_of entry)).state ≡ restarted_state entry.state) × ((entry_of (word_of entry)).written ≡ entry.written) × ((entry_of (word_of entry)).second ≡ entry.second)
+    × ((entry_of (word_of entry)).sum ≡ entry.sum % 2 ^ 27)
 word-says entry small =
     let code = table_code (restarted_state entry.state) in
+    let most = code-few (restarted_state entry.state) in
     let few = one-few entry.second in
-    let high : word_of entry / 2 ^ 33 ≡ code = omega (arith, small, few) in
+    let high : word_of entry / 2 ^ 33 % 16 ≡ code = omega (arith, small, few, most) in
     let low : word_of entry % 2 ^ 32 ≡ entry.written = omega (arith, small, few) in
     let middle : word_of entry / 2 ^ 32 % 2 ≡ one_if entry.second = omega (arith, small, few) in
-    (ap state_from high ∙ code-state (restarted_state entry.state), low, ap (λ (n : ℕ). eqb n 1) middle ∙ second-is entry.second)
+    let top : word_of entry / 2 ^ 37 % 2 ^ 27 ≡ entry.sum % 2 ^ 27 = omega (arith, small, few, most) in
+    (ap state_from high ∙ code-state (restarted_state entry.state), low, ap (λ (n : ℕ). eqb n 1) middle ∙ second-is entry.second, top)
 
 -- zones as the words say are those that a restart leaves
 pub words-say : (g : Geometry) (file : List ℕ) (number : ℕ) (entries : List Entry) → g.capacity < 2 ^ 32 → AreWithin g entries
@@ -378,7 +397,8 @@ words-within g (entry ∷ entries) small within =
 word-again : (entry : Entry) → entry.written < 2 ^ 32 → word_of (entry_of (word_of entry)) ≡ word_of entry
 word-again entry small =
     let says = word-says entry small in
-    rw (says.0, says.1, says.2, restarted-twice entry.state) refl
+    let twice : entry.sum % 2 ^ 27 % 2 ^ 27 ≡ entry.sum % 2 ^ 27 = omega arith in
+    rw (says.0, says.1, says.2, says.3, restarted-twice entry.state, twice) refl
 
 words-again : (g : Geometry) (entries : List Entry) → g.capacity < 2 ^ 32 → AreWithin g entries → map word_of (map entry_of (map word_of entries)) ≡ map word_of entries
 words-again g [] small within = refl
@@ -387,6 +407,21 @@ words-again g (entry ∷ entries) small within = rw (word-again entry (omega (ar
 -- so a table may have the words of zones
 pub are-words : (g : Geometry) (entries : List Entry) → g.capacity < 2 ^ 32 → AreWithin g entries → AreWords g (map word_of entries)
 are-words g entries small within = record { said = words-again g entries small within; within = words-within g entries small within }
+
+-- the words of zones say their sums
+pub sum-said : (g : Geometry) (file : List ℕ) (number word : ℕ) (entry : Entry) → entry.written < 2 ^ 32 → is_summed g file number (entry_of word) entry ≡ true → (entry_of (word_of entry)).sum ≡ entry.sum
+sum-said g file number word entry small is =
+    let few : (entry_of word).sum < 2 ^ 27 = omega arith in
+    (word-says entry small).3 ∙ omega (arith, summed-few g file number (entry_of word) entry few is)
+
+-- so a flush has the sums of the zones
+pub summed-words : (g : Geometry) (old new words : List ℕ) (entries : List Entry) → g.capacity < 2 ^ 32 → length entries ≡ g.zones → AreSummed g old words entries → AreSummed g new (map word_of entries) entries
+summed-words g old new words entries small count was number low room =
+    let entry = entry_at entries number in
+    let says = word-says entry (omega (arith, room, small)) in
+    let sum = sum-said g old number (slice_index words number) entry (omega (arith, room, small)) (was number low room) in
+    let is : flushed_at (map word_of entries) number ≡ entry_of (word_of entry) = ap entry_of (get_or-map word_of entries number _ 0 (omega (arith, low, count))) in
+    subst (λ (last : Entry). is_summed g new number last entry ≡ true) (sym is) (summed-flushed g new number (entry_of (word_of entry)) entry (sym says.2) (sym says.1) (sym sum))
 
 -- ---- the word that picks a flushed table
 
@@ -476,6 +511,7 @@ module _ (g : Geometry) {F : Type 0} {boot : Boot} (seen : F → List ℕ) (may_
         flushed_is = omega (arith, is, most.0, most.1);
         safe_words = words-beside at_flushed 8 (at_table g (other_table flushed)) g.zones (seen old) (seen new) beside (inr (omega arith)) ∙ was.other_words;
         other_words = rw back (words-beside at_flushed 8 (at_table g flushed) g.zones (seen old) (seen new) beside (inr (omega arith)) ∙ was.safe_words);
+        summed = rw now (summed-words g (seen old) (seen new) words.safe entries small count was.summed);
       }
 
   -- the table that is picked says the same zones
@@ -534,8 +570,8 @@ filed-same seen old new shape entries same count within =
 pub close-word : (last entry : Entry) → word_of (acted Close last entry) ≡ word_of entry
 close-word last entry = by entry.state
   where
-    by : (state : ZoneState) → word_of (acted Close last (record { state = state; written = entry.written; second = entry.second }))
-        ≡ word_of (record { state = state; written = entry.written; second = entry.second })
+    by : (state : ZoneState) → word_of (acted Close last (record { state = state; written = entry.written; second = entry.second; sum = entry.sum }))
+        ≡ word_of (record { state = state; written = entry.written; second = entry.second; sum = entry.sum })
     by Empty = refl
     by ImplicitlyOpened = refl
     by ExplicitlyOpened = refl
@@ -545,14 +581,15 @@ close-word last entry = by entry.state
     by Offline = refl
 
 -- so the file is served as before
-pub served-closed : (g : Geometry) {boot : Boot} (file : List ℕ) (entries : List Entry) (live flushed : ℕ) (words : Words) (index : ℕ) (d last : Entry) → IsServed g boot file entries live flushed words
-    → IsServed g boot file (set entries index (acted Close last (get_or entries index d))) live flushed words
-served-closed g file entries live flushed words index d last was =
-    let same : map word_of (set entries index (acted Close last (get_or entries index d))) ≡ map word_of entries =
-    map-set word_of entries index (acted Close last (get_or entries index d))
-    ∙ ap (set (map word_of entries) index) (close-word last (get_or entries index d))
-    ∙ sym (map-set word_of entries index (get_or entries index d))
-    ∙ ap (map word_of) (set-get_or entries index d) in
+pub served-closed : (g : Geometry) {boot : Boot} (file : List ℕ) (entries : List Entry) (live flushed : ℕ) (words : Words) (index : ℕ) (last : Entry) → index < length entries → last ≡ flushed_at words.safe index
+    → IsServed g boot file entries live flushed words → IsServed g boot file (set entries index (acted Close last (entry_at entries index))) live flushed words
+served-closed g file entries live flushed words index last low is was =
+    let entry = entry_at entries index in
+    let same : map word_of (set entries index (acted Close last entry)) ≡ map word_of entries =
+    map-set word_of entries index (acted Close last entry)
+    ∙ ap (set (map word_of entries) index) (close-word last entry)
+    ∙ sym (map-set word_of entries index entry)
+    ∙ ap (map word_of) (set-get_or entries index _) in
     record {
       long = was.long;
       head = was.head;
@@ -563,6 +600,9 @@ served-closed g file entries live flushed words index d last was =
       flushed_is = was.flushed_is;
       safe_words = was.safe_words;
       other_words = was.other_words;
+      summed = summed-set g file words.safe entries index (acted Close last entry) low was.summed (λ inside room.
+          subst (λ (l : Entry). is_summed g file index (flushed_at words.safe index) (acted Close l entry) ≡ true) (sym is)
+          (acted-summed g file index Close (flushed_at words.safe index) entry (was.summed index inside (rw (close-written last entry) at room))));
     }
 
 -- ---- what is durable

@@ -1,10 +1,10 @@
 -- The zones that are stored in a file, zone by zone.
-use Rattle.std.proofs.Common.{◌≡◌, ◌≢◌, ◌⊎◌, ℕ, zero, suc, ◌+◌, ◌*◌, ◌/◌, ◌<◌, ◌≤◌, ◌++◌, Bool, true, false, cond, not, List, [], ◌∷◌, length, map, set, get_or, take, drop, count_by, None, Some, Result, Ok, Err, refl, sym, ap, ◌∙◌, inl, inr, arith}
+use Rattle.std.proofs.Common.{◌≡◌, ◌≢◌, ◌⊎◌, ℕ, zero, suc, ◌+◌, ◌*◌, ◌/◌, ◌<◌, ◌≤◌, ◌++◌, Bool, true, false, cond, eqb, not, List, [], ◌∷◌, length, map, set, get_or, take, drop, count_by, None, Some, Result, Ok, Err, refl, sym, ap, ◌∙◌, inl, inr, arith}
 use Rattle.std.specs.List.{position, position_or_len}
 use Rattle.std.proofs.Math.Seq.{take-add}
 use Rattle.std.proofs.Math.Nat.{mul-div_cancel}
 use Rattle.std.specs.Prelude.{OnErr}
-use Rattle.std.proofs.lemmas.Bool.{cases_eq, ltb-false}
+use Rattle.std.proofs.lemmas.Bool.{cases_eq, eq-eqb, eqb-true, ltb-false}
 use Rattle.std.proofs.lemmas.List.{drop-drop, get_or_default, length-append, length-drop, length-take-le}
 use Rattle.nvme_wire.specs.declared.command.Action.{Action}
 use Rattle.nvme_wire.specs.declared.command.Action.TheVariants as actions
@@ -23,16 +23,18 @@ use Rattle.zone_drive.proofs.CountLaws.{count-cons}
 use Rattle.zone_drive.proofs.WriteLaws.{all-passed, whole-checked}
 use Rattle.file_drive.specs.Layout.{SamePlaces, at_place, file_length, part}
 use Rattle.file_drive.specs.Tables.{acted, appended, entry_after, entry_of, next_entries, place_of, zone_in, zones_in}
-use Rattle.file_drive.specs.InFile.{AreWithin, FiledZones, KeepsOthers, entry_at, filed}
+use Rattle.file_drive.specs.InFile.{AreWithin, FiledZones, KeepsOthers, entry_at, filed, is_summed}
+use Rattle.file_drive.specs.Sums.{kept_blocks, sum_of, zone_sum}
 use Rattle.file_drive.specs.declared.entry.Entry.{Entry}
 use Rattle.file_drive.proofs.PlaceLaws.{place-low, places-apart, zone-ends}
 use Rattle.file_drive.proofs.DataLaws.{within-at, zones-by-parts}
 use Rattle.file_drive.proofs.ServedLaws.{zones-kept}
+use Rattle.file_drive.proofs.SumLaws.{zone-sum-more}
 
 -- ---- lists
 
 abbrev pub no_entry : Entry
-no_entry = record { state = Offline; written = 0; second = false }
+no_entry = record { state = Offline; written = 0; second = false; sum = 0 }
 
 pub length-zones : (g : Geometry) (file : List ℕ) (number : ℕ) (entries : List Entry) → length (zones_in g file number entries) ≡ length entries
 length-zones g file number [] = refl
@@ -126,12 +128,24 @@ module _ (g : Geometry) (old middle new : List ℕ) (entries : List Entry) (inde
       omega (arith, length-append (part old (at_place g place) (first * g.block)) bytes, a, whole) in
       ap (λ (n : ℕ). n / g.block) all ∙ mul-div_cancel (first + blocks) {n = g.block} (omega (arith, some))
 
-  pub append-stored : zones_in g new 0 (set entries index (appended g (entry_at entries index) blocks))
+  pub append-stored : (sum : ℕ) → zones_in g new 0 (set entries index (appended g (entry_at entries index) blocks sum))
       ≡ set (zones_in g old 0 entries) index (stored_write g (stored_at (zones_in g old 0 entries) index) bytes)
-  append-stored =
+  append-stored sum =
       let zeroth : 0 + index ≡ index = omega arith in
-      zones-set g new 0 entries index (appended g (entry_at entries index) blocks)
+      zones-set g new 0 entries index (appended g (entry_at entries index) blocks sum)
       ∙ rw (append-others, zones-at g old 0 entries index (record { state = Offline; bytes = [] }) no_entry low, zeroth, append-bytes, append-count) refl
+
+  -- the zone has the sum of all its blocks
+  pub append-summed : (last : Entry) → kept_blocks last (entry_at entries index) ≤ first → is_summed g old index last (entry_at entries index) ≡ true
+      → is_summed g new index last (appended g (entry_at entries index) blocks (sum_of g.block blocks (entry_at entries index).sum bytes)) ≡ true
+  append-summed last few was =
+      let entry = entry_at entries index in
+      let sum = sum_of g.block blocks entry.sum bytes in
+      let next = appended g entry blocks sum in
+      let before = part old (at_place g place) (first * g.block) in
+      let more = zone-sum-more g.block last entry next before bytes blocks refl refl few (length-written g old index entry long below (omega (arith, room))) in
+      ap (λ (xs : List ℕ). eqb (zone_sum g.block last next xs) sum) append-bytes
+      ∙ eq-eqb _ _ (more ∙ ap (λ (s : ℕ). sum_of g.block blocks s bytes) (eqb-true _ _ was))
 
 -- ---- an action
 

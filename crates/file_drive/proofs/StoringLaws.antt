@@ -1,5 +1,5 @@
 -- A drive in memory is stored in a file.
-use Rattle.std.proofs.Common.{◌≡◌, ℕ, zero, suc, ◌+◌, ◌-◌, ◌*◌, ◌/◌, ◌%◌, ◌<◌, ◌≤◌, Bool, true, false, cond, List, [], ◌∷◌, length, map, get_or, replicate, slice_index, refl, sym, ap, ◌∙◌, subst, inl, inr, arith, below_more, Result, Ok, Err}
+use Rattle.std.proofs.Common.{◌≡◌, ℕ, zero, suc, ◌+◌, ◌-◌, ◌*◌, ◌/◌, ◌%◌, ◌<◌, ◌≤◌, Bool, true, false, cond, ◌&&◌, List, [], ◌∷◌, length, map, get_or, replicate, slice_index, refl, sym, ap, ◌∙◌, subst, inl, inr, arith, below_more, Result, Ok, Err}
 use Rattle.std.specs.List.{AllByRecursion}
 use Rattle.std.specs.Prelude.{OnOk}
 use Rattle.std.proofs.lemmas.Grind.{same_number_lists}
@@ -22,12 +22,11 @@ use Rattle.file_drive.specs.Finds.{Finds}
 use Rattle.file_drive.specs.Head.{is_of_boot, magic, shape_words}
 use Rattle.file_drive.specs.InFile.{AreWithin}
 use Rattle.file_drive.specs.Layout.{at_flushed, at_live, at_place, at_table, at_zones, file_length, part, word_in}
-use Rattle.file_drive.specs.Opening.{IsTable, opened_table}
+use Rattle.file_drive.specs.Opening.{IsTable, opened_table, proves_live}
 use Rattle.file_drive.specs.Storing.{AreUnnamed, HasHead, HoldsDrive, stored_entries, stored_entry}
 use Rattle.file_drive.specs.Tables.{entry_of, flushed_table, live_table, place_of, word_of, words_in, zone_in, zones_in}
 use Rattle.file_drive.specs.declared.boot.Boot.{Boot}
 use Rattle.file_drive.specs.declared.entry.Entry.{Entry}
-use Rattle.file_drive.proofs.ApartLaws.{apart-self}
 use Rattle.file_drive.proofs.FindsLaws.{entries-table, finds}
 use Rattle.file_drive.proofs.FormatLaws.{word-zero, words-zero, zeros}
 use Rattle.file_drive.proofs.PartLaws.{beside-both, beside-wider, length-words, part-beside, part-held, word-beside, words-at, words-beside}
@@ -270,8 +269,8 @@ module _ (g : Geometry) (zones : List StoredZone) (in_range : IsInRange g) (are 
     table-is = entries-table g bytes entries in_range long count (within g zones are) (rw zones-there are)
 
     -- whatever table counts, it has the words of the zones
-    counts : (boot : Boot) → words_in bytes (at_table g (opened_table boot bytes)) g.zones ≡ map word_of entries
-    counts boot = by (is_of_boot boot bytes)
+    counts : (boot : Boot) → words_in bytes (at_table g (opened_table g boot bytes)) g.zones ≡ map word_of entries
+    counts boot = by (is_of_boot boot bytes && proves_live g bytes)
       where
         by : (same : Bool) → words_in bytes (at_table g (cond same (live_table bytes) (flushed_table bytes))) g.zones ≡ map word_of entries
         by true = ap (λ (t : ℕ). words_in bytes (at_table g t) g.zones) live-is ∙ table-live
@@ -282,7 +281,7 @@ module _ (g : Geometry) (zones : List StoredZone) (in_range : IsInRange g) (are 
     stored-finds boot =
         let last : words_in bytes (at_table g (flushed_table bytes)) g.zones ≡ map word_of entries = ap (λ (t : ℕ). words_in bytes (at_table g t) g.zones) flushed-is ∙ table-flushed in
         let now = counts boot in
-        let found = finds g boot bytes in_range long head.words (subst (λ (ws : List ℕ). IsTable g ws) (sym last) table-is) (subst (λ (ws : List ℕ). IsTable g ws) (sym now) table-is) (rw (last, now) (apart-self (map word_of entries))) in
+        let found = finds g boot bytes in_range long head.words (subst (λ (ws : List ℕ). IsTable g ws) (sym last) table-is) in
         record {
           opens = found.opens;
           shape = found.shape;

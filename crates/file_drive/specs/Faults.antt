@@ -4,11 +4,10 @@ use Rattle.zone_states.specs.declared.geometry.Geometry.{Geometry}
 use Rattle.zone_states.specs.Checks.{first_failing}
 use Rattle.zone_states.specs.Geometry.{IsInRange, geometry_checks}
 use Rattle.file_drive.specs.Head.{magic, shape_words}
-use Rattle.file_drive.specs.InFile.{IsApart, entry_at}
+use Rattle.file_drive.specs.InFile.{entry_at}
 use Rattle.file_drive.specs.Layout.{at_table, file_length, word_in}
-use Rattle.file_drive.specs.Opening.{AreFew, Holds, IsWord, opened_table}
+use Rattle.file_drive.specs.Opening.{AreFew, Holds, IsWord}
 use Rattle.file_drive.specs.Tables.{entry_of, flushed_table, words_in}
-use Rattle.file_drive.specs.declared.boot.Boot.{Boot}
 use Rattle.file_drive.specs.declared.entry.Entry.{Entry}
 use Rattle.file_drive.specs.declared.fault.OpenFault.{OpenFault}
 use Rattle.file_drive.specs.declared.fault.OpenFault.TheVariants as faults
@@ -90,21 +89,14 @@ IsTableFault geometry words faults.Limits = ¬ AreFew geometry (map entry_of wor
 IsTableFault geometry words faults.OutOfMemory = ⊤
 IsTableFault geometry words fault = ⊥
 
--- a zone that is in the place where the last flush has more blocks of it
-abbrev pub IsApartFault : List ℕ → List Entry → OpenFault → Type 0
-IsApartFault words entries (faults.Table number) = (number < length entries) × ¬ IsApart words entries number
-IsApartFault words entries fault = ⊥
-
--- what is wrong with the table of the last flush, with the one that counts, or with both together
-abbrev pub AreTableFaults : Boot → List ℕ → OpenFault → Type 0
-AreTableFaults boot file fault =
+-- what is wrong with the table of the last flush
+abbrev pub AreTableFaults : List ℕ → OpenFault → Type 0
+AreTableFaults file fault =
     (geometry : Geometry) × (words_in file 0 8 ≡ shape_words geometry)
-    × (let flushed = words_in file (at_table geometry (flushed_table file)) geometry.zones in
-    let opened = words_in file (at_table geometry (opened_table boot file)) geometry.zones in
-    IsTableFault geometry flushed fault ⊎ IsTableFault geometry opened fault ⊎ IsApartFault flushed (map entry_of opened) fault)
+    × IsTableFault geometry (words_in file (at_table geometry (flushed_table file)) geometry.zones) fault
 
--- why a system in this boot does not open a file
-abbrev pub IsOpenFault : Boot → List ℕ → OpenFault → Type 0
-IsOpenFault boot file (faults.Table number) = AreTableFaults boot file (faults.Table number)
-IsOpenFault boot file faults.Limits = AreTableFaults boot file faults.Limits
-IsOpenFault boot file fault = IsHeadFault file fault
+-- why a system does not open a file, whatever its boot
+abbrev pub IsOpenFault : List ℕ → OpenFault → Type 0
+IsOpenFault file (faults.Table number) = AreTableFaults file (faults.Table number)
+IsOpenFault file faults.Limits = AreTableFaults file faults.Limits
+IsOpenFault file fault = IsHeadFault file fault

@@ -12,7 +12,7 @@ use Rattle.file_drive.specs.declared.fault.OpenFault.{OpenFault}
 
 -- A system in this boot opens the file, unless a read or a sync fails or memory is missing, and finds these zones of a drive of this shape.
 pub record Finds (geometry : Geometry) (boot : Boot) (file : List ℕ) (zones : List StoredZone) : Type 0 where
-  pub opens : (fault : OpenFault) → IsOpenFault boot file fault → IsReadFault fault
+  pub opens : (fault : OpenFault) → IsOpenFault file fault → IsReadFault fault
   pub shape : words_in file 0 8 ≡ shape_words geometry
   pub zones_are : opened_zones geometry boot file ≡ zones
 

@@ -1,11 +1,11 @@
 -- What an open reads of a file.
-use Rattle.std.specs.Prelude.{◌≡◌, ℕ, List, length, map}
+use Rattle.std.specs.Prelude.{◌≡◌, ℕ, ◌&&◌, not, Bool, List, length, map}
 use Rattle.zone_states.specs.declared.geometry.Geometry.{Geometry}
 use Rattle.zone_states.specs.Geometry.{IsInRange}
-use Rattle.file_drive.specs.Head.{boot_in, shape_words}
-use Rattle.file_drive.specs.InFile.{AreApart, other_table, spare_table}
+use Rattle.file_drive.specs.Head.{boot_in, is_of_boot, shape_words}
+use Rattle.file_drive.specs.InFile.{AreApart, AreSummed, other_table, spare_table}
 use Rattle.file_drive.specs.Layout.{at_table, file_length}
-use Rattle.file_drive.specs.Opening.{AreFew, IsTable, opened_table}
+use Rattle.file_drive.specs.Opening.{AreFew, IsTable, opened_table, proves_live}
 use Rattle.file_drive.specs.Tables.{entry_of, flushed_table, live_table, words_in}
 use Rattle.file_drive.specs.declared.boot.Boot.{Boot}
 use Rattle.file_drive.specs.declared.entry.Entry.{Entry}
@@ -36,14 +36,20 @@ abbrev pub IsLimitsFault : Geometry → List Entry → OpenFault → Type 0
 IsLimitsFault geometry entries faults.Limits = ¬ AreFew geometry entries
 IsLimitsFault geometry entries fault = ⊥
 
+-- The file names this boot, but does not prove the live table. So its zones are those of the last flush.
+abbrev pub is_set_back : Geometry → Boot → List ℕ → Bool
+is_set_back geometry boot file = is_of_boot boot file && not (proves_live geometry file)
+
 -- All that a system in this boot reads of a file. The entries are what the table that counts says.
 pub record IsFound (boot : Boot) (file : List ℕ) (found : Found) : Type 0 where
   pub head : IsHead file found.head
   pub tables : AreTables found.head.geometry file found.tables
-  pub entries : found.entries.items ≡ map entry_of (words_in file (at_table found.head.geometry (opened_table boot file)) found.head.geometry.zones)
-  pub words : IsTable found.head.geometry (words_in file (at_table found.head.geometry (opened_table boot file)) found.head.geometry.zones)
+  pub entries : found.entries.items ≡ map entry_of (words_in file (at_table found.head.geometry (opened_table found.head.geometry boot file)) found.head.geometry.zones)
+  pub words : IsTable found.head.geometry (words_in file (at_table found.head.geometry (opened_table found.head.geometry boot file)) found.head.geometry.zones)
   pub safe : IsTable found.head.geometry found.tables.safe.items
   pub apart : AreApart found.tables.safe.items found.entries.items
+  pub summed : AreSummed found.head.geometry file found.tables.safe.items found.entries.items
+  pub set_back : found.set_back ≡ is_set_back found.head.geometry boot file
 
 -- the head and the tables are as the file has them
 pub record IsRead (file : List ℕ) (found : Found) : Type 0 where

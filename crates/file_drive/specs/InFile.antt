@@ -1,5 +1,5 @@
 -- What is true of a file while a drive is served from it.
-use Rattle.std.specs.Prelude.{◌≡◌, ◌≢◌, ◌⊎◌, ℕ, ◌-◌, ◌*◌, ◌<◌, ◌≤◌, nat_le, not, ◌||◌, Bool, true, false, if◌then◌else◌, Contains, IsTrue, List, [], ◌∷◌, length, map, Some, slice_index, slice_index_or}
+use Rattle.std.specs.Prelude.{◌≡◌, ◌≢◌, ◌⊎◌, ℕ, ◌-◌, ◌*◌, ◌<◌, ◌≤◌, ◌==◌, nat_le, not, ◌||◌, Bool, true, false, if◌then◌else◌, Contains, IsTrue, List, [], ◌∷◌, length, map, Option, slice_index, slice_index_or}
 use Rattle.std.specs.List.{AllByRecursion}
 use Rattle.sqlite_disk.specs.Disk.{Only}
 use Rattle.nvme_wire.specs.declared.command.Action.{Action}
@@ -8,7 +8,8 @@ use Rattle.zone_states.specs.declared.geometry.Geometry.{Geometry}
 use Rattle.zone_states.specs.Stored.{StoredZone}
 use Rattle.file_drive.specs.Head.{at_second, boot_in, shape_words}
 use Rattle.file_drive.specs.Layout.{at_table, at_place, file_length, part, word_in}
-use Rattle.file_drive.specs.Tables.{entry_of, flushed_table, flushed_zones, live_table, next_entries, word_of, words_in, zones_in}
+use Rattle.file_drive.specs.Sums.{zone_sum}
+use Rattle.file_drive.specs.Tables.{entry_of, flushed_table, flushed_zones, live_table, next_entries, word_of, words_in, zone_in, zones_in}
 use Rattle.file_drive.specs.declared.boot.Boot.{Boot}
 use Rattle.file_drive.specs.declared.entry.Entry.{Entry}
 
@@ -47,7 +48,25 @@ pub record AreWords (geometry : Geometry) (words : List ℕ) : Type 0 where
   pub said : map word_of (map entry_of words) ≡ words
   pub within : AreWithin geometry (map entry_of words)
 
--- What a read shows: the live table that is picked says what is known, and the other tables have these words.
+-- what is known of a zone; past the last nothing is
+abbrev pub entry_at : List Entry → ℕ → Entry
+entry_at entries index = slice_index_or entries index (record { state = Offline; written = 0; second = false; sum = 0 })
+
+-- what the last flush says of a zone
+abbrev pub flushed_at : List ℕ → ℕ → Entry
+flushed_at words index = entry_of (slice_index words index)
+
+-- a zone with a number has the sum of the blocks that the file shows
+abbrev pub is_summed : Geometry → List ℕ → ℕ → Entry → Entry → Bool
+is_summed geometry file number flushed entry = zone_sum geometry.block flushed entry (zone_in geometry file number entry).bytes == entry.sum
+
+-- The same of each zone, of which the last flush has these words.
+abbrev pub AreSummed : Geometry → List ℕ → List ℕ → List Entry → Type 0
+AreSummed geometry file words entries =
+    (number : ℕ) → number < geometry.zones → (entry_at entries number).written ≤ geometry.capacity
+    → is_summed geometry file number (flushed_at words number) (entry_at entries number) ≡ true
+
+-- What a read shows: the live table that is picked says what is known, with the sums of what is shown, and the other tables have these words.
 pub record IsServed (geometry : Geometry) (boot : Boot) (file : List ℕ) (entries : List Entry) (live flushed : ℕ) (words : Words) : Type 0 where
   pub long : length file ≡ file_length geometry
   pub head : words_in file 0 8 ≡ shape_words geometry
@@ -58,6 +77,7 @@ pub record IsServed (geometry : Geometry) (boot : Boot) (file : List ℕ) (entri
   pub flushed_is : flushed_table file ≡ flushed
   pub safe_words : words_in file (at_table geometry flushed) geometry.zones ≡ words.safe
   pub other_words : words_in file (at_table geometry (other_table flushed)) geometry.zones ≡ words.other
+  pub summed : AreSummed geometry file words.safe entries
 
 -- What a loss of power may leave: the same flushed table, and the zones that it counts.
 pub record IsPromised (geometry : Geometry) (flushed : ℕ) (safe : List ℕ) (promised : List StoredZone) (file : List ℕ) : Type 0 where
@@ -104,14 +124,6 @@ pub record IsReady {F : Type 0} (seen : F → List ℕ) (may_leave : F → List 
   pub synced : Only (seen zones.file) (may_leave zones.file)
   pub words : words_in (seen zones.file) (at_table zones.shape (other_table (flushed_table (seen zones.file)))) zones.shape.zones ≡ map word_of zones.entries
 
--- what is known of a zone; past the last nothing is
-abbrev pub entry_at : List Entry → ℕ → Entry
-entry_at entries index = slice_index_or entries index (record { state = Offline; written = 0; second = false })
-
--- what the last flush says of a zone
-abbrev pub flushed_at : List ℕ → ℕ → Entry
-flushed_at words index = entry_of (slice_index words index)
-
 -- A zone is not in the place where the last flush has it, or the flush has no more blocks of it. So what is written
 -- behind its blocks is behind those of the flush, or elsewhere.
 abbrev pub is_apart : Entry → Entry → Bool
@@ -130,8 +142,8 @@ KeepsOthers geometry place first old new =
     (other written : ℕ) → other < 2 * geometry.zones → written ≤ geometry.capacity → (other ≢ place) ⊎ (written ≤ first)
     → part new (at_place geometry other) (written * geometry.block) ≡ part old (at_place geometry other) (written * geometry.block)
 
--- The other live table has the words of the zones after an action on all of them.
-abbrev pub IsSpared : {F : Type 0} → (F → List ℕ) → Action → FiledZones F → Type 0
+-- The other live table has the words of the zones after an action on all of them, if there is one.
+abbrev pub IsSpared : {F : Type 0} → (F → List ℕ) → Option Action → FiledZones F → Type 0
 IsSpared seen action zones =
     let file = seen zones.file in
-    words_in file (at_table zones.shape (spare_table (live_table file))) zones.shape.zones ≡ map word_of (next_entries (Some action) zones.safe zones.entries)
+    words_in file (at_table zones.shape (spare_table (live_table file))) zones.shape.zones ≡ map word_of (next_entries action zones.safe zones.entries)

@@ -1,6 +1,7 @@
 pub mod Layout
 pub mod Head
 pub mod Tables
+pub mod Sums
 pub mod InFile
 pub mod Opening
 pub mod Faults

@@ -15,7 +15,7 @@ use Rattle.file_drive.specs.declared.entry.Entry.{Entry}
 
 -- what a table says of a zone that is stored: it is in its first place
 abbrev pub stored_entry : Geometry → StoredZone → Entry
-stored_entry geometry zone = record { state = zone.state; written = length zone.bytes / geometry.block; second = false }
+stored_entry geometry zone = record { state = zone.state; written = length zone.bytes / geometry.block; second = false; sum = 0 }
 
 abbrev pub stored_entries : Geometry → List StoredZone → List Entry
 stored_entries geometry zones = map (stored_entry geometry) zones

@@ -28,13 +28,18 @@ abbrev pub state_from : ℕ → ZoneState
 state_from zero = Empty
 state_from code = unwrap_or (state_of code) Offline
 
--- the word of a zone: its state as a restart leaves it, whether it is in its second place, and its written blocks
+-- the word of a zone: its sum, its state as a restart leaves it, whether it is in its second place, and its written blocks
 abbrev pub word_of : Entry → ℕ
-word_of entry = (table_code (restarted_state entry.state) * 2 + one_if entry.second) * 2 ^ 32 + entry.written
+word_of entry = ((entry.sum % 2 ^ 27 * 16 + table_code (restarted_state entry.state)) * 2 + one_if entry.second) * 2 ^ 32 + entry.written
 
 -- what a word says
 abbrev pub entry_of : ℕ → Entry
-entry_of word = record { state = state_from (word / 2 ^ 33); written = word % 2 ^ 32; second = word / 2 ^ 32 % 2 == 1 }
+entry_of word = record {
+  state = state_from (word / 2 ^ 33 % 16);
+  written = word % 2 ^ 32;
+  second = word / 2 ^ 32 % 2 == 1;
+  sum = word / 2 ^ 37 % 2 ^ 27;
+}
 
 -- the words of a table
 abbrev pub words_in : List ℕ → ℕ → ℕ → List ℕ
@@ -80,13 +85,23 @@ abbrev pub written_after : Action → ℕ → ℕ
 written_after actions.Reset written = 0
 written_after action written = written
 
+-- The sum of a zone after an action. A Reset leaves that of the last flush: no block was written since.
+abbrev pub sum_left : Action → Entry → Entry → ℕ
+sum_left actions.Reset flushed entry = flushed.sum
+sum_left action flushed entry = entry.sum
+
 -- Which place a zone is in after an action. A Reset leaves the place where the last flush has blocks of the zone.
 abbrev pub second_after : Action → Entry → Entry → Bool
 second_after actions.Reset flushed entry = if flushed.written == 0 then entry.second else not flushed.second
 second_after action flushed entry = entry.second
 
 abbrev pub entry_after : Action → Entry → Entry → Result ZoneState Status → Entry
-entry_after action flushed entry (Ok state) = record { state = state; written = written_after action entry.written; second = second_after action flushed entry }
+entry_after action flushed entry (Ok state) = record {
+  state = state;
+  written = written_after action entry.written;
+  second = second_after action flushed entry;
+  sum = sum_left action flushed entry;
+}
 entry_after action flushed entry (Err status) = entry
 
 -- an action on one zone, of which the last flush says this
@@ -108,8 +123,8 @@ next_entries action [] entries = entries
 next_entries action (word ∷ words) [] = []
 next_entries action (word ∷ words) (entry ∷ entries) = next_entry action (entry_of word) entry ∷ next_entries action words entries
 
--- a zone of which more blocks are written
-abbrev pub appended : Geometry → Entry → ℕ → Entry
-appended geometry entry blocks =
+-- a zone of which more blocks are written, with the sum that it has then
+abbrev pub appended : Geometry → Entry → ℕ → ℕ → Entry
+appended geometry entry blocks sum =
     let written = entry.written + blocks in
-    record { state = if written == geometry.capacity then Full else opened_by_write entry.state; written = written; second = entry.second }
+    record { state = if written == geometry.capacity then Full else opened_by_write entry.state; written = written; second = entry.second; sum = sum }

@@ -15,8 +15,9 @@ use zone_drive::Resources;
 use zone_states::Action;
 
 impl<F: FileBytes + Drop, S: System + Drop> FileZones<F, S> {
-    /// Writes the words that the zones have after an action on all of them, in the live table that is not picked.
-    fn write_spare(&mut self, action: Action) -> Result<(), Halt>
+    /// Writes the words that the zones have after an action on all of them or, without one, now, in the live table that
+    /// is not picked.
+    pub(crate) fn write_spare(&mut self, action: Option<Action>) -> Result<(), Halt>
         ensures shape { self.new.shape ≡ self.old.shape }
         ensures entries { self.new.entries ≡ self.old.entries }
         ensures only { IfErr result (λ halt. halt ≡ Halt.Stopped) }
@@ -35,7 +36,7 @@ impl<F: FileBytes + Drop, S: System + Drop> FileZones<F, S> {
             &mut self.spare,
             &self.entries,
             &self.safe,
-            Some(action),
+            action,
         );
         if written.is_err() {
             self.failed = true;
@@ -46,7 +47,7 @@ impl<F: FileBytes + Drop, S: System + Drop> FileZones<F, S> {
 
     /// Picks that table.
     fn pick_spare(&mut self, action: Action) -> Result<(), Halt>
-        requires { IsSpared F.seen action self.old }
+        requires { IsSpared F.seen (Some action) self.old }
         ensures shape { self.new.shape ≡ self.old.shape }
         ensures ok { OnOk result (self.new.entries
             ≡ next_entries (Some action) self.old.safe self.old.entries) }
@@ -79,7 +80,7 @@ impl<F: FileBytes + Drop, S: System + Drop> FileZones<F, S> {
         ensures durable { self.new.durable ≡ self.old.durable }
     {
         let _ = &self.file;
-        self.write_spare(action)?;
+        self.write_spare(Some(action))?;
         self.pick_spare(action)?;
         Ok(())
     }

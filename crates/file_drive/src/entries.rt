@@ -1,9 +1,8 @@
 ghost use Rattle.std.specs.Prelude.{◌≡◌, ◌≤◌, ◌↔◌, IfErr, IfOk, IsTrue, OnOk, length, map};
 ghost use Rattle.std.specs.List.{AllByRecursion};
-ghost use Rattle.file_drive.specs.Faults.{IsApartFault, IsEntryFault, IsTableFault, IsWordFault};
+ghost use Rattle.file_drive.specs.Faults.{IsEntryFault, IsTableFault, IsWordFault};
 ghost use Rattle.file_drive.specs.Found.{IsLimitsFault};
-ghost use Rattle.file_drive.specs.InFile.{AreApart};
-ghost use Rattle.file_drive.specs.Opening.{AreFew, Holds, IsTable, IsWord};
+ghost use Rattle.file_drive.specs.Opening.{AreFew, Holds, IsTable, IsWord, are_few, is_word};
 ghost use Rattle.file_drive.specs.Tables.{entry_of};
 
 use crate::entry::Entry;
@@ -13,8 +12,9 @@ use zone_drive::{Resources, may_hold};
 use zone_states::Geometry;
 
 /// Whether a table may have this word for a zone.
-fn is_word(geometry: &Geometry, word: u64) -> bool
-    ensures { IsTrue result ↔ IsWord geometry.now word }
+pub fn is_word(geometry: &Geometry, word: u64) -> bool
+    ensures word { IsTrue result ↔ IsWord geometry.now word }
+    ensures test { result ≡ is_word geometry.now word }
 {
     let entry = Entry::of_word(word);
     entry.word() == word && entry.written <= geometry.capacity
@@ -50,7 +50,7 @@ fn check_entries(geometry: &Geometry, entries: &[Entry]) -> Result<(), OpenFault
 }
 
 /// The entries that the words of a table stand for.
-fn entries_of(alloc: Global, words: &[u64]) -> Result<Vec<Entry>, AllocError>
+pub fn entries_of(alloc: Global, words: &[u64]) -> Result<Vec<Entry>, AllocError>
     ensures { IfOk result (λ entries. entries.items ≡ map entry_of words.now) }
 {
     let mut entries = Vec::new(alloc);
@@ -60,34 +60,25 @@ fn entries_of(alloc: Global, words: &[u64]) -> Result<Vec<Entry>, AllocError>
     Ok(entries)
 }
 
+/// Whether no more of these zones are active and open than may be.
+pub fn are_few(geometry: &Geometry, entries: &[Entry]) -> bool
+    requires { length entries.now ≤ 65536 }
+    ensures { result ≡ are_few geometry.now entries.now }
+{
+    let resources = Resources::of(entries);
+    resources.active_zones <= geometry.active && resources.open_zones <= geometry.open
+}
+
 /// Refuses zones if too many of them are active or open.
 fn check_limits(geometry: &Geometry, entries: &[Entry]) -> Result<(), OpenFault>
     requires { length entries.now ≤ 65536 }
     ensures ok { OnOk result (AreFew geometry.now entries.now) }
     ensures err { IfErr result (IsLimitsFault geometry.now entries.now) }
 {
-    let resources = Resources::of(entries);
-    if resources.active_zones > geometry.active || resources.open_zones > geometry.open {
-        return Err(OpenFault::Limits);
+    if are_few(geometry, entries) {
+        return Ok(());
     }
-    Ok(())
-}
-
-/// Refuses zones of which one is in the place where the last flush has more blocks of it. The
-/// first one is named.
-pub fn check_apart(words: &[u64], entries: &[Entry]) -> Result<(), OpenFault>
-    requires few { length entries.now ≤ 65536 }
-    requires count { length words.now ≡ length entries.now }
-    ensures ok { OnOk result (AreApart words.now entries.now) }
-    ensures err { IfErr result (IsApartFault words.now entries.now) }
-{
-    for index in 0..entries.len() {
-        let flushed = Entry::of_word(words[index]);
-        if !entries[index].is_apart(flushed) {
-            return Err(OpenFault::Table(index as u32));
-        }
-    }
-    Ok(())
+    Err(OpenFault::Limits)
 }
 
 /// The entries of a table, if a drive of this shape can have it.

@@ -2,18 +2,21 @@ ghost use Rattle.std.specs.Prelude.{◌≡◌, ◌+◌, ◌^◌, ◌<◌, Some, 
 ghost use Rattle.drive_port.specs.Run.{restarted_state};
 ghost use Rattle.drive_port.specs.Step.{one_if};
 ghost use Rattle.file_drive.specs.InFile.{is_apart};
+ghost use Rattle.file_drive.specs.Sums.{has_moved, kept_blocks};
 ghost use Rattle.file_drive.specs.Tables.{acted, appended, entry_of, next_entries, next_entry, place_of, second_after};
 ghost use Rattle.file_drive.specs.Tables.{state_from, table_code, word_of};
 
 use zone_drive::selects;
 use zone_states::{Action, Geometry, ZoneState, next_state, opened_by_write};
 
-/// What a table says of a zone: its state, how many of its blocks are written, and whether it is in its second place.
+/// What a table says of a zone: its state, how many of its blocks are written, whether it is in its second place, and
+/// the sum of its blocks, of 27 bits.
 #[derive(Clone, Copy, Debug, PartialEq, Eq)]
 pub struct Entry {
     pub state: ZoneState,
     pub written: u32,
     pub second: bool,
+    pub sum: u32,
 }
 
 /// The state after a restart: a zone that was open is Closed.
@@ -64,8 +67,10 @@ impl Entry {
     pub fn word(self) -> u64
         ensures { result ≡ word_of self }
     {
+        let sum = u64::from(self.sum % (1 << 27));
         let code = u64::from(table_code(restarted(self.state)));
-        (code * 2 + u64::from(one_if(self.second))) * (1 << 32) + u64::from(self.written)
+        let high = (sum * 16 + code) * 2 + u64::from(one_if(self.second));
+        high * (1 << 32) + u64::from(self.written)
     }
 
     /// What a word says.
@@ -73,9 +78,10 @@ impl Entry {
         ensures { result ≡ entry_of word }
     {
         Entry {
-            state: state_from(word / (1 << 33)),
+            state: state_from(word / (1 << 33) % 16),
             written: (word % (1 << 32)) as u32,
             second: word / (1 << 32) % 2 == 1,
+            sum: (word / (1 << 37) % (1 << 27)) as u32,
         }
     }
 
@@ -88,17 +94,33 @@ impl Entry {
         2 * number + one_if(self.second)
     }
 
+    /// Whether the zone is in another place than at the last flush.
+    fn has_moved(self, flushed: Entry) -> bool
+        ensures { result ≡ has_moved flushed self }
+    {
+        if flushed.second {
+            !self.second
+        } else {
+            self.second
+        }
+    }
+
     /// Whether all blocks that the last flush has of the zone are still there: the zone is in its
     /// other place, or has at least as many blocks in the same one.
     pub fn is_apart(self, flushed: Entry) -> bool
         ensures { result ≡ is_apart flushed self }
     {
-        let moved = if flushed.second {
-            !self.second
-        } else {
-            self.second
-        };
-        moved || flushed.written <= self.written
+        self.has_moved(flushed) || flushed.written <= self.written
+    }
+
+    /// How many blocks of the last flush are in the place of the zone. The blocks behind them were written since.
+    pub fn kept_blocks(self, flushed: Entry) -> u32
+        ensures { result ≡ kept_blocks flushed self }
+    {
+        if self.has_moved(flushed) {
+            return 0;
+        }
+        flushed.written
     }
 
     /// Whether the zone is in its second place after an action. If the last flush has blocks of the
@@ -120,16 +142,17 @@ impl Entry {
         let Ok(state) = next_state(self.state, action) else {
             return self;
         };
-        let written = if action == Action::Reset {
-            0
+        let (written, sum) = if action == Action::Reset {
+            (0, flushed.sum)
         } else {
-            self.written
+            (self.written, self.sum)
         };
         let second = self.second_after(action, flushed);
         Entry {
             state,
             written,
             second,
+            sum,
         }
     }
 
@@ -143,10 +166,10 @@ impl Entry {
         }
     }
 
-    /// The zone after so many more blocks were written.
-    pub fn appended(self, geometry: &Geometry, blocks: u32) -> Entry
+    /// The zone after so many more blocks were written, with the sum that it has then.
+    pub fn appended(self, geometry: &Geometry, blocks: u32, sum: u32) -> Entry
         requires { self.written + blocks < 2 ^ 32 }
-        ensures { result ≡ appended geometry.now self blocks }
+        ensures { result ≡ appended geometry.now self blocks sum }
     {
         let written = self.written + blocks;
         let state = if written == geometry.capacity {
@@ -158,6 +181,7 @@ impl Entry {
             state,
             written,
             second: self.second,
+            sum,
         }
     }
 }

@@ -21,7 +21,8 @@ pub enum OpenFault {
     /// It is longer.
     #[error("the file is too long for its drive")]
     Long,
-    /// The word of the zone with this number is none that a table may have, or that the last flush allows.
+    /// The table of the last flush has a word that is none of a zone, or that the zone's state does not allow. The zone has
+    /// this number.
     #[error("the table says of zone {0} what cannot be")]
     Table(u32),
     /// More zones are active or open than may be.

@@ -47,6 +47,22 @@ impl<F: FileBytes + Drop, S: System + Drop> FileZones<F, S> {
         }
     }
 
+    /// Writes the words of the zones to both tables that are not picked, and syncs the file. So no word of a live table is
+    /// older than the flush.
+    fn write_both(&mut self) -> Result<(), Halt>
+        ensures shape { self.new.shape ≡ self.old.shape }
+        ensures entries { self.new.entries ≡ self.old.entries }
+        ensures only { IfErr result (λ halt. halt ≡ Halt.Stopped) }
+        ensures zones { SamePlaces self.old.shape (F.seen self.old.file) (F.seen self.new.file) }
+        ensures ready { OnOk result (IsReady F.seen F.may_leave self.new) }
+        ensures durable { self.new.durable ≡ self.old.durable }
+    {
+        let _ = &self.file;
+        self.write_spare(None)?;
+        self.write_other()?;
+        Ok(())
+    }
+
     /// Picks that table, and syncs the file. If that fails, a loss of power may leave either table picked.
     fn pick_other(&mut self) -> Result<(), Halt>
         requires { IsReady F.seen F.may_leave self.old }
@@ -89,7 +105,7 @@ impl<F: FileBytes + Drop, S: System + Drop> FileZones<F, S> {
         ensures durable { DurableOrNow (filed F.seen self.old) self.old.durable self.new.durable }
     {
         let _ = &self.file;
-        self.write_other()?;
+        self.write_both()?;
         self.pick_other()?;
         Ok(())
     }

@@ -7,6 +7,7 @@ ghost use Rattle.file_drive.specs.InFile.{filed};
 
 use crate::boot::System;
 use crate::entry::Entry;
+use crate::sums::sum_of;
 use crate::zones::FileZones;
 use drive_port::Halt;
 use file_bytes::FileBytes;
@@ -25,8 +26,11 @@ impl<F: FileBytes + Drop, S: System + Drop> FileZones<F, S> {
         ensures only { IfErr result (λ halt. halt ≡ Halt.Stopped) }
         ensures durable { self.new.durable ≡ self.old.durable }
     {
-        let blocks = bytes.len() / self.geometry.block as usize;
-        let entry = self.entries[index].appended(&self.geometry, blocks as u32);
+        let block = self.geometry.block as usize;
+        let blocks = bytes.len() / block;
+        let before = self.entries[index];
+        let sum = sum_of(block, blocks, before.sum, bytes);
+        let entry = before.appended(&self.geometry, blocks as u32, sum);
         self.write_data(index, bytes)?;
         self.put(index, entry)?;
         Ok(())

@@ -21,6 +21,10 @@
 //!   in it, finds the zones as the last answered command left them, or the one under way (`FileZones::into_file`,
 //!   `kill`). So it does after a kill inside of a call that was not done (`cut`). Only a read or a sync that fails or
 //!   missing memory prevents it.
+//! * An open in the boot that the file names believes the live table only if the file proves it: each zone has the sum of
+//!   what the file shows of it (`proves_live`). Else the flushed table counts, and `Found` says so (`set_back`). Whatever
+//!   a loss of power leaves can be opened in any boot, in this way (`here`). So no flushed zone is shown older where a
+//!   disk lost its power and the system stayed up, unless a sum agrees by chance: once in some 134 million cases.
 //! * After a sync that failed, the system may show older bytes wherever it was not synced, in the same boot too. Then
 //!   the drive stops, and takes its boot out of the file's head. Each later open, in any boot, finds zones that are
 //!   durable (`lost`). If that word cannot be written either, nothing is promised in the same boot.
@@ -32,10 +36,11 @@
 //!   point, both leave no drive or the whole one (`whole`).
 //! * A write or a sync that fails stops the drive: the zones are as they were, nothing more is asked of the file, and
 //!   what was promised before stays.
-//! * An open finds the zones of the table that counts, or tells by name why a file is no drive. Whatever it answers, a
-//!   system in this boot finds the same zones later. A system in another boot finds the same, or the zones of the last
-//!   flush (`open`, `unnoticed`). If its own sync fails, it says so (`Unsynced`), and takes the boot out of the head of a
-//!   drive (`out`). So each later open takes the table of the last flush.
+//! * An open finds the zones of the table that counts, or tells by name why a file is no drive. Only the flushed table can
+//!   be such a reason. Whatever an open answers, a system in this boot finds the same zones later. A system in another
+//!   boot finds the same, or the zones of the last flush (`open`, `unnoticed`). If its own sync fails, it says so
+//!   (`Unsynced`), and takes the boot out of the head of a drive (`out`). So each later open takes the table of the last
+//!   flush.
 //! * `copy_zones` gives a drive in memory with just the zones that are held: their states, and the bytes of their
 //!   written blocks. A report does not tell how many blocks of a Full zone are written, so no Read could find that.
 //!   `load` does it with the zones of a file that was opened. What `store` made of zones, `load` gives back as a
@@ -45,6 +50,9 @@
 //!
 //! * That a file of the system keeps the contract of `file_bytes`, and that two boots have two identifiers:
 //!   `ports/linux` says what that rests on.
+//! * That two lists of blocks have two sums. Nor that zones which are proved are all of one moment: each is as it was at
+//!   the last flush or since. A disk writes whole sectors, and one has the words of 64 zones. So this needs more zones, or
+//!   a loss while an open wrote the live table anew, before a flush.
 //! * That a drive stops, and `format`, `store`, `open` and `load` fail, only where a call on the file failed: a body
 //!   that always stops meets any contract. Tests try it.
 //! * That the room of blocks that a Reset took comes back after a flush: a file may keep it by contract. That a zone is
@@ -52,12 +60,17 @@
 //!
 //! # How
 //!
-//! Each zone has two places in the file. Its word in a table has its state, as a restart leaves it, its place, and how
-//! many blocks are written. There are two live tables and two flushed ones. A word in the file picks one of each two
-//! (`specs/Layout.antt`).
+//! Each zone has two places in the file. Its word in a table has its state, as a restart leaves it, its place, how many
+//! blocks are written, and their sum. There are two live tables and two flushed ones. A word in the file picks one of
+//! each two (`specs/Layout.antt`).
 //!
-//! An append writes the blocks, and then the zone's word in the live table. A flush writes the flushed table that is
-//! not picked, syncs, picks it, and syncs. So a flush costs two syncs.
+//! An append writes the blocks, and then the zone's word in the live table. A flush writes the two tables that are not
+//! picked, syncs, picks the flushed one, and syncs. So a flush costs two syncs, and no live word is older than it.
+//!
+//! The sum of a zone goes on from the one of the last flush, by each block that is written since (`specs/Sums.antt`).
+//! A Reset leaves that of the flush. It is in the same word as the count of blocks, so one write changes both. An open in
+//! the same boot reads the blocks that were written since the last flush, and no others. The checksum is that of
+//! SQLite's log: a sum tells of accidents, and not of an adversary.
 //!
 //! A Reset moves a zone to its other place if the last flush has blocks of it in the present one, and only then. So no
 //! append writes over blocks that the last flush promised (`AreApart` in `specs/InFile.antt`). The file is sparse: a
@@ -71,9 +84,9 @@
 //! Reset of all, or where memory was missing (`Freed`). A kill between the two leaves that room to a later Reset of the
 //! zone.
 //!
-//! The head names the boot of the system that served the file last. An open in the same boot takes the live table. In
-//! another boot it takes the flushed one. Then it writes the live one anew before it names its own boot. If a sync
-//! fails, the second word of that boot becomes 0, so that each later open takes the flushed table (`sync_file`).
+//! The head names the boot of the system that served the file last. An open in the same boot takes the live table, if the
+//! file proves it. Any other open takes the flushed one. Then it writes the live one anew before it names its own boot.
+//! If a sync fails, the second word of that boot becomes 0, so that each later open takes the flushed table (`sync_file`).
 //!
 //! All tables of a new file are written, also where they have zeros. So the file system has room for them, and a full
 //! one is in the way of no open and of no flush.
@@ -99,10 +112,12 @@ mod laws;
 mod layout;
 mod loading;
 mod opening;
+mod proving;
 mod reading;
 mod releasing;
 mod serving;
 mod storing;
+mod sums;
 mod syncing;
 mod tables;
 mod words;

@@ -1,7 +1,7 @@
-ghost use Rattle.std.specs.Prelude.{◌≡◌, ◌⊎◌, false, length, map, true, IfErr, IfOk, IsErrAnd, IsTrue, OnErr, OnOk};
+ghost use Rattle.std.specs.Prelude.{◌≡◌, ◌⊎◌, ◌==◌, ◌&&◌, not, false, length, map, true, IfErr, IfOk, IsErrAnd, IsTrue, OnErr, OnOk};
 ghost use Rattle.sqlite_disk.specs.Disk.{Follows, Only};
-ghost use Rattle.file_drive.specs.Found.{IsFound, IsRead, with_boot};
-ghost use Rattle.file_drive.specs.Head.{TakesOut, is_of_boot, shape_words};
+ghost use Rattle.file_drive.specs.Found.{IsFound, IsRead, is_set_back, with_boot};
+ghost use Rattle.file_drive.specs.Head.{TakesOut, is_known, is_of_boot, shape_words};
 ghost use Rattle.file_drive.specs.Faults.{IsOpenFault, IsUnsynced};
 ghost use Rattle.file_drive.specs.Opened.{IsOpened};
 ghost use Rattle.file_drive.specs.Opening.{GivesUp, KeepsFlushed, Unnoticed, opened_zones};
@@ -86,7 +86,6 @@ fn put_live<F: FileBytes>(file: &mut F, found: &mut Found) -> io::Result<()>
 fn take_over<F: FileBytes>(file: &mut F, found: &mut Found, boot: Boot) -> io::Result<()>
     requires read { IsRead (F.FileBytes.seen file.old) found.old }
     requires count { length found.old.entries.items ≡ found.old.head.geometry.zones }
-    requires another { is_of_boot boot (F.FileBytes.seen file.old) ≡ false }
     ensures read { IsRead (F.FileBytes.seen file.new) found.new }
     ensures ok { OnOk result (found.new.head.boot ≡ boot) }
     ensures live { OnOk result (found.new.tables.current.items ≡ map word_of found.new.entries.items) }
@@ -108,6 +107,14 @@ fn take_over<F: FileBytes>(file: &mut F, found: &mut Found, boot: Boot) -> io::R
     Ok(())
 }
 
+/// Whether a file that was read is ready for this boot: the boot served it last, and the live table counts.
+fn is_ready(found: &Found, boot: Boot) -> bool
+    ensures { result ≡ (is_known boot && (found.now.head.boot.first == boot.first
+        && found.now.head.boot.second == boot.second) && not found.now.set_back) }
+{
+    is_same_boot(found.head.boot, boot) && !found.set_back
+}
+
 /// Makes a file that was read and synced ready for this boot.
 fn make_ready<F: FileBytes>(file: &mut F, found: &mut Found, boot: Boot) -> io::Result<()>
     requires found { IsFound boot (F.FileBytes.seen file.old) found.old }
@@ -116,13 +123,14 @@ fn make_ready<F: FileBytes>(file: &mut F, found: &mut Found, boot: Boot) -> io::
     ensures ok { OnOk result (IsOpened F.FileBytes.seen F.FileBytes.may_leave F.FileBytes.is_usable boot file.new
         found.new) }
     ensures geometry { found.new.head.geometry ≡ found.old.head.geometry }
+    ensures set_back { found.new.set_back ≡ found.old.set_back }
     ensures zones { zones_in found.old.head.geometry (F.FileBytes.seen file.new) 0 found.new.entries.items
         ≡ opened_zones found.old.head.geometry boot (F.FileBytes.seen file.old) }
     ensures unnoticed { Unnoticed F.FileBytes.seen F.FileBytes.may_leave boot found.old.head.geometry file.old
         file.new }
     ensures usable { F.FileBytes.is_usable file.new ≡ F.FileBytes.is_usable file.old }
 {
-    if is_same_boot(found.head.boot, boot) {
+    if is_ready(found, boot) {
         return Ok(());
     }
     take_over(file, found, boot)?;
@@ -131,9 +139,10 @@ fn make_ready<F: FileBytes>(file: &mut F, found: &mut Found, boot: Boot) -> io::
 
 /// Opens a file as a drive: syncs it, reads it, and makes it ready for this boot of the system.
 ///
-/// If the same boot served the file last, the zones are those after the last command. The program
-/// may have been killed, but the system kept all that was written. In another boot the zones are
-/// those of the last flush.
+/// If the same boot served the file last, and the file shows what was written since the last flush, the zones are those
+/// after the last command: the program may have been killed, but the system kept all that was written. The sums of the
+/// zones tell that. So what was written since the last flush is read. If the file does not show it, the zones are those
+/// of the last flush, and `set_back` says so. In another boot the zones are those of the last flush, too.
 ///
 /// After an error the next open in this boot finds the same zones as before. An open in another
 /// boot finds the same, or those of the last flush. A loss of power leaves what it might have left
@@ -150,7 +159,9 @@ pub fn open<F: FileBytes, S: System>(
     ensures ok { IfOk result (IsOpened F.seen F.may_leave F.is_usable S.boot file.new) }
     ensures zones { IfOk result (λ found. zones_in found.head.geometry (F.seen file.new) 0 found.entries.items
         ≡ opened_zones found.head.geometry S.boot (F.seen file.old)) }
-    ensures err { IsTrue (F.is_usable file.new) → IfErr result (IsOpenFault S.boot (F.seen file.old)) }
+    ensures set_back { IfOk result (λ found.
+        found.set_back ≡ is_set_back found.head.geometry S.boot (F.seen file.old)) }
+    ensures err { IsTrue (F.is_usable file.new) → IfErr result (IsOpenFault (F.seen file.old)) }
     ensures unsynced { F.is_usable file.new ≡ false → IsErrAnd result IsUnsynced }
     ensures unnoticed { IsTrue (F.is_usable file.new) → (geometry : Geometry)
         → words_in (F.seen file.old) 0 8 ≡ shape_words geometry

@@ -32,6 +32,7 @@ impl<F: FileBytes + Drop, S: System + Drop> FileZones<F, S> {
             state: ZoneState::Empty,
             written: 0,
             second,
+            sum: 0,
         };
         let flushed = Entry::of_word(self.safe[index]);
         let entry = self.entries[index];

@@ -7,6 +7,7 @@ ghost use Rattle.file_drive.specs.Finds.{Finds};
 ghost use Rattle.file_drive.specs.Head.{is_known, is_of_boot};
 ghost use Rattle.file_drive.specs.InFile.{filed, promised_zones};
 ghost use Rattle.file_drive.specs.Opened.{IsOpened, served_zones};
+ghost use Rattle.file_drive.specs.Opening.{opened_zones, proves_live};
 ghost use Rattle.file_drive.specs.Tables.{zones_in};
 ghost use Rattle.file_drive.specs.declared.boot.Boot.{Boot};
 
@@ -71,7 +72,8 @@ impl<F: FileBytes + Drop, S: System + Drop> FileZones<F, S> {
     /// The file. It is what a kill at this moment leaves. If no sync has failed, a system that is still in the same
     /// boot, and knows it, finds the zones as they are. So it does if the kill is inside of a call of the file, which
     /// was not done (`cut`). If a sync has failed, and the head could be told, a system in any boot finds zones that are
-    /// durable (`lost`). After a loss of power a system in another boot finds such zones, too.
+    /// durable (`lost`). After a loss of power a system in another boot finds such zones, too. One in any boot opens what
+    /// it left, and finds such zones or those of a live table that the file proves (`here`).
     pub fn into_file(self) -> F
         ensures file { result ≡ self.file }
         ensures kill { is_known S.boot ≡ true → IsTrue (F.is_usable self.file)
@@ -87,6 +89,10 @@ impl<F: FileBytes + Drop, S: System + Drop> FileZones<F, S> {
         ensures power { AreDurable self.shape self.durable → (bytes : List ℕ) (boot : Boot)
             → F.may_leave self.file bytes → is_of_boot boot bytes ≡ false
             → (zones : List StoredZone) × Contains self.durable zones × Finds self.shape boot bytes zones }
+        ensures here { AreDurable self.shape self.durable → (bytes : List ℕ) (boot : Boot)
+            → F.may_leave self.file bytes → Finds self.shape boot bytes (opened_zones self.shape boot bytes)
+            × (proves_live self.shape bytes ≡ false
+            → Contains self.durable (opened_zones self.shape boot bytes)) }
     {
         self.file
     }

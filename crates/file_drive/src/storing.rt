@@ -30,6 +30,7 @@ fn stored_entry(geometry: &Geometry, zone: &Zone) -> Entry
         state: zone.state(),
         written: zone.blocks(geometry) as u32,
         second: false,
+        sum: 0,
     }
 }
 

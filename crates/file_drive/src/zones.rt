@@ -1,6 +1,6 @@
 ghost use Rattle.std.specs.Prelude.{◌≡◌, ◌<◌, ◌≤◌, IfErr, OnErr, OnOk, length, slice_set, true};
 ghost use Rattle.file_drive.specs.Layout.{SamePlaces};
-ghost use Rattle.file_drive.specs.InFile.{flushed_at, is_apart};
+ghost use Rattle.file_drive.specs.InFile.{flushed_at, is_apart, is_summed};
 
 use crate::boot::{Boot, System};
 use crate::entry::Entry;
@@ -100,6 +100,8 @@ impl<F: FileBytes + Drop, S: System + Drop> FileZones<F, S> {
         requires in_range { index < length self.old.entries }
         requires within { entry.written ≤ self.old.shape.capacity }
         requires apart { is_apart (flushed_at self.old.safe index) entry ≡ true }
+        requires summed { is_summed self.old.shape (F.seen self.old.file) index (flushed_at self.old.safe index) entry
+            ≡ true }
         ensures shape { self.new.shape ≡ self.old.shape }
         ensures ok { OnOk result (self.new.entries ≡ slice_set self.old.entries index entry) }
         ensures err { OnErr result (self.new.entries ≡ self.old.entries) }

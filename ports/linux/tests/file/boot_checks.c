@@ -140,6 +140,7 @@ static void tell(uint64_t session) {
     zonedisk_tell_unknown_boot();
     zonedisk_tell_unknown_boot();
     zonedisk_tell_unsynced();
+    zonedisk_tell_set_back();
     fclose(stderr);
     _exit(0);
 }
@@ -154,7 +155,7 @@ static void try_telling(void) {
         expect(strncmp(line, "zonedisk: ", 10) == 0, "who tells");
     }
     if (file != NULL) fclose(file);
-    expect(lines == 2, "the boot is told once");
+    expect(lines == 3, "the boot is told once");
 }
 
 // What the system itself tells, where it tells any.

@@ -1,13 +1,13 @@
-use Rattle.std.proofs.Common.{rules, ◌≡◌, ◌∙◌, false, map, sym, ap}
+use Rattle.std.proofs.Common.{rules, ◌≡◌, ◌∙◌, map, sym, ap}
 use Rattle.file_drive.specs.Tables.{word_of, zones_in}
 use Rattle.file_drive.specs.declared.found.Found.{Found}
-use Rattle.file_drive.proofs.OpenedLaws.{boot-test, found-count, found-kept, opened-now, opened-taken, unnoticed}
+use Rattle.file_drive.proofs.OpenedLaws.{found-count, found-kept, opened-now, opened-taken, unnoticed}
 use Rattle.file_drive.proofs.opening.make_ready.Goals as goal
 
-pub returns-then-is_same_boot-clause-ok : goal.returns-then-is_same_boot-clause-ok
-returns-then-is_same_boot-clause-ok g c =
+pub returns-then-is_ready-clause-ok : goal.returns-then-is_ready-clause-ok
+returns-then-is_ready-clause-ok g c =
     opened-now c.args.boot g.F.FileBytes.seen g.F.FileBytes.may_leave g.F.FileBytes.is_usable c.args.file.now c.args.found.now c.requires.found c.requires.synced c.requires.usable
-    (sym c.is_same_boot.ensures ∙ c.if-is_same_boot.true)
+    (sym c.is_ready.ensures ∙ c.if-is_ready.true)
 
 pub take_over-requires-clause-count : goal.take_over-requires-clause-count
 take_over-requires-clause-count g c =
@@ -21,8 +21,7 @@ returns-in_err-take_over-clause-zones g c =
 
 pub returns-in_err-take_over-clause-unnoticed : goal.returns-in_err-take_over-clause-unnoticed
 returns-in_err-take_over-clause-unnoticed g c =
-    let another = boot-test c.args.boot g.F.FileBytes.seen g.F.FileBytes.may_leave g.F.FileBytes.is_usable c.args.file.now c.args.found.now c.requires.found c.requires.synced
-    false (sym c.is_same_boot.ensures ∙ c.if-is_same_boot.false) in
+    let another = sym c.is_ready.ensures ∙ c.if-is_ready.false in
     unnoticed c.args.boot g.F.FileBytes.seen g.F.FileBytes.may_leave g.F.FileBytes.is_usable c.args.file.now c.args.found.now c.requires.found c.requires.synced
     c.take_over.new.file c.take_over.new.found c.take_over.ensures.same another c.take_over.ensures.read c.take_over.ensures.counts c.take_over.ensures.keeps c.take_over.ensures.leaves
 
@@ -41,7 +40,6 @@ returns-clause-zones g c =
 
 pub returns-clause-unnoticed : goal.returns-clause-unnoticed
 returns-clause-unnoticed g c =
-    let another = boot-test c.args.boot g.F.FileBytes.seen g.F.FileBytes.may_leave g.F.FileBytes.is_usable c.args.file.now c.args.found.now c.requires.found c.requires.synced
-    false (sym c.is_same_boot.ensures ∙ c.if-is_same_boot.false) in
+    let another = sym c.is_ready.ensures ∙ c.if-is_ready.false in
     unnoticed c.args.boot g.F.FileBytes.seen g.F.FileBytes.may_leave g.F.FileBytes.is_usable c.args.file.now c.args.found.now c.requires.found c.requires.synced
     c.take_over.new.file c.take_over.new.found c.take_over.ensures.same another c.take_over.ensures.read c.take_over.ensures.counts c.take_over.ensures.keeps c.take_over.ensures.leaves

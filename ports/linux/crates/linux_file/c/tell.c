@@ -7,6 +7,10 @@ void zonedisk_tell_unsynced(void) {
     fputs("zonedisk: the system could not write what an earlier program wrote: what was not flushed may be lost\n", stderr);
 }
 
+void zonedisk_tell_set_back(void) {
+    fputs("zonedisk: the file does not show what was written since the last flush: its zones are those of that flush\n", stderr);
+}
+
 void zonedisk_tell_unknown_boot(void) {
     static bool is_told;
     if (is_told) return;

@@ -4,5 +4,8 @@
 // Tells that the sync of a file at its opening has failed.
 void zonedisk_tell_unsynced(void);
 
+// Tells that a file does not show what was written since its last flush.
+void zonedisk_tell_set_back(void);
+
 // Tells, once in a process, that the boot of the system is not known.
 void zonedisk_tell_unknown_boot(void);

@@ -6,6 +6,7 @@ use Rattle.file_drive.proofs.ApartLaws.{acted-apart}
 use Rattle.file_drive.proofs.DataLaws.{within-at}
 use Rattle.file_drive.proofs.ServedLaws.{filed-same, length-safe}
 use Rattle.file_drive.proofs.StoreLaws.{acted-few, entry-read, filed-low, no_entry, on-err, sent-stored-in}
+use Rattle.file_drive.proofs.SumLaws.{acted-summed}
 use Rattle.file_drive.proofs.zones.FileZones.act.Goals as goal
 
 pub index-requires : goal.index-requires
@@ -29,6 +30,19 @@ put-requires-clause-apart g c =
     let last = c.of_word-flushed.ensures ∙ ap entry_of (c.index.ensures ∙ get_or_default_zero inside.safe.items c.args.index c.index.result.now (omega (arith, low, many, c.self.invariant.1))) in
     rw (← c.self.view_is, c.acted-entry.ensures, is, last)
     (acted-apart c.args.action (flushed_at inside.safe.items c.args.index) (entry_at inside.entries.items c.args.index) (c.self.invariant.8 c.args.index low))
+
+pub put-requires-clause-summed : goal.put-requires-clause-summed
+put-requires-clause-summed g c =
+    let inside = c.self.inside in
+    let held = c.self.invariant in
+    let low = rw (← c.self.view_is) at (filed-low g.F.FileBytes.seen c.args.self.now c.args.index c.requires) in
+    let many = length-safe inside.geometry (g.F.FileBytes.seen inside.file) inside.entries.items inside.live inside.flushed _ held.4 in
+    let is = entry-read inside.entries.items c.args.index c.index-before.result.now low c.index-before.ensures in
+    let last = c.of_word-flushed.ensures ∙ ap entry_of (c.index.ensures ∙ get_or_default_zero inside.safe.items c.args.index c.index.result.now (omega (arith, low, many, held.1))) in
+    let few = within-at inside.geometry inside.entries.items c.args.index no_entry held.2 low in
+    rw (← c.self.view_is, c.acted-entry.ensures, is, last)
+    (acted-summed inside.geometry (g.F.FileBytes.seen inside.file) c.args.index c.args.action (flushed_at inside.safe.items c.args.index) (entry_at inside.entries.items c.args.index)
+    (held.4.summed c.args.index (omega (arith, low, held.1)) few))
 
 pub put-requires-clause-in_range : goal.put-requires-clause-in_range
 put-requires-clause-in_range g c = filed-low g.F.FileBytes.seen c.args.self.now c.args.index c.requires

@@ -57,10 +57,10 @@ invariant_of-self g c =
     let is = entry-read inside.entries.items c.args.index c.index-before.result.now low c.index-before.ensures in
     let closed : c.acted.result ≡ acted Close c.of_word.result (entry_at inside.entries.items c.args.index) = c.acted.ensures ∙ ap (acted Close c.of_word.result) is in
     let few = acted-few inside.geometry Close c.of_word.result (entry_at inside.entries.items c.args.index) (within-at inside.geometry inside.entries.items c.args.index no_entry held.2 low) in
-    let served = served-closed inside.geometry (g.F.FileBytes.seen inside.file) inside.entries.items inside.live inside.flushed _ c.args.index no_entry c.of_word.result held.4 in
     let many = length-safe inside.geometry (g.F.FileBytes.seen inside.file) inside.entries.items inside.live inside.flushed _ held.4 in
     let last : c.of_word.result ≡ flushed_at inside.safe.items c.args.index =
-    c.of_word.ensures ∙ ap entry_of (c.index.ensures ∙ get_or_default_zero inside.safe.items c.args.index c.index.result.now (omega (arith, low, many, held.1))) in (
+    c.of_word.ensures ∙ ap entry_of (c.index.ensures ∙ get_or_default_zero inside.safe.items c.args.index c.index.result.now (omega (arith, low, many, held.1))) in
+    let served = served-closed inside.geometry (g.F.FileBytes.seen inside.file) inside.entries.items inside.live inside.flushed _ c.args.index c.of_word.result low last held.4 in (
       held.0,
       length-set inside.entries.items c.args.index c.acted.result ∙ held.1,
       rw closed (within-set inside.geometry inside.entries.items c.args.index (acted Close c.of_word.result (entry_at inside.entries.items c.args.index)) held.2 few),

@@ -1,8 +1,11 @@
-use Rattle.std.proofs.Common.{◌≡◌, ◌∙◌, true, sym}
+use Rattle.std.proofs.Common.{◌≡◌, ◌∙◌, List, true, subst, sym}
+use Rattle.std.specs.List.{Contains}
 use Rattle.std.proofs.lemmas.Bool.{and_parts}
+use Rattle.zone_states.specs.Stored.{StoredZone}
 use Rattle.file_drive.specs.Head.{boot_in, is_known}
+use Rattle.file_drive.specs.InFile.{durable_zones}
 use Rattle.file_drive.specs.Tables.{flushed_zones}
-use Rattle.file_drive.proofs.FindsLaws.{kill-finds, out-of-boot, power-finds}
+use Rattle.file_drive.proofs.FindsLaws.{kill-finds, left-finds, out-of-boot, power-finds, set-back-zones}
 use Rattle.file_drive.proofs.OpenedLaws.{same-boot}
 use Rattle.file_drive.proofs.zones.FileZones.into_file.Goals as goal
 
@@ -49,3 +52,14 @@ returns-clause-power g c = λ left bytes boot may another.
     let found = held.7 bytes (rw (← c.self.view_is) at may) in
     rw (← c.self.view_is)
     (flushed_zones inside.geometry bytes, found.1, power-finds inside.geometry boot bytes held.0 found.0 another ((rw (← c.self.view_is) at left) _ found.1))
+
+pub returns-clause-here : goal.returns-clause-here
+returns-clause-here g c = λ left bytes boot may.
+    let inside = c.self.inside in
+    let held = c.self.invariant in
+    let found = held.7 bytes (rw (← c.self.view_is) at may) in
+    let durable = durable_zones inside.geometry (g.F.FileBytes.seen inside.file) inside.safe.items inside.other.items inside.unsure in
+    rw (← c.self.view_is) (
+      left-finds inside.geometry boot bytes held.0 found.0 ((rw (← c.self.view_is) at left) _ found.1),
+      λ unproved. subst (λ (zones : List StoredZone). Contains durable zones) (sym (set-back-zones inside.geometry boot bytes unproved)) found.1,
+    )

@@ -3,7 +3,7 @@ use Rattle.std.specs.Int.{w64, to_le_bytes}
 use Rattle.sqlite_disk.specs.Disk.{Holds}
 use Rattle.file_drive.specs.Layout.{at_live}
 use Rattle.file_drive.specs.Tables.{next_entries, word_of}
-use Rattle.file_drive.proofs.ApartLaws.{apart-next, length-next, within-next}
+use Rattle.file_drive.proofs.ApartLaws.{apart-next, length-next, summed-next, within-next}
 use Rattle.file_drive.proofs.KeptLaws.{pick-kept, usable-owned}
 use Rattle.file_drive.proofs.PartLaws.{word-held}
 use Rattle.file_drive.proofs.ServedLaws.{length-safe, length-spare, served-switch, switch-same}
@@ -31,7 +31,8 @@ invariant_of-self-2 g c =
     length-safe inside.geometry (g.F.FileBytes.seen inside.file) inside.entries.items inside.live inside.flushed _ held.4 ∙ sym held.1 in
     let spare : inside.spare.items ≡ map word_of next = sym held.4.spare_words ∙ rw held.4.live_is at spared in
     let is = word-held (g.F.FileBytes.seen c.write_word.new.self) at_live (1 - inside.live) (omega arith) put in
-    let switched = served-switch inside.geometry g.F.FileBytes.seen g.F.FileBytes.may_leave inside.file c.write_word.new.self inside.entries.items inside.live inside.flushed _ held.4 held.5.within served.1 c.write_word.ensures.others c.write_word.ensures.leaves next spare is in
+    let switched = served-switch inside.geometry g.F.FileBytes.seen g.F.FileBytes.may_leave inside.file c.write_word.new.self inside.entries.items inside.live inside.flushed _ held.4 held.5.within served.1 c.write_word.ensures.others c.write_word.ensures.leaves next spare
+    (summed-next inside.geometry (g.F.FileBytes.seen inside.file) (Some c.args.action) inside.safe.items inside.entries.items many held.1 held.2 held.4.summed) is in
     let kept = pick-kept g.F.FileBytes g.S.System c.self.inside c.self.invariant c.if-self.false c.write_word.new.self c.write_word.ensures.others c.write_word.ensures.leaves in (
       held.0,
       rw (c.send_to_each.ensures, c.deref-2.ensures.value) (length-next (Some c.args.action) inside.safe.items inside.entries.items ∙ held.1),

@@ -49,7 +49,7 @@ invariant_of-self-2 g c =
       length-set inside.entries.items c.args.index c.args.entry ∙ held.1,
       within-set inside.geometry inside.entries.items c.args.index c.args.entry held.2 (rw (← c.self.view_is) at c.requires.within),
       rw c.deref.ensures.value at c.follow.ensures,
-      served-put inside.geometry (g.F.FileBytes.seen inside.file) (g.F.FileBytes.seen c.put_word.new.file) inside.entries.items inside.live inside.flushed _ c.args.index c.args.entry held.4 held.1 low (rw c.at_table.ensures at c.put_word.ensures.beside) is,
+      served-put inside.geometry (g.F.FileBytes.seen inside.file) (g.F.FileBytes.seen c.put_word.new.file) inside.entries.items inside.live inside.flushed _ c.args.index c.args.entry held.4 held.1 low (rw c.at_table.ensures at c.put_word.ensures.beside) is (rw (← c.self.view_is) at c.requires.summed),
       held.5,
       λ going. (rw c.put_word.ensures.usable (held.6 c.if-self.false).0, kept.promise),
       kept.all,

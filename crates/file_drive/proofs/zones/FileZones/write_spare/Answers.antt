@@ -1,4 +1,4 @@
-use Rattle.std.proofs.Common.{rules, ◌≡◌, ◌∙◌, Some, length, map, refl, sym, ap}
+use Rattle.std.proofs.Common.{rules, ◌≡◌, ◌∙◌, length, map, refl, sym, ap}
 use Rattle.file_drive.specs.Tables.{next_entries, word_of}
 use Rattle.file_drive.proofs.KeptLaws.{spare-kept, spare-places, spare-served, usable-owned}
 use Rattle.file_drive.proofs.ServedLaws.{length-safe, length-spare}
@@ -35,7 +35,7 @@ returns-clause-zones g c = rw (← c.self.view_is) (spare-places g.F.FileBytes g
 
 pub returns-clause-spared : goal.returns-clause-spared
 returns-clause-spared g c =
-    let put : c.write_words-written.new.words.items ≡ map word_of (next_entries (Some c.args.action) c.deref-2.result.now c.deref.result.now) = search rules in
+    let put : c.write_words-written.new.words.items ≡ map word_of (next_entries c.args.action c.deref-2.result.now c.deref.result.now) = search rules in
     let served = spare-served g.F.FileBytes g.S.System c.self.inside c.self.invariant c.if-self.false c.write_words-written.new.file c.at_table-at.result c.deref.result.now c.deref.ensures.value c.write_words-written.ensures.beside c.write_words-written.ensures.leaves c.at_table-at.ensures c.write_words-written.new.words.items c.write_words-written.ensures.known in
     rw served.live_is
     (served.spare_words ∙ put ∙ rw (c.deref.ensures.value, c.deref-2.ensures.value) refl)
