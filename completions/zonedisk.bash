@@ -1,6 +1,6 @@
 # Completes the words of zonedisk in bash. The manual page says how to install this file.
 
-_zonedisk_subcommands="format run nbd report check plan info export import convert rescue nvme entry fresh fresh-raw help"
+_zonedisk_subcommands="format run nbd report check plan info export import convert rescue repair nvme entry fresh fresh-raw help"
 _zonedisk_shape="--block --zones --size --capacity --transfer --active --open"
 _zonedisk_states="Empty ImplicitlyOpened ExplicitlyOpened Closed ReadOnly Full Offline"
 
@@ -18,6 +18,7 @@ _zonedisk_options() {
         import) echo "--image --device --blocks --first --sparse --progress" ;;
         convert) echo "--image --to" ;;
         rescue) echo "--image --device --blocks --to --json --progress" ;;
+        repair) echo "--image --device --force" ;;
         nvme) echo "--image --device --explain --sync --habit" ;;
         entry) echo "--start --blocks --dwords --id --all --partial --state --data" ;;
         fresh) echo "$_zonedisk_shape --blocks --report --statistics --habit --stop-after --tear" ;;

@@ -15,6 +15,7 @@ complete -c zonedisk -n __fish_use_subcommand -a export -d 'Writes the logical b
 complete -c zonedisk -n __fish_use_subcommand -a import -d 'Writes standard input to the logical blocks'
 complete -c zonedisk -n __fish_use_subcommand -a convert -d 'Puts a drive into a file of the other kind'
 complete -c zonedisk -n __fish_use_subcommand -a rescue -d 'Gives the disk of a drive that is broken in part'
+complete -c zonedisk -n __fish_use_subcommand -a repair -d 'Repairs zones that end in something foreign'
 complete -c zonedisk -n __fish_use_subcommand -a nvme -d 'Submits the raw entries on standard input'
 complete -c zonedisk -n __fish_use_subcommand -a entry -d 'Shows the raw line of one NVMe command'
 complete -c zonedisk -n __fish_use_subcommand -a fresh -d 'Answers a trace over a fresh drive in memory'
@@ -22,10 +23,11 @@ complete -c zonedisk -n __fish_use_subcommand -a fresh-raw -d 'Submits raw entri
 complete -c zonedisk -n __fish_use_subcommand -a help -d 'Shows the options of a subcommand'
 
 # The file of a drive, and its disk.
-complete -c zonedisk -n '__fish_seen_subcommand_from format run nbd report check plan info export import convert rescue nvme' -l image -r -F -d 'The file with the drive or its image'
-complete -c zonedisk -n '__fish_seen_subcommand_from format run nbd report check info export import rescue nvme' -l device -r -F -d 'A real drive, by its character device'
+complete -c zonedisk -n '__fish_seen_subcommand_from format run nbd report check plan info export import convert rescue repair nvme' -l image -r -F -d 'The file with the drive or its image'
+complete -c zonedisk -n '__fish_seen_subcommand_from format run nbd report check info export import rescue repair nvme' -l device -r -F -d 'A real drive, by its character device'
 complete -c zonedisk -n '__fish_seen_subcommand_from run nbd check plan import rescue fresh' -l blocks -x -d 'Logical blocks'
 complete -c zonedisk -n '__fish_seen_subcommand_from format' -l force -d 'Replaces a file that is no image'
+complete -c zonedisk -n '__fish_seen_subcommand_from repair' -l force -d 'Repairs the zones'
 complete -c zonedisk -n '__fish_seen_subcommand_from format' -l in-place -d 'Makes a new drive that stays in its file'
 
 # The shape of a drive.

@@ -32,6 +32,20 @@ fn formatted(alloc: Global, geometry: &Geometry) -> Option<MemoryFile>
     Some(file)
 }
 
+/// A drive over a file, and whether its zones were set back to those of the last flush.
+fn opened_and_told<F: FileBytes + Drop, S: System + Drop>(
+    alloc: Global,
+    file: F,
+    system: S,
+) -> Option<(ZoneDrive<FileZones<F, S>>, bool)>
+    requires { IsTrue (F.FileBytes.is_usable file) }
+{
+    let mut file = file;
+    let found = open(alloc, &mut file, &system).ok()?;
+    let set_back = found.set_back;
+    Some((serve(alloc, file, system, found), set_back))
+}
+
 /// A drive over a file.
 fn opened<F: FileBytes + Drop, S: System + Drop>(
     alloc: Global,
@@ -40,9 +54,8 @@ fn opened<F: FileBytes + Drop, S: System + Drop>(
 ) -> Option<ZoneDrive<FileZones<F, S>>>
     requires { IsTrue (F.FileBytes.is_usable file) }
 {
-    let mut file = file;
-    let found = open(alloc, &mut file, &system).ok()?;
-    Some(serve(alloc, file, system, found))
+    let (drive, _) = opened_and_told(alloc, file, system)?;
+    Some(drive)
 }
 
 /// The file once it lost power, if it may be left with these bytes.
@@ -149,6 +162,81 @@ fn a_loss_of_power_leaves_the_last_flush(rt: HostRuntime) -> Result<(), Fail> {
 #[test]
 fn a_torn_word_is_not_looked_at(rt: HostRuntime) -> Result<(), Fail> {
     assert_eq!(rt; survives_a_loss(rt.alloc(), true), Some(true));
+    Ok(())
+}
+
+/// Where the file has the third block of the first zone.
+const THIRD: usize = 1_048_576 + 2 * 512;
+
+/// A block that is written after a flush, in a file that shows it or an older one, in the same boot: whether the zones are
+/// those after it, or else those of the flush, and whether the open says which.
+fn proves_its_blocks(alloc: Global, is_older: bool) -> Option<bool> {
+    let mut drive = opened(alloc, formatted(alloc, &GEOMETRY)?, Before)?;
+    let put_first = put(alloc, &mut drive, 0, 1, 2);
+    flush(alloc, &mut drive)?;
+    let before = shown(alloc, &mut drive)?;
+    let put_second = put(alloc, &mut drive, 0, 3, 1);
+    let after = shown(alloc, &mut drive)?;
+    let file = drive.into_zones().into_file();
+    let mut left = copied(alloc, file.bytes())?;
+    if is_older {
+        *left.get_mut(THIRD)? = 0;
+    }
+    let (mut drive, set_back) = opened_and_told(alloc, after_loss(file, &left)?, Before)?;
+    let wanted = if is_older { before } else { after };
+    Some(put_first && put_second && set_back == is_older && shown(alloc, &mut drive)? == wanted)
+}
+
+#[test]
+fn a_file_that_shows_older_blocks_is_set_back(rt: HostRuntime) -> Result<(), Fail> {
+    assert_eq!(rt; proves_its_blocks(rt.alloc(), true), Some(true));
+    Ok(())
+}
+
+#[test]
+fn a_file_that_shows_its_blocks_is_believed(rt: HostRuntime) -> Result<(), Fail> {
+    assert_eq!(rt; proves_its_blocks(rt.alloc(), false), Some(true));
+    Ok(())
+}
+
+/// A file with these bytes.
+fn file_of(alloc: Global, bytes: &[u8]) -> Option<MemoryFile>
+    ensures { IfSome result (λ file. IsTrue file.usable) }
+{
+    let mut file = MemoryFile::new(alloc, bytes.len()).ok()?;
+    if file.write(0, bytes).is_err() {
+        return None;
+    }
+    Some(file)
+}
+
+/// A drive whose zones have no sums, as those of an older program: whether it opens as it was flushed, and goes on.
+fn opens_without_sums(alloc: Global) -> Option<bool> {
+    let mut drive = opened(alloc, formatted(alloc, &GEOMETRY)?, Before)?;
+    let put_first = put(alloc, &mut drive, 0, 1, 2);
+    flush(alloc, &mut drive)?;
+    let before = shown(alloc, &mut drive)?;
+    let file = drive.into_zones().into_file();
+    let mut bytes = copied(alloc, file.bytes())?;
+    for table in [12_288, 16_384, 20_480, 24_576] {
+        *bytes.get_mut(table + 4)? &= 31;
+        for at in table + 5..table + 8 {
+            *bytes.get_mut(at)? = 0;
+        }
+    }
+    let mut drive = opened(alloc, file_of(alloc, &bytes)?, Before)?;
+    let same = shown(alloc, &mut drive)? == before;
+    let put_second = put(alloc, &mut drive, 0, 3, 1);
+    let after = shown(alloc, &mut drive)?;
+    let file = drive.into_zones().into_file();
+    let left = copied(alloc, file.bytes())?;
+    let mut drive = opened(alloc, after_loss(file, &left)?, Before)?;
+    Some(put_first && same && put_second && shown(alloc, &mut drive)? == after)
+}
+
+#[test]
+fn a_file_without_sums_opens(rt: HostRuntime) -> Result<(), Fail> {
+    assert_eq!(rt; opens_without_sums(rt.alloc()), Some(true));
     Ok(())
 }
 

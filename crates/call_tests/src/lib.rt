@@ -41,9 +41,13 @@ mod journal;
 #[cfg(test)]
 mod lies;
 #[cfg(test)]
+mod mended_zones;
+#[cfg(test)]
 mod places;
 #[cfg(test)]
 mod reads_ahead;
+#[cfg(test)]
+mod repairs;
 #[cfg(test)]
 mod rescues;
 #[cfg(test)]

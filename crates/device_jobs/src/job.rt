@@ -3,6 +3,7 @@ use disk_runs::Taking;
 use job_drives::Stop;
 use nbd_jobs::NbdJob;
 use nvme_wire::ZoneState;
+use repair_jobs::RepairJob;
 use rescue_jobs::RescueJob;
 use tool_jobs::{CheckJob, InfoJob, PlanForm, ZonesJob};
 use write_plan::Aim;
@@ -85,6 +86,8 @@ pub enum DeviceJob {
     Copy(CopyJob),
     /// Gives the disk of a drive, however broken it is. The drive is only read.
     Rescue(RescueJob),
+    /// Repairs the zones of a drive that end in something foreign, or tells which these are.
+    Repair(RepairJob),
 }
 
 impl DeviceJob {
@@ -103,6 +106,7 @@ impl DeviceJob {
             DeviceJob::Zones(job) => job.image.as_str(),
             DeviceJob::Copy(job) => job.image(),
             DeviceJob::Rescue(job) => job.image.as_str(),
+            DeviceJob::Repair(job) => job.image.as_str(),
         }
     }
 }

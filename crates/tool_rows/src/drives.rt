@@ -1,8 +1,8 @@
 //! Drives that are checked: some batches in their zones, encoded by hand.
 
 use drive_port::Device;
-use nvme_wire::Command;
-use std::alloc::Global;
+use nvme_wire::{Action, Command};
+use std::alloc::{AllocError, Global};
 use std::test::Fail;
 use zone_drive::Drive;
 use zone_states::Geometry;
@@ -74,6 +74,32 @@ fn put(
     let mut returned = Vec::new(alloc);
     let _ = drive.submit(&command.encode(0), &bytes, &mut returned);
     Ok(())
+}
+
+/// Appends one block to the zone that starts there. It begins with these bytes, and the rest of it is zeros.
+pub fn put_block(
+    alloc: Global,
+    drive: &mut Drive,
+    zslba: u64,
+    front: &[u8],
+) -> Result<(), AllocError> {
+    let mut bytes = Vec::from_slice(alloc, front)?;
+    bytes.resize(512, 0)?;
+    let command = Command::Append { zslba, blocks: 1 };
+    let mut returned = Vec::new(alloc);
+    let _ = drive.submit(&command.encode(0), &bytes, &mut returned);
+    Ok(())
+}
+
+/// Makes a zone Full.
+pub fn finish(alloc: Global, drive: &mut Drive, slba: u64) {
+    let command = Command::Send {
+        slba,
+        action: Action::Finish,
+        all: false,
+    };
+    let mut returned = Vec::new(alloc);
+    let _ = drive.submit(&command.encode(0), &[], &mut returned);
 }
 
 /// A drive with these batches.

@@ -14,7 +14,7 @@ use zonedisk_program::{do_task, task_of};
 
 /// Drives in memory stand for the drives in these files. `other` begins with another version, and `made` is an image
 /// that a line makes.
-const LINES: [&str; 19] = [
+const LINES: [&str; 21] = [
     "zonedisk report --image disk",
     "zonedisk report --image disk --state full",
     "zonedisk report --image other",
@@ -29,6 +29,8 @@ const LINES: [&str; 19] = [
     "zonedisk nbd --image other --read-only",
     "zonedisk export --image disk --count 0",
     "zonedisk rescue --image disk --to new",
+    "zonedisk repair --image disk",
+    "zonedisk repair --image disk --force",
     "zonedisk import --image disk",
     "zonedisk plan --image disk --blocks 9",
     "zonedisk convert --image disk --to made",

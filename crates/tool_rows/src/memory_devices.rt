@@ -1,6 +1,6 @@
 // Drives in memory, in the place of real ones.
 
-use crate::drives::SMALL;
+use crate::drives::{SMALL, finish, put_block};
 use device_jobs::{
     DeviceFault, DeviceRun, Devices, DriveName, OpenDevice, RawDrive, RawFault, StartCommand,
     run_device,
@@ -64,6 +64,44 @@ fn with_disk(alloc: Global) -> Result<Drive, DeviceFault> {
     }
 }
 
+/// The same, with a block behind it that is no batch.
+fn torn(alloc: Global) -> Result<Drive, DeviceFault> {
+    let mut drive = with_disk(alloc)?;
+    put_block(alloc, &mut drive, 0, b"?").or(Err(DeviceFault::Memory))?;
+    Ok(drive)
+}
+
+/// The header of a batch of one record.
+const HEADER: &[u8] =
+    b"ZLOGBAT1\x02\0\x01\0\x01\0\0\0\x64\0\0\0\0\0\0\0\0\0\0\0\x09\0\0\0\x07\0\0\0\0\0\0\0";
+
+/// The same, with a header behind that block.
+fn torn_before(alloc: Global) -> Result<Drive, DeviceFault> {
+    let mut drive = torn(alloc)?;
+    put_block(alloc, &mut drive, 0, HEADER).or(Err(DeviceFault::Memory))?;
+    Ok(drive)
+}
+
+/// One block that is no batch, and no zone Empty.
+fn crowded(alloc: Global) -> Result<Drive, DeviceFault> {
+    let mut drive = torn(alloc)?;
+    for zone in 1..SMALL.zones {
+        finish(alloc, &mut drive, SMALL.start_of(zone));
+    }
+    Ok(drive)
+}
+
+/// Two batches with one sequence.
+fn repeated(alloc: Global) -> Result<Drive, DeviceFault> {
+    let mut drive = empty(alloc)?;
+    for zone in 0..2 {
+        let start = SMALL.start_of(zone);
+        put_block(alloc, &mut drive, start, HEADER).or(Err(DeviceFault::Memory))?;
+        put_block(alloc, &mut drive, start, b"b").or(Err(DeviceFault::Memory))?;
+    }
+    Ok(drive)
+}
+
 /// The drive of a path.
 pub fn drive_of(alloc: Global, path: &str) -> Result<Drive, DeviceFault> {
     match path {
@@ -72,6 +110,10 @@ pub fn drive_of(alloc: Global, path: &str) -> Result<Drive, DeviceFault> {
         "foreign" => drive_with(alloc, ZoneState::Empty),
         "read-only" => drive_with(alloc, ZoneState::ReadOnly),
         "offline" => drive_with(alloc, ZoneState::Offline),
+        "torn" => torn(alloc),
+        "behind" => torn_before(alloc),
+        "crowded" => crowded(alloc),
+        "repeated" => repeated(alloc),
         "cached" => Err(DeviceFault::CacheOn),
         "busy" => Err(DeviceFault::Busy),
         _ => Err(DeviceFault::NotDone(StartCommand::Report)),

@@ -28,6 +28,7 @@ has-device name rows (jobs.Plan path aim form) asks = absurd asks
 has-device name rows (jobs.Copy (copies.Export job)) asks = (_, asks.1)
 has-device name rows (jobs.Copy (copies.Import job)) asks = (_, asks.1)
 has-device name rows (jobs.Rescue job) asks = (_, asks.1.path)
+has-device name rows (jobs.Repair job) asks = (_, asks.1.path)
 
 -- where none is named, each task is one without a device
 module _ (name : Text) (rows : List Row) (none : first_of (codes "device") rows ≡ None) where
@@ -38,6 +39,7 @@ module _ (name : Text) (rows : List Row) (none : first_of (codes "device") rows 
   asked (tasks.Tool job) asks = (none, asks)
   asked (tasks.Convert job) asks = (none, asks)
   asked (tasks.Rescue job) asks = (none, asks)
+  asked (tasks.Repair job) asks = (none, asks)
   asked (tasks.Device job) asks = inr (none, asks)
 
   without : (task : Task) → AsksFor name rows task → AsksForFile name rows task
@@ -47,6 +49,7 @@ module _ (name : Text) (rows : List Row) (none : first_of (codes "device") rows 
   without (tasks.Tool job) asks = asks.1
   without (tasks.Convert job) asks = asks.1
   without (tasks.Rescue job) asks = asks.1
+  without (tasks.Repair job) asks = asks.1
   without (tasks.Device job) (inl asks) =
       let named = has-device name rows job asks in
       let is : None ≡ Some named.0 = sym none ∙ named.1.path_is in

@@ -1,13 +1,20 @@
 -- What is written before the program ends, and how it ends.
-use Rattle.std.proofs.Common.{◌≡◌, ◌⊎◌, ℕ, Bool, true, false, List, inl, inr, refl}
+use Rattle.std.proofs.Common.{◌≡◌, ◌∙◌, ◌⊎◌, ℕ, Bool, true, false, List, inl, inr, refl}
 use Rattle.std.proofs.KnownBytes.{Appends-kept}
-use Rattle.std.specs.Prelude.{OnErr, OnOk, Option, Result, Ok, Err}
+use Rattle.std.specs.Prelude.{IfOk, OnErr, OnOk, Option, Some, None, Result, Ok, Err}
 use Rattle.std.specs.Io.KnownBytes.{Appends, Keeps}
+use Rattle.std.specs.Process.{exit_status}
 use Rattle.std.specs.declared.process.ExitCode.{ExitCode}
 use Rattle.zonedisk_program.specs.declared.task.Task.{Task}
 use Rattle.zonedisk_program.specs.declared.task.Task.TheVariants as tasks
+use Rattle.device_jobs.specs.declared.job.DeviceJob.{DeviceJob}
 use Rattle.disk_files.specs.Output.{AppendsFront}
-use Rattle.zonedisk_program.specs.Ends.{EndsAsked, EndsTask, Ways, is_device}
+use Rattle.drive_inspection.specs.declared.finding.Findings.{Findings}
+use Rattle.drive_port.specs.declared.device.Halt.{Halt}
+use Rattle.repair_jobs.specs.Jobs.{TellsMended}
+use Rattle.repair_jobs.specs.declared.fault.RepairJobFault.{RepairJobFault}
+use Rattle.zonedisk_program.specs.Ends.{EndsAsked, EndsFound, EndsInPlace, EndsJob, EndsListed, EndsTask, Ways, is_device}
+use Rattle.zonedisk_program.specs.InPlace.{counterpart}
 
 -- a text is written, or a beginning of it; a flush changes no bytes
 pub told : {T E : Type 0} (result : Result T E) (old middle new : Option (List ℕ)) (text : List ℕ)
@@ -15,6 +22,14 @@ pub told : {T E : Type 0} (result : Result T E) (old middle new : Option (List �
     → Appends old new text ⊎ AppendsFront old new text
 told (Ok value) old middle new text ok err keeps = inl (Appends-kept old middle new text ok keeps)
 told (Err fault) old middle new text ok err keeps = inr (record { count = err.count; short = err.short; appends = Appends-kept old middle new _ err.appends keeps })
+
+-- what a check finds after a repair is told, and ends as that says
+pub ends-found : (found : Result Findings Halt) (told : Result Bool RepairJobFault) (old new : Option (List ℕ)) (ended : ExitCode)
+    → IfOk told (λ mountable. TellsMended found mountable old new) → EndsListed told ended → EndsFound found ended
+ends-found (Ok findings) (Ok mountable) old new ended tells ends = λ refused. ends (tells.0 ∙ refused)
+ends-found (Ok findings) (Err fault) old new ended tells ends = λ refused. ends
+ends-found (Err halt) (Ok mountable) old new ended tells ends = absurd tells
+ends-found (Err halt) (Err fault) old new ended tells ends = ends
 
 -- a job on a device is done as it is, and of any other task nothing is said here
 pub ends-task : (begins : Bool) (ways : Ways) (task : Task) (ended : ExitCode) → (is_device task ≡ true → begins ≡ false)
@@ -27,3 +42,20 @@ ends-task true ways (tasks.Copy job) ended apart ends = tt
 ends-task true ways (tasks.Tool job) ended apart ends = tt
 ends-task true ways (tasks.Convert job) ended apart ends = ends
 ends-task true ways (tasks.Rescue job) ended apart ends = tt
+ends-task true ways (tasks.Repair job) ended apart ends = tt
+
+-- a job that there is ends as it needs a way to such files
+ends-job : (ways : Ways) (made : Option DeviceJob) (job : DeviceJob) (ended : ExitCode) → made ≡ Some job → (ways.files ≡ false → exit_status ended ≡ 1) → EndsJob ways made ended
+ends-job ways (Some other) job ended is ends = ends
+ends-job ways None job ended is ends = absurd (cc)
+
+-- a task that is done in place ends as its job does
+pub ends-in-place : (ways : Ways) (task : Task) (job : DeviceJob) (ended : ExitCode) → counterpart task ≡ Some job → (ways.files ≡ false → exit_status ended ≡ 1) → EndsInPlace ways task ended
+ends-in-place ways (tasks.Convert other) job ended is ends = ends
+ends-in-place ways (tasks.Device other) job ended is ends = ends-job ways (counterpart (tasks.Device other)) job ended is ends
+ends-in-place ways (tasks.Lines other) job ended is ends = ends-job ways (counterpart (tasks.Lines other)) job ended is ends
+ends-in-place ways (tasks.Nbd other) job ended is ends = ends-job ways (counterpart (tasks.Nbd other)) job ended is ends
+ends-in-place ways (tasks.Copy other) job ended is ends = ends-job ways (counterpart (tasks.Copy other)) job ended is ends
+ends-in-place ways (tasks.Tool other) job ended is ends = ends-job ways (counterpart (tasks.Tool other)) job ended is ends
+ends-in-place ways (tasks.Rescue other) job ended is ends = ends-job ways (counterpart (tasks.Rescue other)) job ended is ends
+ends-in-place ways (tasks.Repair other) job ended is ends = ends-job ways (counterpart (tasks.Repair other)) job ended is ends

@@ -32,6 +32,7 @@ report-form rows (Lines (jobs.Fresh geometry blocks report statistics stop habit
 report-form rows (Lines (jobs.FreshRaw geometry habit)) asks = absurd (unlike (codes "report") (codes "fresh-raw") refl refl asks.0)
 report-form rows (tasks.Convert job) asks = absurd (unlike (codes "report") (codes "convert") refl refl asks.0)
 report-form rows (tasks.Rescue job) asks = absurd (unlike (codes "report") (codes "rescue") refl refl asks.0)
+report-form rows (tasks.Repair job) asks = absurd (unlike (codes "report") (codes "repair") refl refl asks.0)
 report-form rows (tasks.Device job) asks = absurd (unlike (codes "report") (codes "format") refl refl asks.0)
 report-form rows (Nbd job) asks = absurd (unlike (codes "report") (codes "nbd") refl refl asks.0)
 report-form rows (Copy (copies.Export job)) asks = absurd (unlike (codes "report") (codes "export") refl refl asks.0)

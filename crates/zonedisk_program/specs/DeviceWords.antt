@@ -9,7 +9,7 @@ use Rattle.device_jobs.specs.declared.job.DeviceJob.TheVariants as jobs
 use Rattle.device_jobs.specs.declared.job.DeviceRun.{DeviceRun}
 use Rattle.disk_runs.specs.declared.taking.Taking.TheVariants.{All}
 use Rattle.zonedisk_program.specs.declared.place.Place.TheVariants as places
-use Rattle.zonedisk_program.specs.DriveWords.{AsksForCopy, AsksForNbd, AsksForRescue}
+use Rattle.zonedisk_program.specs.DriveWords.{AsksForCopy, AsksForNbd, AsksForRepair, AsksForRescue}
 use Rattle.zonedisk_program.specs.ToolWords.{AsksForCheck, AsksForInfo, HasZonesForm, part_names}
 use Rattle.zonedisk_program.specs.Values.{HasDevice, HasFlag, HasGeometry, HasHabit, HasImage, HasNumber, HasStop, is_set, lacks_all}
 
@@ -45,6 +45,7 @@ AsksForDevice name rows (jobs.Zones job) = ⊥
 AsksForDevice name rows (jobs.Plan path aim form) = ⊥
 AsksForDevice name rows (jobs.Copy job) = AsksForCopy places.Device name rows job
 AsksForDevice name rows (jobs.Rescue job) = (name ≡ codes "rescue") × AsksForRescue places.Device rows job
+AsksForDevice name rows (jobs.Repair job) = (name ≡ codes "repair") × AsksForRepair places.Device rows job
 
 -- A new drive that stays in its file has the shape that was given, and nothing is replaced by it.
 abbrev pub AsksForNew : List Row → DeviceJob → Type 0

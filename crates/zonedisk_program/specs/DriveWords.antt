@@ -7,6 +7,7 @@ use Rattle.device_jobs.specs.declared.job.ConvertJob.{ConvertJob}
 use Rattle.nbd_jobs.specs.declared.job.Fail.{Fail}
 use Rattle.nbd_jobs.specs.declared.job.Forget.{Forget}
 use Rattle.nbd_jobs.specs.declared.job.NbdJob.{NbdJob}
+use Rattle.repair_jobs.specs.declared.job.RepairJob.{RepairJob}
 use Rattle.rescue_jobs.specs.declared.job.RescueJob.{RescueJob}
 use Rattle.zonedisk_program.specs.declared.place.Place.{Place}
 use Rattle.zonedisk_program.specs.Values.{HasDrive, HasFlag, HasHabit, HasImage, HasNumber, HasNumberIf, HasNumberOr, HasStop, HasTextIf, is_missing, is_set, lacks_all}
@@ -64,6 +65,11 @@ pub record AsksForRescue (place : Place) (rows : List Row) (job : RescueJob) : T
   pub progress : HasFlag rows (codes "progress") job.progress
   -- it is not shown how far it is with a new drive
   pub shown : (is_set rows (codes "progress") && not (is_missing rows (codes "to"))) ≡ false
+
+-- a repair changes the drive only if that is forced
+pub record AsksForRepair (place : Place) (rows : List Row) (job : RepairJob) : Type 0 where
+  pub path : HasDrive place rows (string_bytes job.image)
+  pub forced : HasFlag rows (codes "force") job.force
 
 -- A drive is put into another file, whose path is given too.
 pub record AsksForConvert (rows : List Row) (job : ConvertJob) : Type 0 where

@@ -1,5 +1,5 @@
 -- How the program ends.
-use Rattle.std.specs.Prelude.{◌≡◌, ◌⊎◌, ◌&&◌, Bool, true, false, Option, Some, None, Result, Ok, Err, codes, is_some, ⊤}
+use Rattle.std.specs.Prelude.{◌≡◌, ◌⊎◌, ◌&&◌, Bool, true, false, Option, Some, None, Result, Ok, Err, codes, is_none, is_some, ⊤}
 use Rattle.std.specs.Io.KnownBytes.{Appends}
 use Rattle.std.specs.Process.{exit_status}
 use Rattle.zonedisk_program.specs.declared.task.Task.{Task}
@@ -12,10 +12,15 @@ use Rattle.device_jobs.specs.declared.hardening.HardenFault.{HardenFault}
 use Rattle.device_jobs.specs.declared.job.DeviceJob.{DeviceJob}
 use Rattle.device_jobs.specs.declared.job.DeviceJob.TheVariants.{Create, Rescue}
 use Rattle.drive_rescue.specs.declared.giving.Rescued.{Rescued}
+use Rattle.drive_inspection.specs.declared.finding.Findings.{Findings}
+use Rattle.drive_port.specs.declared.device.Halt.{Halt}
+use Rattle.repair_jobs.specs.declared.fault.RepairJobFault.{RepairJobFault}
+use Rattle.repair_jobs.specs.declared.mending.Mended.{Mended}
 use Rattle.rescue_jobs.specs.Jobs.{is_whole}
 use Rattle.rescue_jobs.specs.declared.fault.RescueJobFault.{RescueJobFault}
 use Rattle.std.specs.declared.process.ExitCode.{ExitCode}
 use Rattle.zonedisk_program.specs.InPlace.{counterpart}
+use Rattle.zonedisk_program.specs.declared.repairing.Unkept.{Unkept}
 
 -- what a program has: a way to the drives behind devices, and one to those that stay in their files
 pub record Ways : Type 0 where
@@ -95,3 +100,18 @@ EndsSaved told saved ended = exit_status ended ≡ 1
 abbrev pub EndsRescue : Result Rescued RescueJobFault → ExitCode → Type 0
 EndsRescue (Ok rescued) ended = is_whole rescued ≡ false → exit_status ended ≡ 1
 EndsRescue (Err fault) ended = exit_status ended ≡ 1
+
+-- What a repair is for is told: it ends with the status 1 if there is anything, or if there was a fault.
+abbrev pub EndsListed : Result Bool RepairJobFault → ExitCode → Type 0
+EndsListed (Ok none) ended = none ≡ false → exit_status ended ≡ 1
+EndsListed (Err fault) ended = exit_status ended ≡ 1
+
+-- the same of what a check finds: it ends so if the drive cannot be mounted
+abbrev pub EndsFound : Result Findings Halt → ExitCode → Type 0
+EndsFound (Ok findings) ended = is_none findings.refusal ≡ false → exit_status ended ≡ 1
+EndsFound (Err halt) ended = exit_status ended ≡ 1
+
+-- A repair ends with the status 1 if it ended by a fault, if what it did may be lost, or if the drive cannot be mounted then.
+abbrev pub EndsMended : Result Mended RepairJobFault → Result (Unit {0}) Unkept → ExitCode → Type 0
+EndsMended (Ok mended) (Ok kept) ended = EndsFound mended.found ended
+EndsMended mended kept ended = exit_status ended ≡ 1

@@ -60,12 +60,13 @@ tool_counterpart (tools.Plan job) = plan_counterpart job
 tool_counterpart (tools.Zones job) = Some (zones_in job.form job)
 tool_counterpart job = None
 
--- Each session, each copy of blocks and each rescue has one. A job on a device has none.
+-- Each session, each copy of blocks, each rescue and each repair has one. A job on a device has none.
 abbrev pub counterpart : Task → Option DeviceJob
 counterpart (tasks.Lines job) = lines_counterpart job
 counterpart (tasks.Nbd job) = Some (jobs.Nbd job)
 counterpart (tasks.Copy job) = Some (jobs.Copy job)
 counterpart (tasks.Tool job) = tool_counterpart job
 counterpart (tasks.Rescue job) = Some (jobs.Rescue job)
+counterpart (tasks.Repair job) = Some (jobs.Repair job)
 counterpart (tasks.Convert job) = None
 counterpart (tasks.Device job) = None

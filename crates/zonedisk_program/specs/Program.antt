@@ -148,6 +148,9 @@ abbrev pub rescue_words : Shape
 rescue_words = with_options (codes "rescue")
     (image ∷ device ∷ optional blocks ∷ optional (valued (codes "to")) ∷ optional (valued (codes "json")) ∷ flag (codes "progress") ∷ [])
 
+abbrev pub repair_words : Shape
+repair_words = with_options (codes "repair") (image ∷ device ∷ flag (codes "force") ∷ [])
+
 abbrev pub fresh_words : Bor (List (Bor Text)) → Shape
 fresh_words names = with_options (codes "fresh") (parts true ++ blocks ∷ flag (codes "report") ∷ flag (codes "statistics") ∷ habit names ∷ stops)
 
@@ -158,8 +161,8 @@ fresh_raw names = with_options (codes "fresh-raw") (parts true ++ habit names �
 abbrev pub program : Bor (List (Bor Text)) → App
 program names = record {
   top = record (new_shape (codes "zonedisk")) { is_leaf = false; has_version = true; subcommand_required = true };
-  subs = format ∷ run names ∷ nbd names ∷ export_words ∷ import_words ∷ convert_words ∷ rescue_words ∷ report_words ∷ check_words ∷ info_words
-      ∷ plan_words ∷ nvme names ∷ entry ∷ fresh_words names ∷ fresh_raw names ∷ [];
+  subs = format ∷ run names ∷ nbd names ∷ export_words ∷ import_words ∷ convert_words ∷ rescue_words ∷ repair_words ∷ report_words ∷ check_words
+      ∷ info_words ∷ plan_words ∷ nvme names ∷ entry ∷ fresh_words names ∷ fresh_raw names ∷ [];
 }
 
 -- these options are added to a command, none of which its subcommands inherit

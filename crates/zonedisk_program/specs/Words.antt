@@ -11,11 +11,11 @@ use Rattle.tool_jobs.specs.declared.job.ToolJob.{ToolJob}
 use Rattle.tool_jobs.specs.declared.job.ToolJob.TheVariants as tools
 use Rattle.zonedisk_program.specs.declared.task.Task.{Task}
 use Rattle.zonedisk_program.specs.declared.place.Place.TheVariants as places
-use Rattle.zonedisk_program.specs.declared.task.Task.TheVariants.{Lines, Nbd, Copy, Tool, Convert, Rescue}
+use Rattle.zonedisk_program.specs.declared.task.Task.TheVariants.{Lines, Nbd, Copy, Tool, Convert, Rescue, Repair}
 use Rattle.zonedisk_program.specs.declared.task.Task.TheVariants as tasks
 use Rattle.zonedisk_program.specs.Program.{habit_names, program}
 use Rattle.zonedisk_program.specs.DeviceWords.{AsksForDevice, AsksForNew}
-use Rattle.zonedisk_program.specs.DriveWords.{AsksForConvert, AsksForCopy, AsksForNbd, AsksForRescue}
+use Rattle.zonedisk_program.specs.DriveWords.{AsksForConvert, AsksForCopy, AsksForNbd, AsksForRepair, AsksForRescue}
 use Rattle.zonedisk_program.specs.EntryWords.{AsksForEntry}
 use Rattle.zonedisk_program.specs.ToolWords.{AsksForCheck, AsksForFormat, AsksForInfo, AsksForPlan, HasZonesForm}
 use Rattle.zonedisk_program.specs.Values.{HasFlag, HasGeometry, HasHabit, HasImage, HasNumber, HasStop, is_set}
@@ -56,6 +56,7 @@ AsksForFile name rows (Copy job) = AsksForCopy places.File name rows job
 AsksForFile name rows (Tool job) = AsksForTool name rows job
 AsksForFile name rows (Convert job) = (name ≡ codes "convert") × AsksForConvert rows job
 AsksForFile name rows (Rescue job) = (name ≡ codes "rescue") × AsksForRescue places.File rows job
+AsksForFile name rows (Repair job) = (name ≡ codes "repair") × AsksForRepair places.File rows job
 AsksForFile name rows (tasks.Device job) = (name ≡ codes "format") × AsksForNew rows job
 
 -- The same of each task. A job on a device is asked for exactly if one is named; a new drive in a file only if none is.

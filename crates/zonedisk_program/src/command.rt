@@ -4,8 +4,8 @@ ghost use Rattle.zonedisk_program.specs.Program.{AddsOptions, AddsSubcommand, Is
 ghost use Rattle.zonedisk_program.specs.Program.{blocks, check_words, convert_words, device, entry, entry_numbers, export_words, flag};
 ghost use Rattle.zonedisk_program.specs.Program.{fails, forgets, format, fresh_raw, fresh_words, given_first, habit, image};
 ghost use Rattle.zonedisk_program.specs.Program.{import_words, info_words, limits, nbd, number, nvme, optional};
-ghost use Rattle.zonedisk_program.specs.Program.{part, parts, percent, plan_words, program, report_words, rescue_words, run};
-ghost use Rattle.zonedisk_program.specs.Program.{shape, stops, valued};
+ghost use Rattle.zonedisk_program.specs.Program.{part, parts, percent, plan_words, program, repair_words, report_words};
+ghost use Rattle.zonedisk_program.specs.Program.{rescue_words, run, shape, stops, valued};
 
 use clap::builder::ValueParser;
 use clap::{Arg, ArgAction, Command, value_parser};
@@ -52,6 +52,13 @@ const RESCUE_EXAMPLE: &str = "Examples:
 
 The drive is only read. Standard error says which blocks are lost, and which may be older than they should be. The status
 is 0 only if there are none.";
+
+const REPAIR_EXAMPLE: &str = "Examples:
+  zonedisk repair --image my.drive
+  zonedisk repair --image my.drive --force
+
+Without --force the drive is only read: a line for each zone in which something foreign follows the batches. With it these
+batches go to other zones, and a check of the drive is shown. A repair that was stopped goes on where it ended.";
 
 const REPORT_EXAMPLE: &str = "Example:
   zonedisk report --image my.drive";
@@ -444,6 +451,18 @@ fn rescue_command<'a>(alloc: Global) -> Result<Command<'a>, AllocError>
         .arg(flag(alloc, "progress", PROGRESS_HELP))
 }
 
+fn repair_command<'a>(alloc: Global) -> Result<Command<'a>, AllocError>
+    ensures { IfOk result (λ new. IsCommand repair_words new) }
+{
+    let force = "Repairs them: the batches go to other zones, and the zones are reset";
+    Command::new(alloc, "repair")
+        .about("Shows the zones in which something foreign follows the batches, or repairs them")
+        .after_help(REPAIR_EXAMPLE)
+        .arg(image_option(alloc))?
+        .arg(device_option(alloc))?
+        .arg(flag(alloc, "force", force))
+}
+
 fn report_command<'a>(alloc: Global) -> Result<Command<'a>, AllocError>
     ensures { IfOk result (λ new. IsCommand report_words new) }
 {
@@ -639,6 +658,7 @@ pub fn program<'a>(alloc: Global, habits: &'a [&'a str]) -> Result<Command<'a>, 
     let command = with_subcommand(command, import_command(alloc))?;
     let command = with_subcommand(command, convert_command(alloc))?;
     let command = with_subcommand(command, rescue_command(alloc))?;
+    let command = with_subcommand(command, repair_command(alloc))?;
     let command = with_subcommand(command, report_command(alloc))?;
     let command = with_subcommand(command, check_command(alloc))?;
     let command = with_subcommand(command, info_command(alloc))?;
@@ -663,6 +683,7 @@ pub fn subcommand_named<'a>(
         "import" => import_command(alloc)?,
         "convert" => convert_command(alloc)?,
         "rescue" => rescue_command(alloc)?,
+        "repair" => repair_command(alloc)?,
         "report" => report_command(alloc)?,
         "check" => check_command(alloc)?,
         "info" => info_command(alloc)?,

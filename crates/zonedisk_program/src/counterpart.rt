@@ -121,6 +121,7 @@ pub fn in_place(task: Task) -> Result<DeviceJob, Task>
         Task::Copy(job) => Ok(DeviceJob::Copy(job)),
         Task::Tool(job) => tool_in_place(job),
         Task::Rescue(job) => Ok(DeviceJob::Rescue(job)),
+        Task::Repair(job) => Ok(DeviceJob::Repair(job)),
         Task::Convert(job) => Err(Task::Convert(job)),
         Task::Device(job) => Err(Task::Device(job)),
     }

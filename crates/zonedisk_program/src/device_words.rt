@@ -9,7 +9,7 @@ use crate::place::{Place, drive_path};
 use crate::tool_words::{check_job, first_given, info_job, is_set, lacks_parts, zones_form};
 use crate::words::{
     WordFault, export_job, geometry, habit_of, has_flag, image, import_job, nbd_job, number,
-    rescue_job, stop_of,
+    repair_job, rescue_job, stop_of,
 };
 use clap::ArgMatches;
 use device_jobs::{DeviceJob, DeviceRun};
@@ -118,6 +118,7 @@ pub fn device_job(
         "export" => Ok(DeviceJob::Copy(export_job(alloc, place, matches)?)),
         "import" => Ok(DeviceJob::Copy(import_job(alloc, place, matches)?)),
         "rescue" => Ok(DeviceJob::Rescue(rescue_job(alloc, place, matches)?)),
+        "repair" => Ok(DeviceJob::Repair(repair_job(alloc, place, matches)?)),
         _ => Err(WordFault::Missing),
     }
 }

@@ -7,6 +7,7 @@ ghost use Rattle.disk_files.specs.Output.{AppendsFront};
 ghost use Rattle.zonedisk_program.specs.Ends.{EndsLines, EndsServed};
 
 use crate::files::{counted, fail, tell_imported, tell_session, tell_size, tell_terminal};
+use crate::repairing::repair_device;
 use crate::rescuing::rescue_device;
 use device_jobs::{
     DeviceFault, DeviceJob, DeviceRun, Devices, FormatFault, NamedDrive, OpenDevice, SendFault,
@@ -42,7 +43,7 @@ pub(crate) fn refuse<R: Eprint>(rt: &R, path: &str, fault: DeviceFault) -> ExitC
 }
 
 /// The same for a job that shows its faults by lines.
-fn refuse_lines<R: Eprint, W: Write>(
+pub(crate) fn refuse_lines<R: Eprint, W: Write>(
     rt: &R,
     path: &str,
     fault: DeviceFault,
@@ -627,5 +628,6 @@ pub fn do_device<R: Clock + Eprint + Files<File = fs::File> + Input + Print, D: 
         }
         DeviceJob::Copy(job) => do_copy(rt, alloc, devices, job),
         DeviceJob::Rescue(job) => rescue_device(rt, alloc, devices, devices, job),
+        DeviceJob::Repair(job) => repair_device(rt, alloc, devices, job, output),
     }
 }

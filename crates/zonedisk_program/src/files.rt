@@ -43,7 +43,7 @@ pub(crate) fn tell_size<R: Eprint>(
 }
 
 /// Says on standard error where a file was saved that had been removed.
-fn tell_saved<R: Eprint>(rt: &R, alloc: Global, path: &str, saved: Saved) {
+pub(crate) fn tell_saved<R: Eprint>(rt: &R, alloc: Global, path: &str, saved: Saved) {
     if saved.is_restored
         && let Ok(note) = restored_note(alloc, path)
     {

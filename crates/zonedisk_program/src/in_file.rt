@@ -24,6 +24,7 @@ fn image_of(task: &Task) -> Option<&str> {
         Task::Tool(job) => job.image(),
         Task::Convert(job) => Some(job.image.as_str()),
         Task::Rescue(job) => Some(job.image.as_str()),
+        Task::Repair(job) => Some(job.image.as_str()),
         Task::Device(_) => None,
     }
 }

@@ -9,10 +9,10 @@
 //!
 //! [`run_program`] is the whole program over any two ways: one to devices, and one to drives that stay in their files.
 //! So programs with different ways share all else. [`task_of`] reads the words of the command line, and each job is
-//! done by its crate: [`do_job`], [`do_nbd_job`], [`do_export`], [`do_import`], [`do_tool_job`] and `do_rescue` on the
-//! drive whose image is in a file, and those of `device_jobs` on the drive of a device. What people are told goes to
-//! standard error: what a fault is, what a status means with `nvme --explain`, what to know of the size of a disk, and
-//! what is missing of a rescued one.
+//! done by its crate: [`do_job`], [`do_nbd_job`], [`do_export`], [`do_import`], [`do_tool_job`], `do_rescue` and
+//! `mend_image` on the drive whose image is in a file, and those of `device_jobs` on the drive of a device. What people
+//! are told goes to standard error: what a fault is, what a status means with `nvme --explain`, what to know of the size
+//! of a disk, and what is missing of a rescued one.
 //!
 //! A file that is named by `--image` may hold a drive that stays in it. The first bytes of the file say so. Then the
 //! task becomes a job on a device with that path ([`in_place`]), and the second way opens it. A drive is put into a
@@ -30,7 +30,8 @@
 //! * A new drive that stays in its file is asked for by `format --in-place`, with a shape. Then no device is named,
 //!   and nothing is forced (`AsksForNew`).
 //! * A drive is put into another file by `convert`, with both paths (`AsksForConvert`).
-//! * A rescue has the paths and the number that its options were given (`AsksForRescue`).
+//! * A rescue has the paths and the number that its options were given (`AsksForRescue`). A repair changes the drive
+//!   only with `--force` (`AsksForRepair`).
 //! * Words are refused only where clap refuses them, where they ask for no task in this sense, or where memory runs
 //!   out (`IsAnswerTo`).
 //!
@@ -48,6 +49,9 @@
 //!   did may not be durable or is not saved (`EndsServed`, `EndsSaved` in `specs/Ends.antt`).
 //! * A rescue ends with the exit status 1 if it ended by a fault, or if a block is lost or perhaps older
 //!   (`EndsRescue`).
+//! * A repair ends with the exit status 1 if it ended by a fault, if what it did may not be durable or is not saved, or
+//!   if the drive cannot be mounted then (`EndsMended`). One that only tells what it is for ends so if there is anything
+//!   (`EndsListed`).
 //! * A run on a device, and a format of one, end with the line of a device and the exit status 1 if only the sync at
 //!   their end failed (`EndsLines`).
 //!
@@ -79,6 +83,7 @@ mod in_file;
 mod place;
 mod raw_words;
 mod refusal;
+mod repairing;
 mod rescuing;
 mod task;
 mod tool_words;
@@ -89,6 +94,7 @@ pub use crate::counterpart::in_place;
 pub use crate::devices::do_device;
 use crate::files::{copy, do_lines, do_nbd, fail, use_tool};
 use crate::in_file::{begins_in_place, refuse_in_place};
+use crate::repairing::repair_image;
 use crate::rescuing::{rescue_device, rescue_image};
 pub use crate::task::Task;
 pub use crate::words::task_of;
@@ -172,6 +178,7 @@ fn do_as_it_is<
         Task::Tool(job) => use_tool(rt, alloc, job, output),
         Task::Convert(job) => into_drive_file(rt, alloc, files, job, output),
         Task::Rescue(job) => rescue_image(rt, alloc, job),
+        Task::Repair(job) => repair_image(rt, alloc, job, output),
         Task::Device(job) => do_named(rt, alloc, devices, files, job, output),
     }
 }

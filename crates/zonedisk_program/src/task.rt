@@ -2,6 +2,7 @@ use device_jobs::{ConvertJob, DeviceJob};
 use disk_copies::CopyJob;
 use disk_jobs::Job;
 use nbd_jobs::NbdJob;
+use repair_jobs::RepairJob;
 use rescue_jobs::RescueJob;
 use tool_jobs::ToolJob;
 
@@ -20,6 +21,8 @@ pub enum Task {
     Convert(ConvertJob),
     /// The disk of a drive, however broken the drive is.
     Rescue(RescueJob),
+    /// A drive whose zones are repaired that end in something foreign.
+    Repair(RepairJob),
     /// A job on the drive of a device, and not on one in a file. Or a new drive is made that stays in its file.
     Device(DeviceJob),
 }

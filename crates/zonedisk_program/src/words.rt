@@ -5,7 +5,7 @@ ghost use Rattle.clap.specs.Words.{first_of, found_of, rows_of, subcommand_rows_
 ghost use Rattle.zonedisk_program.specs.Values.{Finds, HasFlag, HasGeometry, HasHabit, HasImage, HasNumber};
 ghost use Rattle.zonedisk_program.specs.Values.{HasNumberIf, HasNumberOr, HasStop, HasTextIf, IsNumber, is_set};
 ghost use Rattle.zonedisk_program.specs.Values.{named_habit};
-ghost use Rattle.zonedisk_program.specs.DriveWords.{AsksForConvert, AsksForCopy, AsksForNbd, AsksForRescue};
+ghost use Rattle.zonedisk_program.specs.DriveWords.{AsksForConvert, AsksForCopy, AsksForNbd, AsksForRepair, AsksForRescue};
 ghost use Rattle.zonedisk_program.specs.Words.{AsksFor, AsksForFile, AsksForJob, IsAnswerTo};
 ghost use Rattle.zonedisk_program.specs.declared.words.WordFault.TheVariants.{Memory};
 
@@ -23,6 +23,7 @@ use device_jobs::ConvertJob;
 use disk_copies::{CopyJob, ExportJob, ImportJob};
 use disk_jobs::{Habit, Job, Stop};
 use nbd_jobs::NbdJob;
+use repair_jobs::RepairJob;
 use rescue_jobs::RescueJob;
 use std::alloc::{AllocError, Global};
 use tool_jobs::{ToolJob, ZonesJob};
@@ -429,6 +430,19 @@ pub fn rescue_job(
     })
 }
 
+/// The job of `repair`.
+pub fn repair_job(
+    alloc: Global,
+    place: Place,
+    matches: &ArgMatches<'_>,
+) -> Result<RepairJob, WordFault>
+    ensures { Finds (AsksForRepair place (rows_of (found_of matches.now))) result }
+{
+    let force = has_flag(matches, "force");
+    let image = drive_path(alloc, place, matches)?;
+    Ok(RepairJob { image, force })
+}
+
 /// What a subcommand asks for without a device.
 fn file_task(alloc: Global, name: &str, matches: &ArgMatches<'_>) -> Result<Task, WordFault>
     ensures { Finds (AsksForFile name.now (rows_of (found_of matches.now))) result }
@@ -443,6 +457,7 @@ fn file_task(alloc: Global, name: &str, matches: &ArgMatches<'_>) -> Result<Task
         "plan" => Ok(Task::Tool(plan_tool(alloc, matches)?)),
         "convert" => Ok(Task::Convert(convert_job(alloc, matches)?)),
         "rescue" => Ok(Task::Rescue(rescue_job(alloc, place, matches)?)),
+        "repair" => Ok(Task::Repair(repair_job(alloc, place, matches)?)),
         "report" => report_task(alloc, matches),
         "format" => format_task(alloc, matches),
         "entry" => Ok(Task::Tool(ToolJob::Entry(entry_words(alloc, matches)?))),

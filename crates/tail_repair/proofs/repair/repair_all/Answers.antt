@@ -1,0 +1,19 @@
+use Rattle.std.proofs.Common.{◌≡◌, [], arith, sym}
+use Rattle.std.proofs.lemmas.Bool.{eqb-true}
+use Rattle.tail_repair.proofs.KeepLaws.{drive-then}
+use Rattle.tail_repair.proofs.TailLaws.{logs-kept, look-keeps, no-items, no-tails}
+use Rattle.tail_repair.proofs.repair.repair_all.Goals as goal
+
+pub returns-in_err-find_tails-clause-kept : goal.returns-in_err-find_tails-clause-kept
+returns-in_err-find_tails-clause-kept g c = drive-then _ _ _ c.repair_each.ensures.kept (look-keeps _ _ c.find_tails.ensures.kept)
+
+pub returns-then-not-is_empty-clause-kept : goal.returns-then-not-is_empty-clause-kept
+returns-then-not-is_empty-clause-kept g c = drive-then _ _ _ c.repair_each.ensures.kept (look-keeps _ _ c.find_tails.ensures.kept)
+
+pub returns-clause-ok : goal.returns-clause-ok
+returns-clause-ok g c clean =
+    let none : c.in_ok-find_tails.field-0.items ≡ [] = no-items c.in_ok-find_tails.field-0.items (omega (arith, c.in_ok-find_tails.field-0.ok, eqb-true c.in_ok-find_tails.field-0.len 0 (sym c.if-not-is_empty.ensures))) in
+    logs-kept _ _ c.find_tails.ensures.kept (no-tails _ c.in_ok-find_tails.field-0.items (c.in_ok-find_tails.ensures.ok clean) none)
+
+pub returns-clause-kept : goal.returns-clause-kept
+returns-clause-kept g c = drive-then _ _ _ c.repair_each.ensures.kept (look-keeps _ _ c.find_tails.ensures.kept)

@@ -1,0 +1,35 @@
+use Rattle.std.proofs.Common.{◌≡◌, [], arith, sym}
+use Rattle.std.proofs.lemmas.Bool.{eqb-true}
+use Rattle.drive_survey.proofs.ReadLaws.{keeps-both}
+use Rattle.tail_repair.proofs.KeepLaws.{drive-then}
+use Rattle.tail_repair.proofs.TailLaws.{logs-kept, look-keeps, no-items, no-tails, refused-same}
+use Rattle.tail_repair.proofs.repair.repair_tails.Goals as goal
+
+pub returns-in_err-tails-clause-refused : goal.returns-in_err-tails-clause-refused
+returns-in_err-tails-clause-refused g c = refused-same _ _ c.from_residual.result c.find_tails.ensures.kept
+
+pub returns-in_err-tails-clause-kept : goal.returns-in_err-tails-clause-kept
+returns-in_err-tails-clause-kept g c = look-keeps _ _ c.find_tails.ensures.kept
+
+pub returns-then-is_empty-clause-ok : goal.returns-then-is_empty-clause-ok
+returns-then-is_empty-clause-ok g c clean =
+    let none : c.in_ok-tails.tails.items ≡ [] = no-items c.in_ok-tails.tails.items (omega (arith, c.in_ok-tails.tails.ok, eqb-true c.in_ok-tails.tails.len 0 (sym c.if-is_empty.ensures))) in
+    logs-kept _ _ c.find_tails.ensures.kept (no-tails _ c.in_ok-tails.tails.items (c.in_ok-tails.ensures.ok clean) none)
+
+pub returns-then-is_empty-clause-kept : goal.returns-then-is_empty-clause-kept
+returns-then-is_empty-clause-kept g c = look-keeps _ _ c.find_tails.ensures.kept
+
+pub returns-in_err-check_room-clause-refused : goal.returns-in_err-check_room-clause-refused
+returns-in_err-check_room-clause-refused g c = refused-same _ _ c.from_residual-in_err-check_room.result (keeps-both _ _ _ c.find_tails.ensures.kept c.check_room.ensures.kept)
+
+pub returns-in_err-check_room-clause-kept : goal.returns-in_err-check_room-clause-kept
+returns-in_err-check_room-clause-kept g c = look-keeps _ _ (keeps-both _ _ _ c.find_tails.ensures.kept c.check_room.ensures.kept)
+
+pub repair_all-requires-clause-range : goal.repair_all-requires-clause-range
+repair_all-requires-clause-range g c = rw c.check_room.ensures.kept.geometry c.in_ok-tails.ensures.range
+
+pub returns-in-Ok-clause-kept : goal.returns-in-Ok-clause-kept
+returns-in-Ok-clause-kept g c = drive-then _ _ _ (look-keeps _ _ (keeps-both _ _ _ c.find_tails.ensures.kept c.check_room.ensures.kept)) c.repair_all.ensures.kept
+
+pub returns-clause-kept : goal.returns-clause-kept
+returns-clause-kept g c = drive-then _ _ _ (look-keeps _ _ (keeps-both _ _ _ c.find_tails.ensures.kept c.check_room.ensures.kept)) c.repair_all.ensures.kept

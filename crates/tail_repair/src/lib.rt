@@ -1,0 +1,54 @@
+//! The repair of a drive in place, of which zones end in something foreign: what is no batch of a log.
+//!
+//! ```text
+//! for tail in find_tails(alloc, &mut device)? {
+//!     // zone `tail.zone` holds batches in its first `tail.blocks` blocks, and then something foreign
+//! }
+//! for moved in repair_tails(alloc, &mut device)? {
+//!     // the batches of zone `moved.zone` are in zone `moved.into` now
+//! }
+//! ```
+//!
+//! An Append that the drive fails at, or a file that is torn, may leave blocks in a zone that are no batch. A mount
+//! refuses such a drive for ever, though all that was answered may be there.
+//!
+//! # How a zone is repaired
+//!
+//! The zone is finished, which frees its place among the active zones. If zeros are all that was foreign, that is
+//! enough: zeros at the end of a Full zone are padding. Else its batches are copied as they are to the lowest Empty
+//! zone. That zone is finished, and compared with the first. Only then the foreign one is reset.
+//!
+//! A stop may leave a part of a copy. The next repair finds that part, and goes on after it. Batches of which there
+//! are two copies are in the way of a mount, so the drive is not mounted in the meantime.
+//!
+//! # What is promised
+//!
+//! * While the drive is clean, at every moment that a stop may leave: the batches with which a zone began, some zone
+//!   begins with (`KeepsBatches` in specs/Repair). So no batch is lost before the first foreign block of its zone.
+//! * Done, each zone holds a log, as a mount asks it (`HaveLogs`). Whether the drive can be mounted a mount tells.
+//! * A refusal changes no zone: all faults but `Halted` and `Unfinished` (`may_change`).
+//! * [`find_tails`] only reads. It finds just the zones whose log ends in something foreign (`AreTails`). It fails if a
+//!   later block of such a zone is a header (`HeadersEnd`), since a repair would lose the batch there.
+//!
+//! A torn tail is not foreign: a mount repairs it.
+//!
+//! # What is not proved
+//!
+//! * That a fault has a cause: a body that always halts meets the contract.
+//! * That [`repair_tails`] repairs only what [`find_tails`] finds. It calls that first, so a header after the first
+//!   foreign block refuses a drive, and so does a zone that is Read Only or Offline. No clause of it says so.
+//! * What the answer of [`repair_tails`] says of zones.
+//! * That only the foreign zones and their destinations change, and that Empty zones are used from the lowest on. The
+//!   rows of `tool_rows` and tests show it.
+//!
+//! Tests: `call_tests`, and the rows of `tool_rows`.
+#![tactic(auto)]
+
+mod copy;
+mod fault;
+mod repair;
+mod tails;
+
+pub use fault::RepairFault;
+pub use repair::{MovedZone, repair_tails};
+pub use tails::{ForeignTail, find_tails};
