@@ -1,7 +1,7 @@
 # What the scripts of guests share: the disk is served to the kernel's nbd, with ext4 on it.
 #
-# BLOCKS is how many logical blocks it has, and `turn` counts the starts. With SPOIL things are lost on purpose, each
-# once, to see that it is told.
+# BLOCKS is how many logical blocks it has, and `turn` counts the starts. DRIVE has the words for another drive. With
+# SPOIL things are lost on purpose, each once, to see that it is told.
 served=0
 mkdir -p /tmp/files
 
@@ -27,7 +27,8 @@ serve() {
     served=$((served + 1))
     await 600 is_free $node || fail "$node is not free"
     rm -f /tmp/socket
-    socat UNIX-LISTEN:/tmp/socket EXEC:"zonedisk nbd --device /dev/ng0n1 --blocks $BLOCKS",nofork 2>> /share/served &
+    program="zonedisk nbd ${DRIVE:---device /dev/ng0n1} --blocks $BLOCKS"
+    socat UNIX-LISTEN:/tmp/socket EXEC:"$program",nofork 2>> /share/served &
     server=$!
     await 600 [ -S /tmp/socket ] || fail "nothing listens"
     nbd-client -unix /tmp/socket $node -b 4096 > /tmp/client 2>&1 || fail "not served: $(cat /tmp/client /share/served)"

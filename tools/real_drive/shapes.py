@@ -38,10 +38,18 @@ SMALL = [
     Shape(512, 40, 60, 60, 2, 6, 4, 1800),
     Shape(4096, 24, 64, 64, 7, 14, 14, 1000),
 ]
+# Of drives that fail in part. They are small and nearly full, so that they are cleaned; the first one's zone size is no
+# power of two.
+OF_FAULTS = [
+    Shape(512, 20, 30, 24, 2, 6, 4, 240),
+    Shape(4096, 10, 16, 16, 7, 14, 14, 70),
+]
 # For jobs that hold other file systems before.
 OF_JOBS = Shape(4096, 64, 4096, 4096, 7, 14, 14, 3000)
 # For file systems, and for fio, which writes all of the disk. A few dozen cuts, or one round of fio, clean it.
 OF_FILES = Shape(4096, 48, 256, 250, 7, 8, 6, 8000)
+# For files on a drive that fails. ext4 has no journal on fewer than 2048 blocks.
+OF_FILE_FAULTS = Shape(4096, 14, 256, 250, 7, 8, 6, 2060)
 # Large enough for btrfs, which takes whole zones and gives them back late: 6 GiB, and a disk of 1.5 GiB.
 OF_SPEED = Shape(4096, 384, 4096, 4096, 7, 14, 14, 393216)
 # For a mount of many batches: room for 100,000 of them, and a transfer of 256 blocks.

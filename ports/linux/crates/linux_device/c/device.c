@@ -78,6 +78,7 @@ uint16_t zonedisk_submit(uint64_t session, uint64_t *moment, const uint8_t entry
     if (*moment == NO_MOMENT || *moment != used->moment) end_process("a command to a drive at a moment that is past");
     const struct request request = {entry, bytes, length, room, room_length};
     uint16_t status = pass_command(&used->devices, used->block, &request, value);
+    if (status != 0) tell_refused(entry, status);
     *moment = ++used->moment;
     return status;
 }

@@ -37,3 +37,6 @@ bool read_zones(const struct namespace_devices *devices, uint32_t size, uint32_t
 // Passes one admin command.
 uint16_t pass_admin(const struct namespace_devices *devices, uint8_t opcode, bool names_namespace,
                     const uint32_t dwords[2], uint8_t *page, size_t length, uint32_t *result);
+
+// Tells people of a command that the drive answered by another status than success, or not at all.
+void tell_refused(const uint8_t *entry, uint16_t status);

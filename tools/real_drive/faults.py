@@ -1,0 +1,219 @@
+"""Drives that fail in part: single writes, reads and flushes, and zones that wear out. Then the disk is rescued."""
+
+import itertools
+import os
+import random
+import subprocess
+
+import file_faults
+from asked import AskedGuest
+from looks import count, look
+from machine import files_of, install, script_of
+from places import batches_of, newest
+from saved import Saved
+from shapes import OF_FAULTS
+from traces import Line
+from written import Written
+
+STOPPED, AT_END, HALTED = "fault disk 3 Stopped", "fault device", "fault mount 10 Halted"
+MOUNTABLE = ["the drive can be mounted", "status 0"]
+READ_ONLY, OFFLINE = 13, 15
+NAMES = {READ_ONLY: "Read Only", OFFLINE: "Offline"}
+EMPTY, OPENED, CLOSED, FULL = 1, 2, 4, 14
+# The zones that may wear out, by what they hold.
+ZONES = {"partly written": (OPENED, CLOSED), "full": (FULL,), "empty": (EMPTY,)}
+KINDS = "new", "flat"
+UNWORN = "unset LD_PRELOAD WORN; rm -f /tmp/worn"
+# In how many guests the places are tried.
+GUESTS = 4
+
+
+def a_zone(disk, *states):
+    """Start and pointer of a zone in one of these states, or else of an empty one, which is written next."""
+    return disk.chance.choice(disk.zones_that_are(*states) or disk.zones_that_are(EMPTY)[:1])
+
+
+def fail_write(disk, name):
+    """A write fails once: the run stops, and what it had answered is there."""
+    disk.begin()
+    _, pointer = a_zone(disk, OPENED, CLOSED)
+    disk.guest.fail("write", pointer + disk.chance.randrange(10))
+    ended = disk.run(disk.lines(60))
+    disk.guest.mend()
+    if ended == (0, "ok"):
+        count("writes that did not come to the place")
+        return
+    count("failed writes")
+    look(ended == (1, STOPPED), f"{name}: the run ended by {ended}")
+    saved = Saved(disk.guest, name, disk.chance.choice(KINDS))
+    saved.judge(disk)
+    look(not saved.lost, f"{name}: blocks are lost: {sorted(saved.lost)}")
+    look(disk.is_there(saved.blocks), f"{name}: an answered line is not rescued")
+    if saved.reply == "ok":
+        count("failed writes after which the drive is mounted")
+        look(disk.is_there(disk.read_all()), f"{name}: a mount lost an answered line")
+        look(saved.check[-2:] == MOUNTABLE, f"{name}: mounted, and check says {saved.check}")
+    else:
+        look(saved.is_refused("zone "), f"{name}: check says {saved.check}")
+        look(saved.reply.startswith("fault mount 4 Log "), f"{name}: the mount says {saved.reply}")
+
+
+def fail_data(disk, name, once):
+    """The newest data of a block cannot be read: only that is lost. Once it fails alone, it is asked for again."""
+    block, address = disk.chance.choice(sorted(newest(batches_of(disk.shape, disk.guest.image)).items()))
+    disk.guest.fail("read", address, once=once)
+    saved = Saved(disk.guest, name, disk.chance.choice(KINDS), block)
+    saved.judge(disk)
+    count("unreadable data blocks")
+    if not once:
+        write_anew(disk, name, block)
+    disk.guest.mend()
+    wanted = set() if once else {block}
+    look((saved.lost, saved.older) == (wanted, set()), f"{name}: lost {saved.lost}, older {saved.older}, not {wanted}")
+    look(saved.check[-2:] == MOUNTABLE, f"{name}: check says {saved.check}")
+    look(saved.reply == ("ok" if once else STOPPED), f"{name}: a run says {saved.reply}")
+
+
+def write_anew(disk, name, block):
+    """Writes a block whose newest data cannot be read: then all can be read again."""
+    text = f"a5*{disk.shape.block}"
+    ended = disk.run([Line(f"fill {block} 1 a5", block, [text])])
+    look(ended == (0, "ok"), f"{name}: block {block} cannot be written: {ended}")
+    look(disk.is_there(disk.read_all()), f"{name}: not all blocks are there after block {block} was written")
+    count("unreadable blocks written anew")
+
+
+def fail_header(disk, name):
+    """A header cannot be read: blocks of its batch are given as they were before, and are listed."""
+    batch = disk.chance.choice(batches_of(disk.shape, disk.guest.image))
+    disk.guest.fail("read", batch.header, once=False)
+    saved = Saved(disk.guest, name, disk.chance.choice(KINDS))
+    disk.guest.mend()
+    saved.judge(disk)
+    count("unreadable headers")
+    look(not saved.lost, f"{name}: lost {sorted(saved.lost)}")
+    look(saved.reply == HALTED, f"{name}: the mount says {saved.reply}")
+    look(saved.is_stopped(), f"{name}: check says {saved.check}")
+
+
+def wear(disk, name, kind, state):
+    """A zone wears out: it is partly written and refuses an Append, or it is full or empty."""
+    disk.begin()
+    start, _ = a_zone(disk, *ZONES[kind])
+    zone, append = start // disk.shape.size, int(kind == "partly written")
+    disk.guest.ask(f"export LD_PRELOAD=/in/worn.so WORN='{start} {disk.shape.size} {state} {append}'")
+    ended = disk.run(disk.lines(60))
+    if append and ended == (0, "ok"):
+        count("zones that were not written again")
+        disk.guest.ask(UNWORN)
+        return
+    unusable = f"fault mount 3 ZoneUnusable {zone}"
+    look(ended == (1, STOPPED if append else unusable), f"{name}: the run ended by {ended}")
+    saved = Saved(disk.guest, name, disk.chance.choice(KINDS))
+    saved.judge(disk)
+    count(f"zones that are {NAMES[state]}")
+    look(saved.reply == unusable, f"{name}: the mount says {saved.reply}")
+    look(saved.is_refused(f"zone {zone} is "), f"{name}: check says {saved.check}")
+    look(not saved.lost, f"{name}: lost {sorted(saved.lost)}")
+    if state == READ_ONLY or kind == "empty":
+        look(disk.is_there(saved.blocks), f"{name}: an answered line is not rescued")
+    if state == OFFLINE:
+        look(len(saved.older) == disk.shape.blocks, f"{name}: only {len(saved.older)} blocks are listed")
+    status, said = disk.guest.ask("zonedisk format --device /dev/ng0n1 --force")
+    look(status == 1 and f"zone {zone} is Read Only or Offline" in said, f"{name}: format says {status} {said}")
+    disk.guest.ask(UNWORN)
+
+
+def tear_write(disk, name):
+    """A write fails in its middle, and the drive counts all its blocks as written. The proofs assume that no drive does
+    that: so it is only counted how often blocks are wrong that no list has."""
+    disk.begin()
+    _, pointer = a_zone(disk, OPENED, CLOSED)
+    disk.guest.fail("write", pointer + disk.chance.randrange(1, 6), most=disk.shape.block)
+    ended = disk.run(disk.lines(60))
+    disk.guest.mend()
+    if ended == (0, "ok"):
+        count("torn writes that did not come to the place")
+        return
+    saved = Saved(disk.guest, name, disk.chance.choice(KINDS))
+    given = enumerate(saved.blocks)
+    known = saved.lost | saved.older
+    wrong = [number for number, text in given if number not in known and text not in disk.may_be[number]]
+    count("torn writes")
+    count("torn writes that left wrong blocks, as nothing tells", bool(wrong))
+
+
+def fail_answer(disk, name):
+    """A write is done, but the drive cannot bring it to its medium. The run stops, and nothing is missing."""
+    disk.begin()
+    disk.guest.fail("flush")
+    ended = disk.run(disk.lines(30))
+    disk.guest.mend()
+    count("writes that were done and failed")
+    look(ended == (1, STOPPED), f"{name}: the run ended by {ended}")
+    look_at_all(disk, name)
+
+
+def fail_flush(disk, name):
+    """Flushes fail: the run says so at its end, or it stops before a Reset. All that it answered is there."""
+    disk.begin()
+    disk.guest.ask("touch /tmp/unflushed; export LD_PRELOAD=/in/worn.so")
+    ended = disk.run(disk.lines(disk.chance.choice([3, 40])))
+    disk.guest.ask("unset LD_PRELOAD; rm /tmp/unflushed")
+    count(f"failed flushes that ended a run by {ended[1]}")
+    look(ended in ((1, STOPPED), (1, AT_END)), f"{name}: the run ended by {ended}")
+    look_at_all(disk, name)
+
+
+def look_at_all(disk, name):
+    """Looks whether a rescue, a mount and `check` find nothing wrong."""
+    saved = Saved(disk.guest, name, disk.chance.choice(KINDS))
+    saved.judge(disk)
+    look(not saved.lost and not saved.older, f"{name}: listed {len(saved.lost)} and {len(saved.older)}")
+    look(disk.is_there(disk.read_all()), f"{name}: an answered line is lost: {saved.reply}")
+    look(saved.check[-2:] == MOUNTABLE, f"{name}: check says {saved.check}")
+
+
+def try_places(disk, places):
+    """Writes that fail, and then data and headers that cannot be read, each at so many places."""
+    shape = disk.shape
+    for turn in range(places):
+        fail_write(disk, f"{shape}: write {turn}")
+    disk.begin()
+    for turn in range(places):
+        fail_data(disk, f"{shape}: data {turn}", once=turn % 6 == 5)
+        fail_header(disk, f"{shape}: header {turn}")
+
+
+def try_zones(disk):
+    """Zones that wear out, and Flushes that fail."""
+    for state, kind in itertools.product(NAMES, ZONES):
+        wear(disk, f"{disk.shape}: a zone that is {kind} and {NAMES[state]}", kind, state)
+    for fault in [fail_flush, fail_answer, tear_write] * 3:
+        fault(disk, f"{disk.shape}: {fault.__name__}")
+
+
+def one_guest(machine, library, which, job, *words):
+    """Some faults of drives in one guest. Every second one has drives of the second shape."""
+    files = files_of([library, script_of("asked.sh"), script_of("serving.sh")])
+    with AskedGuest(machine, OF_FAULTS[which % 2], files) as guest:
+        job(Written(guest, random.Random(f"{machine.seed} faults {which}")), *words)
+
+
+def make_library(machine):
+    """Compiles what lets zones wear out and Flushes fail."""
+    library = os.path.join(machine.work, "worn.so")
+    words = [os.environ.get("CC", "cc"), "-shared", "-fPIC", "-O1", "-o", library, script_of("worn.c")]
+    subprocess.run(words, check=True)
+    return library
+
+
+def try_faults(machine, number):
+    """Faults on drives of two shapes, and under ext4."""
+    library = make_library(machine)
+    install(file_faults.PROGRAMS)
+    shares = [number // GUESTS + (share < number % GUESTS) for share in range(GUESTS)]
+    jobs = [(one_guest, library, which, try_places, places) for which, places in enumerate(shares) if places]
+    jobs += [(one_guest, library, GUESTS + which, try_zones) for which in range(len(OF_FAULTS))]
+    jobs += [(file_faults.try_files, fault, library) for fault in file_faults.FAULTS]
+    machine.side_by_side(lambda item: item[0](machine, *item[1:]), jobs)
