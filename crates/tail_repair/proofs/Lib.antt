@@ -1,3 +1,4 @@
 pub mod KeepLaws
 pub mod CommandLaws
 pub mod TailLaws
+pub mod MovedLaws

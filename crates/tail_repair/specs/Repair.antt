@@ -1,5 +1,5 @@
 -- What a repair of zones that end in something foreign finds, keeps and leaves.
-use Rattle.std.specs.Prelude.{◌≡◌, ◌≢◌, ℕ, suc, ◌<◌, ◌≤◌, Bool, true, false, IsTrue, List, [], ◌∷◌, ◌++◌, length, Option, Some, None}
+use Rattle.std.specs.Prelude.{◌≡◌, ◌≢◌, ℕ, suc, ◌<◌, ◌≤◌, Bool, true, false, IsTrue, List, [], ◌∷◌, ◌++◌, length, map, Option, Some, None, IfSome}
 use Rattle.batch_log.specs.Causes.{is_zero}
 use Rattle.batch_log.specs.Header.{IsNoHeader}
 use Rattle.batch_log.specs.Log.{Batch, BeginsWith, BeginsWithNoBatch, log_size}
@@ -9,6 +9,7 @@ use Rattle.drive_port.specs.Drive.{DriveState, IsLawful}
 use Rattle.drive_survey.specs.Scan.{block_of, readable_at}
 use Rattle.tail_repair.specs.declared.fault.RepairFault.{RepairFault}
 use Rattle.tail_repair.specs.declared.fault.RepairFault.TheVariants.{Halted, Unfinished}
+use Rattle.tail_repair.specs.declared.repair.MovedZone.{MovedZone}
 use Rattle.tail_repair.specs.declared.tails.ForeignTail.{ForeignTail}
 
 -- ---- what is kept
@@ -82,6 +83,24 @@ pub data AreNoted (drive : DriveState) : ℕ → List ForeignTail → Type 0 whe
 -- all zones were
 abbrev pub AreTails : DriveState → List ForeignTail → Type 0
 AreTails drive tails = AreNoted drive (length drive.zones) tails
+
+-- ---- what is answered
+
+abbrev pub found_zones : List ForeignTail → List ℕ
+found_zones tails = map (λ (tail : ForeignTail). tail.zone) tails
+
+abbrev pub moved_zones : List MovedZone → List ℕ
+moved_zones moved = map (λ (one : MovedZone). one.zone) moved
+
+-- These are just the zones that end in something foreign, in their order.
+pub record AreRepaired (drive : DriveState) (moved : List MovedZone) : Type 0 where
+  pub tails : List ForeignTail
+  pub found : AreTails drive tails
+  pub zones : moved_zones moved ≡ found_zones tails
+
+-- what was moved is in another zone
+abbrev pub IsElsewhere : MovedZone → Type 0
+IsElsewhere moved = IfSome moved.into (λ to. to ≢ moved.zone)
 
 -- each zone holds a log
 abbrev pub HaveLogs : DriveState → Type 0

@@ -26,6 +26,9 @@
 //! * While the drive is clean, at every moment that a stop may leave: the batches with which a zone began, some zone
 //!   begins with (`KeepsBatches` in specs/Repair). So no batch is lost before the first foreign block of its zone.
 //! * Done, each zone holds a log, as a mount asks it (`HaveLogs`). Whether the drive can be mounted a mount tells.
+//! * While the drive is clean, the answer names just the zones that [`find_tails`] finds, in their order
+//!   (`AreRepaired`). With a header after the first foreign block of a zone there is no such answer.
+//! * If the answer names no zone, none is changed. What was moved is in another zone (`IsElsewhere`).
 //! * A refusal changes no zone: all faults but `Halted` and `Unfinished` (`may_change`).
 //! * [`find_tails`] only reads. It finds just the zones whose log ends in something foreign (`AreTails`). It fails if a
 //!   later block of such a zone is a header (`HeadersEnd`), since a repair would lose the batch there.
@@ -35,9 +38,8 @@
 //! # What is not proved
 //!
 //! * That a fault has a cause: a body that always halts meets the contract.
-//! * That [`repair_tails`] repairs only what [`find_tails`] finds. It calls that first, so a header after the first
-//!   foreign block refuses a drive, and so does a zone that is Read Only or Offline. No clause of it says so.
-//! * What the answer of [`repair_tails`] says of zones.
+//! * What else the answer of [`repair_tails`] says of a zone: how many blocks its batches take, and in which other zone
+//!   they are.
 //! * That only the foreign zones and their destinations change, and that Empty zones are used from the lowest on. The
 //!   rows of `tool_rows` and tests show it.
 //!

@@ -1,9 +1,11 @@
-ghost use Rattle.std.specs.Prelude.{◌≡◌, ◌≢◌, ◌<◌, ◌≤◌, ◌^◌, false, length, IfErr, IfOk, IfSome, IsTrue, OnOk};
+ghost use Rattle.std.specs.List.{All};
+ghost use Rattle.std.specs.Prelude.{◌≡◌, ◌≢◌, ◌<◌, ◌≤◌, ◌^◌, [], false, length, IfErr, IfOk, IfSome, IsTrue, OnOk};
 ghost use Rattle.drive_port.specs.Contents.{SameContents};
 ghost use Rattle.drive_port.specs.Drive.{IsLawful};
 ghost use Rattle.drive_survey.specs.Reported.{IsKnown, KeepsZones};
 ghost use Rattle.drive_survey.specs.Scan.{AreKnown};
-ghost use Rattle.tail_repair.specs.Repair.{BatchesEnd, HaveLogs, IsMoved, KeepsDrive, may_change};
+ghost use Rattle.tail_repair.specs.Repair.{AreRepaired, BatchesEnd, HaveLogs, IsElsewhere, IsMoved, KeepsDrive};
+ghost use Rattle.tail_repair.specs.Repair.{found_zones, may_change, moved_zones};
 ghost use Rattle.zone_states.specs.Geometry.{IsInRange};
 
 use crate::copy::{Front, Pair, compare, copy_front, finish_zone, is_copy, zone_in};
@@ -175,6 +177,8 @@ fn mend_zone<D: Device>(
     requires known { AreKnown (D.drive device.old) zones.now }
     requires few { length zones.now ≤ 65536 }
     requires zone { IsKnown (D.drive device.old) zone.number zone.reported }
+    ensures zone { IfOk result (λ moved. moved.zone ≡ zone.number) }
+    ensures elsewhere { IfOk result IsElsewhere }
     ensures kept { KeepsDrive (D.drive device.old) (D.drive device.new) }
 {
     let number = zone.number;
@@ -216,6 +220,8 @@ fn repair_tail<D: Device>(
     requires range { IsInRange (D.drive device.old).geometry }
     requires lawful { IsLawful (D.drive device.old) }
     requires there { number < length (D.drive device.old).zones }
+    ensures zone { IfOk result (λ moved. moved.zone ≡ number) }
+    ensures elsewhere { IfOk result IsElsewhere }
     ensures kept { KeepsDrive (D.drive device.old) (D.drive device.new) }
 {
     finish_zone(alloc, device, number)?;
@@ -261,6 +267,8 @@ fn repair_each<D: Device>(
 ) -> Result<Vec<MovedZone>, RepairFault>
     requires range { IsInRange (D.drive device.old).geometry }
     requires lawful { IsLawful (D.drive device.old) }
+    ensures zones { IfOk result (λ moved. moved_zones moved.items ≡ found_zones tails.now) }
+    ensures elsewhere { IfOk result (λ moved. All IsElsewhere moved.items) }
     ensures kept { KeepsDrive (D.drive device.old) (D.drive device.new) }
 {
     let mut moved = Vec::new(alloc);
@@ -285,6 +293,8 @@ fn repair_all<D: Device>(
     requires range { IsInRange (D.drive device.old).geometry }
     requires lawful { IsLawful (D.drive device.old) }
     ensures ok { IsTrue (D.drive device.new).clean → OnOk result (HaveLogs (D.drive device.new)) }
+    ensures zones { IfOk result (λ moved. moved_zones moved.items ≡ found_zones tails.now) }
+    ensures elsewhere { IfOk result (λ moved. All IsElsewhere moved.items) }
     ensures kept { KeepsDrive (D.drive device.old) (D.drive device.new) }
 {
     let moved = repair_each(alloc, device, tails)?;
@@ -299,6 +309,14 @@ fn repair_all<D: Device>(
 pub fn repair_tails<D: Device>(alloc: Global, device: &mut D) -> Result<Vec<MovedZone>, RepairFault>
     // Done, each zone holds a log.
     ensures ok { IsTrue (D.drive device.new).clean → OnOk result (HaveLogs (D.drive device.new)) }
+    // The answer names just the zones that ended in something foreign, in their order.
+    ensures found { IsTrue (D.drive device.new).clean
+        → IfOk result (λ moved. AreRepaired (D.drive device.old) moved.items) }
+    // Where it names none, no zone is changed.
+    ensures idle { IfOk result (λ moved. moved.items ≡ []
+        → SameContents (D.drive device.old) (D.drive device.new)) }
+    // What was moved is in another zone.
+    ensures elsewhere { IfOk result (λ moved. All IsElsewhere moved.items) }
     // A refusal changes no zone.
     ensures refused { IfErr result (λ fault. may_change fault ≡ false
         → SameContents (D.drive device.old) (D.drive device.new)) }

@@ -1,8 +1,9 @@
-use Rattle.std.proofs.Common.{◌≡◌, [], arith, sym}
+use Rattle.std.proofs.Common.{◌≡◌, true, false, eqb, [], arith, refl, sym}
 use Rattle.std.proofs.lemmas.Bool.{eqb-true}
 use Rattle.drive_survey.proofs.ReadLaws.{keeps-both}
 use Rattle.tail_repair.proofs.KeepLaws.{drive-then}
-use Rattle.tail_repair.proofs.TailLaws.{logs-kept, look-keeps, no-items, no-tails, refused-same}
+use Rattle.tail_repair.proofs.MovedLaws.{none-found}
+use Rattle.tail_repair.proofs.TailLaws.{logs-kept, look-keeps, no-items, no-tails, refused-same, same-contents}
 use Rattle.tail_repair.proofs.repair.repair_tails.Goals as goal
 
 pub returns-in_err-tails-clause-refused : goal.returns-in_err-tails-clause-refused
@@ -16,6 +17,14 @@ returns-then-is_empty-clause-ok g c clean =
     let none : c.in_ok-tails.tails.items ≡ [] = no-items c.in_ok-tails.tails.items (omega (arith, c.in_ok-tails.tails.ok, eqb-true c.in_ok-tails.tails.len 0 (sym c.if-is_empty.ensures))) in
     logs-kept _ _ c.find_tails.ensures.kept (no-tails _ c.in_ok-tails.tails.items (c.in_ok-tails.ensures.ok clean) none)
 
+pub returns-then-is_empty-clause-found : goal.returns-then-is_empty-clause-found
+returns-then-is_empty-clause-found g c clean =
+    let none : c.in_ok-tails.tails.items ≡ [] = no-items c.in_ok-tails.tails.items (omega (arith, c.in_ok-tails.tails.ok, eqb-true c.in_ok-tails.tails.len 0 (sym c.if-is_empty.ensures))) in
+    record { tails = c.in_ok-tails.tails.items; found = c.in_ok-tails.ensures.ok clean; zones = rw (c.new.ensures.items, none) refl }
+
+pub returns-then-is_empty-clause-idle : goal.returns-then-is_empty-clause-idle
+returns-then-is_empty-clause-idle g c none = same-contents _ _ c.find_tails.ensures.kept
+
 pub returns-then-is_empty-clause-kept : goal.returns-then-is_empty-clause-kept
 returns-then-is_empty-clause-kept g c = look-keeps _ _ c.find_tails.ensures.kept
 
@@ -27,6 +36,19 @@ returns-in_err-check_room-clause-kept g c = look-keeps _ _ (keeps-both _ _ _ c.f
 
 pub repair_all-requires-clause-range : goal.repair_all-requires-clause-range
 repair_all-requires-clause-range g c = rw c.check_room.ensures.kept.geometry c.in_ok-tails.ensures.range
+
+pub returns-in-Ok-clause-found : goal.returns-in-Ok-clause-found
+returns-in-Ok-clause-found g c clean =
+    let before = c.check_room.ensures.kept.trusted (c.repair_all.ensures.kept.trusted clean) in
+    record { tails = c.in_ok-tails.tails.items; found = c.in_ok-tails.ensures.ok before; zones = rw c.deref.ensures.value at c.in-Ok.ensures.zones }
+
+pub returns-in-Ok-clause-idle : goal.returns-in-Ok-clause-idle
+returns-in-Ok-clause-idle g c none =
+    let empty = none-found c.in-Ok.moved.items c.in_ok-tails.tails.items (rw c.deref.ensures.value at c.in-Ok.ensures.zones) none in
+    let len : c.in_ok-tails.tails.len ≡ 0 = omega (arith, empty, c.in_ok-tails.tails.ok) in
+    let not : false ≡ eqb c.in_ok-tails.tails.len 0 = c.if-is_empty.ensures in
+    let bad : false ≡ true = rw len at not in
+    absurd (cc)
 
 pub returns-in-Ok-clause-kept : goal.returns-in-Ok-clause-kept
 returns-in-Ok-clause-kept g c = drive-then _ _ _ (look-keeps _ _ (keeps-both _ _ _ c.find_tails.ensures.kept c.check_room.ensures.kept)) c.repair_all.ensures.kept
