@@ -20,8 +20,19 @@ fn write_refusal(
     Ok(())
 }
 
+/// Adds that no batch was checked, if a zone is Read Only or Offline.
+fn write_unchecked(text: &mut String, unusable: &[u32]) -> Result<(), AllocError> {
+    if unusable.is_empty() {
+        return Ok(());
+    }
+    writeln!(
+        text,
+        "no batch was checked, since a zone is Read Only or Offline: zonedisk rescue reads what can be read"
+    )
+}
+
 /// The findings as lines. The first says why a mount is refused, or that the drive can be mounted, and each of the
-/// others says one more fault.
+/// others says one more fault. If a zone is Read Only or Offline, the last one says that no batch was checked.
 pub fn findings_text(alloc: Global, findings: &Findings) -> Result<String, AllocError> {
     let Some(refusal) = findings.refusal else {
         return String::from_str(alloc, "the drive can be mounted\n");
@@ -34,5 +45,6 @@ pub fn findings_text(alloc: Global, findings: &Findings) -> Result<String, Alloc
             writeln!(text, "{}", fault.text)?;
         }
     }
+    write_unchecked(&mut text, &findings.unusable)?;
     Ok(text)
 }
