@@ -3,6 +3,7 @@
 #include "check.h"
 #include "entries.h"
 #include "fake_linux.h"
+#include "../crates/linux_device/c/counts.h"
 #include "../crates/linux_device/c/parts.h"
 #include <errno.h>
 #include <signal.h>
@@ -255,6 +256,40 @@ static void try_no_report(void) {
     end_world();
 }
 
+// Sends a raw command, and looks whether just these two numbers of what was sent have grown: commands, and blocks.
+static void try_count(uint64_t session, const uint8_t *entry, size_t length, size_t room_length,
+                      const uint64_t wanted[DEVICE_COUNTS]) {
+    uint64_t before[DEVICE_COUNTS], value;
+    for (int i = 0; i < DEVICE_COUNTS; i++) before[i] = zonedisk_device_count(i);
+    zonedisk_raw(session, entry, room, length, room, room_length, &value);
+    for (int i = 0; i < DEVICE_COUNTS; i++) {
+        expect(zonedisk_device_count(i) == before[i] + wanted[i], "a number of what was sent");
+    }
+}
+
+static void try_counts(uint64_t session) {
+    static const struct {
+        uint8_t opcode;
+        uint32_t dword12, dword13;
+        size_t length, room_length;
+        uint64_t wanted[DEVICE_COUNTS];
+    } commands[] = {
+        {0x00, 0, 0, 0, 0, {[DEVICE_FLUSHES] = 1}},
+        {0x02, 2, 0, 0, 3 * BLOCK, {[DEVICE_READS] = 1, [DEVICE_BLOCKS_READ] = 3}},
+        {0x7d, 1, 0, 2 * BLOCK, 0, {[DEVICE_WRITES] = 1, [DEVICE_BLOCKS_WRITTEN] = 2}},
+        {0x01, 255, 0, 256 * BLOCK, 0, {[DEVICE_WRITES] = 1, [DEVICE_BLOCKS_WRITTEN] = 256}},
+        {0x79, 0, 4, 0, 0, {[DEVICE_ACTIONS] = 1}},
+        {0x7a, 1023, 0, 0, 4096, {[DEVICE_REPORTS] = 1}},
+        {0x02, 2, 0, 0, 2 * BLOCK, {0}},
+        {0x05, 0, 0, 0, 0, {0}},
+    };
+    for (size_t i = 0; i < sizeof commands / sizeof *commands; i++) {
+        uint8_t entry[64];
+        put_entry(entry, commands[i].opcode, 0, commands[i].dword12, commands[i].dword13);
+        try_count(session, entry, commands[i].length, commands[i].room_length, commands[i].wanted);
+    }
+}
+
 static void try_large(void) {
     const struct shape large = {4096, 4, 512, 500, 256, 3, 2};
     struct shape smaller = large;
@@ -385,6 +420,7 @@ int main(void) {
     try_moments(session);
     try_lengths(session);
     try_fields(session);
+    try_counts(session);
     end_world();
     try_large();
     try_many_zones();

@@ -2,6 +2,7 @@
 //
 // usage: file_checks FOLDER [SMALL]   with an empty folder, and one on a file system of 64 KiB
 #define _GNU_SOURCE
+#include "../../crates/linux_file/c/counts.h"
 #include "session.h"
 #include <limits.h>
 
@@ -155,6 +156,30 @@ static void try_short_counts(void) {
     expect(zonedisk_file_read(session, moment, 992, room, 8) == 0 && memcmp(room, bytes, 8) == 0, "a word is written");
     calls = (struct calls){0};
     expect(zonedisk_file_write_word(session, &moment, 984, bytes) == 0 && calls.writes == 1, "a word is one write");
+    zonedisk_file_close(session);
+}
+
+// What was asked of the system is counted: what is refused before is not.
+static void try_counts(void) {
+    uint64_t session = new_file(PATH, 100), moment = 0, before[FILE_COUNTS];
+    static const uint64_t wanted[FILE_COUNTS] = {2, 41, 3, 50, 2};
+    for (int i = 0; i < FILE_COUNTS; i++) before[i] = zonedisk_file_count(i);
+    calls = (struct calls){.most_bytes = 7, .interruptions = 3};
+    zonedisk_file_read(session, moment, 10, room, 40);
+    zonedisk_file_read(session, moment, 99, room, 1);
+    zonedisk_file_read(session, moment, 99, room, 2);
+    zonedisk_file_write(session, &moment, 0, bytes, 32);
+    zonedisk_file_write_word(session, &moment, 8, bytes);
+    zonedisk_file_write_word(session, &moment, 9, bytes);
+    zonedisk_file_sync(session, &moment);
+    calls = (struct calls){.write_error = ENOSPC, .writes_left = 1, .most_bytes = 10};
+    zonedisk_file_write(session, &moment, 0, bytes, 30);
+    calls = (struct calls){.data_error = EIO};
+    zonedisk_file_sync(session, &moment);
+    zonedisk_file_sync(session, &moment);
+    zonedisk_file_write(session, &moment, 0, bytes, 30);
+    for (int i = 0; i < FILE_COUNTS; i++) expect(zonedisk_file_count(i) == before[i] + wanted[i], "what was counted");
+    calls = (struct calls){0};
     zonedisk_file_close(session);
 }
 
@@ -333,6 +358,7 @@ int main(int count, char **words) {
     try_failing_old_files();
     try_late_sync();
     try_short_counts();
+    try_counts();
     try_ranges();
     try_errors();
     try_failed_sync();

@@ -4,6 +4,7 @@
 #define _GNU_SOURCE
 #include "session.h"
 #include <fcntl.h>
+#include <sys/sysmacros.h>
 
 static uint8_t bytes[100], room[100];
 
@@ -129,6 +130,29 @@ static void get_none(uint64_t session) {
     bool both = open_at(PATH, false, &size, &session) == LOCKED && open_at(PATH, true, &size, &session) == LOCKED;
     _exit(both && session == 0 ? 0 : 1);
 }
+// Whether Linux shows the lock of PATH. It shows another device for files of some file systems.
+static bool is_shown(void) {
+    char place[100], line[200];
+    bool is_found = false;
+    struct stat seen;
+    FILE *locks = fopen("/proc/locks", "r");
+    if (locks == NULL || stat(PATH, &seen) != 0) return false;
+    snprintf(place, sizeof place, " %02x:%02x:%ju ", major(seen.st_dev), minor(seen.st_dev), (uintmax_t)seen.st_ino);
+    while (fgets(line, sizeof line, locks) != NULL) is_found = is_found || strstr(line, place) != NULL;
+    fclose(locks);
+    return is_found;
+}
+// The line that it gets then on standard error.
+static void get_told(uint64_t session) {
+    uint64_t size;
+    char wanted[100], got[100] = "";
+    FILE *told = freopen("told", "w+", stderr);
+    bool is_locked = open_at(PATH, false, &size, &session) == LOCKED;
+    snprintf(wanted, sizeof wanted, "zonedisk: the process %d has it\n", (int)getppid());
+    rewind(stderr);
+    bool is_told = told != NULL && fgets(got, sizeof got, told) != NULL && strcmp(got, wanted) == 0;
+    _exit(is_locked && is_told && fgets(got, sizeof got, told) == NULL ? 0 : 1);
+}
 static void get_read_alone(uint64_t session) {
     uint64_t size;
     bool both = open_at(PATH, true, &size, &session) == LOCKED && open_at(PATH, false, &size, &session) == 0;
@@ -148,6 +172,7 @@ static void be_killed(uint64_t session) {
 static void try_locks(void) {
     uint64_t session = new_file(PATH, 100);
     expect(ends_well(get_none, 0), "a file that another program changes");
+    expect(!is_shown() || ends_well(get_told, 0), "which program has the file");
     zonedisk_file_close(session);
     session = old_file(PATH, false, 100);
     expect(ends_well(get_read_alone, 0), "a file that another program reads");

@@ -1,6 +1,7 @@
 // Passes single commands to Linux's NVMe driver.
 #define _GNU_SOURCE
 #include "parts.h"
+#include "counts.h"
 #include <errno.h>
 #include <linux/nvme_ioctl.h>
 #include <stdlib.h>
@@ -32,6 +33,28 @@ enum { GREATEST_ACTION = 5 };
 static uint32_t dword(const uint8_t *entry, int index) {
     const uint8_t *at = entry + 4 * index;
     return at[0] | (uint32_t)at[1] << 8 | (uint32_t)at[2] << 16 | (uint32_t)at[3] << 24;
+}
+
+static _Atomic uint64_t counts[DEVICE_COUNTS];
+
+uint64_t zonedisk_device_count(enum device_count which) {
+    return counts[which];
+}
+
+static void count_blocks(enum device_count commands, enum device_count blocks, const uint8_t *entry) {
+    counts[commands]++;
+    counts[blocks] += (dword(entry, 12) & 0xffff) + 1;
+}
+
+// Counts a command that is sent.
+static void count_command(const uint8_t *entry) {
+    switch (entry[0]) {
+    case FLUSH: counts[DEVICE_FLUSHES]++; break;
+    case SEND: counts[DEVICE_ACTIONS]++; break;
+    case RECEIVE: counts[DEVICE_REPORTS]++; break;
+    case READ: count_blocks(DEVICE_READS, DEVICE_BLOCKS_READ, entry); break;
+    default: count_blocks(DEVICE_WRITES, DEVICE_BLOCKS_WRITTEN, entry); break;
+    }
 }
 
 static bool have_lengths(const struct request *request, uint64_t length, uint64_t room_length) {
@@ -99,6 +122,7 @@ static uint16_t pass_at(const struct namespace_devices *devices, const uint8_t *
         .cdw15 = dword(entry, 15),
         .timeout_ms = TIME_LIMIT,
     };
+    count_command(entry);
     uint16_t status = status_of(ioctl(devices->character, NVME_IOCTL_IO64_CMD, &command));
     *value = status == 0 ? command.result : 0;
     return status;

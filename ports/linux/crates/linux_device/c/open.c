@@ -1,5 +1,6 @@
 // Opens a namespace's character device, and keeps others away from it.
 #define _GNU_SOURCE
+#include "../../linux_file/c/holder.h"
 #include "parts.h"
 #include <errno.h>
 #include <fcntl.h>
@@ -61,7 +62,9 @@ static enum refusal open_character(const char *path, struct namespace_devices *d
 // Takes the lock that other programs of this kind ask for too. It is given back when the process ends.
 static enum refusal lock_character(int character, uint64_t *number) {
     if (flock(character, LOCK_EX | LOCK_NB) == 0) return OPENED;
-    return refuse(errno == EWOULDBLOCK ? LOCKED : NOT_LOCKED, number);
+    enum refusal refusal = refuse(errno == EWOULDBLOCK ? LOCKED : NOT_LOCKED, number);
+    if (refusal == LOCKED) tell_holder(character);
+    return refusal;
 }
 
 // The name of a namespace's block device, as nvme0n1 for ng0n1. The system names the character device by its number,

@@ -1,6 +1,8 @@
 // Passes reads, writes and syncs of files to Linux. Each is of a session, at its present moment.
 #define _GNU_SOURCE
 #include "file.h"
+#include "counts.h"
+#include "holder.h"
 #include <errno.h>
 #include <fcntl.h>
 #include <libgen.h>
@@ -25,6 +27,16 @@ struct session {
 
 static struct session sessions[MOST_SESSIONS];
 static uint64_t begun;
+static _Atomic uint64_t counts[FILE_COUNTS];
+
+uint64_t zonedisk_file_count(enum file_count which) {
+    return counts[which];
+}
+
+static void count_bytes(enum file_count calls, enum file_count bytes, size_t moved) {
+    counts[calls]++;
+    counts[bytes] += moved;
+}
 
 // Ends the process: what is proved of a file holds only of the present moment of a session that there is.
 static _Noreturn void end_process(const char *why) {
@@ -64,6 +76,12 @@ static uint32_t number_of(int given) {
     return given == 0 ? 0 : (uint32_t)errno;
 }
 
+// Brings to the disk what was written to a file.
+static uint32_t sync_data(int file) {
+    counts[FILE_SYNCS]++;
+    return number_of(fdatasync(file));
+}
+
 // Copies a path, and ends it by a byte 0. There has to be a place for a session too.
 static uint32_t copy_path(char name[PATH_MAX], const uint8_t *path, size_t length) {
     if (find(0) == NULL) return EMFILE;
@@ -88,14 +106,16 @@ static uint32_t begin(uint32_t number, int file, uint64_t size, uint32_t late, u
 // Takes the lock that other programs of this kind ask for too.
 static uint32_t lock(int file, int kind) {
     uint32_t number = number_of(flock(file, kind | LOCK_NB));
-    return number == EWOULDBLOCK ? LOCKED : number;
+    if (number != EWOULDBLOCK) return number;
+    tell_holder(file);
+    return LOCKED;
 }
 
 // Brings to the disk what earlier programs wrote, and then lets go of it in memory. A sync of theirs may have failed.
 // Then Linux may still show what they wrote, and no later sync would write it. Where this sync fails, all stays in
 // memory that is still there.
 static uint32_t go_by_disk(int file) {
-    uint32_t number = number_of(fdatasync(file));
+    uint32_t number = sync_data(file);
     if (number == 0) posix_fadvise(file, 0, 0, POSIX_FADV_DONTNEED);
     return number;
 }
@@ -169,12 +189,15 @@ static uint32_t fault_of(const struct session *used, uint64_t at, size_t length)
 uint32_t zonedisk_file_read(uint64_t session, uint64_t moment, uint64_t at, uint8_t *room, size_t length) {
     const struct session *used = session_at(session, moment);
     uint32_t number = fault_of(used, at, length);
-    for (size_t done = 0; done < length && number == 0;) {
+    if (number != 0) return number;
+    size_t done = 0;
+    while (done < length && number == 0) {
         ssize_t count = pread(used->file, room + done, length - done, (off_t)(at + done));
         if (count > 0) done += (size_t)count;
         else if (count == 0) number = EIO;
         else if (errno != EINTR) number = (uint32_t)errno;
     }
+    count_bytes(FILE_READS, FILE_BYTES_READ, done);
     return number;
 }
 
@@ -188,6 +211,7 @@ static uint32_t write_range(const struct session *used, uint64_t at, const uint8
         else if (count == 0) number = EIO;
         else if (errno != EINTR) number = (uint32_t)errno;
     }
+    count_bytes(FILE_WRITES, FILE_BYTES_WRITTEN, *done);
     return number;
 }
 
@@ -212,14 +236,14 @@ uint32_t zonedisk_file_write_word(uint64_t session, uint64_t *moment, uint64_t a
     uint32_t number = put_word(used, at, word);
     // After a failed sync the word is brought to the disk at once. Where that fails, Linux has told it now, and tells it
     // to nobody else. So the word is written anew: the sync of the next program has it to write, and fails if it cannot.
-    if (number == 0 && used->is_lost && fdatasync(used->file) != 0) number = put_word(used, at, word);
+    if (number == 0 && used->is_lost && sync_data(used->file) != 0) number = put_word(used, at, word);
     return number;
 }
 
 uint32_t zonedisk_file_sync(uint64_t session, uint64_t *moment) {
     struct session *used = change_at(session, moment);
     if (used->is_lost) return EIO;
-    uint32_t number = used->late != 0 ? used->late : number_of(fdatasync(used->file));
+    uint32_t number = used->late != 0 ? used->late : sync_data(used->file);
     used->is_lost = number != 0;
     return number;
 }
