@@ -38,7 +38,7 @@ class Places:
 
     def __init__(self, blocks):
         self.blocks, self.style = blocks, random.choice(self.STYLES)
-        self.longest = min(random.choice((1, 1, 4, 32)), blocks)
+        self.longest = min(random.choice((1, 1, 1, 4, 8, 32)), blocks)
         self.width = min(random.choice((4, 20, 80)), blocks)
         self.at, self.base, self.taken = random.randrange(blocks), random.randrange(blocks - self.width + 1), set()
 
