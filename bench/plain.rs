@@ -1,5 +1,6 @@
 //! A plain program that answers lines `fill L N HEX` over zones in memory by the rules of zonedisk, with the same
-//! batches and the same cleans, but without commands, faults, other lines and proofs.
+//! batches and the same cleans, but without commands, faults, other lines and proofs. A line `list HEX L..` writes
+//! blocks that are apart, as a list of zonedisk does.
 //!
 //! usage: plain ZONES CAPACITY BLOCK_BYTES BATCH BLOCKS < lines
 //!
@@ -178,6 +179,34 @@ impl Disk {
             first += some as u32;
         }
     }
+
+    /// Writes blocks, of which no two are the same.
+    fn list(&mut self, mut blocks: &[u32], byte: u8) {
+        while !blocks.is_empty() {
+            let zone = self.room();
+            let free = self.capacity - self.written(zone) - 1;
+            let (some, rest) = blocks.split_at(free.min(self.most).min(blocks.len()));
+            self.batch[self.block_bytes..][..some.len() * self.block_bytes].fill(byte);
+            self.entries.clear();
+            self.entries.extend_from_slice(some);
+            self.append(zone, HOST, 0);
+            blocks = rest;
+        }
+    }
+
+    /// Does what a line says.
+    fn answer(&mut self, line: &str) {
+        let words: Vec<&str> = line.split_whitespace().collect();
+        let byte_of = |word| u8::from_str_radix(word, 16).unwrap();
+        match words[..] {
+            ["fill", first, count, byte] => self.fill(first.parse().unwrap(), count.parse().unwrap(), byte_of(byte)),
+            ["list", byte, ref blocks @ ..] => {
+                let blocks: Vec<u32> = blocks.iter().map(|word| word.parse().unwrap()).collect();
+                self.list(&blocks, byte_of(byte));
+            }
+            _ => panic!("a line that is no fill and no list: {line}"),
+        }
+    }
 }
 
 fn main() -> io::Result<()> {
@@ -190,12 +219,7 @@ fn main() -> io::Result<()> {
     let mut lines = io::stdin().lock();
     let mut line = String::new();
     while lines.read_line(&mut line)? > 0 {
-        let words: Vec<&str> = line.split_whitespace().collect();
-        let ["fill", first, count, byte] = words[..] else {
-            panic!("a line that is no fill: {line}");
-        };
-        let byte = u8::from_str_radix(byte, 16).unwrap();
-        disk.fill(first.parse().unwrap(), count.parse().unwrap(), byte);
+        disk.answer(&line);
         replies.write_all(b"ok\n")?;
         line.clear();
     }

@@ -186,7 +186,9 @@ def judge_reply(talk, call, reply):
     """A reply has to say that the call is done, or else the program has stopped."""
     if talk.name == "nbd":
         magic, error = struct.unpack(">II", reply[:8])
-        if magic != 0x67446698 or error:
+        if magic != 0x67446698 or reply[8:16] != call.sent[8:16]:
+            raise Wrong("wrong replies", "not the reply to the next request of nbd")
+        if error:
             raise EOFError(f"error {error}")
         if call.wanted is not None and reply[16:] != call.wanted:
             raise Wrong("wrong replies", "a read of nbd")
