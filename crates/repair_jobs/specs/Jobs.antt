@@ -1,5 +1,5 @@
 -- What a job on a drive finds and does of which zones end in something foreign.
-use Rattle.std.specs.Prelude.{◌≡◌, ◌==◌, ℕ, Bool, false, if◌then◌else◌, List, length, Option, Some, None, Result, Ok, Err, IfOk, is_none}
+use Rattle.std.specs.Prelude.{◌≡◌, ◌==◌, ℕ, Bool, false, if◌then◌else◌, List, [], length, Option, None, Result, Ok, Err, IfOk, is_none}
 use Rattle.disk_files.specs.Output.{AppendsFront}
 use Rattle.drive_inspection.specs.Findings.{AreFindings}
 use Rattle.drive_port.specs.Contents.{SameContents}
@@ -13,7 +13,7 @@ use Rattle.drive_survey.specs.declared.fault.MountFault.TheVariants as mounts
 use Rattle.job_drives.specs.Kept.{IsReadIn}
 use Rattle.job_drives.specs.Left.{IsLeft, IsUnread, LeavesFile}
 use Rattle.job_drives.specs.declared.left.Left.{Left}
-use Rattle.tail_repair.specs.Repair.{AreTails, HaveLogs, KeepsBatches, KeepsDrive, may_change}
+use Rattle.tail_repair.specs.Repair.{AreRepaired, AreTails, HaveLogs, KeepsBatches, KeepsDrive, may_change}
 use Rattle.tail_repair.specs.declared.fault.RepairFault.TheVariants as repair
 use Rattle.tail_repair.specs.declared.tails.ForeignTail.{ForeignTail}
 use Rattle.drive_inspection.specs.declared.finding.Findings.{Findings}
@@ -63,11 +63,14 @@ ListsNone file fault old new = IsUntold fault old new
 
 -- ---- what is done
 
--- A drive was repaired: each zone holds a log, and no batch is lost with which a zone began. These are all faults that the drive has then.
+-- A drive was repaired: each zone holds a log, and no batch is lost with which a zone began.
+-- Just the zones are named that ended in something foreign. These are all faults that the drive has then.
 pub record Mends (old : DriveState) (mended : Mended) (new : DriveState) : Type 0 where
   pub drive : DriveState
   pub keeps : KeepsDrive old drive
   pub logs : HaveLogs drive
+  pub moved : AreRepaired old mended.moved.items
+  pub idle : mended.moved.items ≡ [] → SameContents old drive
   pub faults : IfOk mended.found (AreFindings drive 1)
   pub looks : KeepsZones drive new
 

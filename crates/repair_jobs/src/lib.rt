@@ -17,14 +17,15 @@
 //! * [`list_tails`] finds just the zones that end in something foreign, and says whether there is none. No zone is
 //!   changed, but that the controller may close some. [`list_file`] does so on the drive in a file, restarted.
 //! * [`mend`] loses no batch with which a zone began, whatever ends it. Done, each zone holds a log, and all faults are
-//!   found that the drive has then. A refusal changes no zone.
+//!   found that the drive has then. It names just the zones that ended in something foreign. A refusal changes no zone,
+//!   nor does a repair that names none.
 //! * [`mend_file`] does so on the drive in a file: the store holds the drive that is left, and of it the same is true.
 //! * After a refusal nothing is saved ([`left_to_save`]): the file stays as it is.
 //! * [`repair_fault_line`] is the line of a fault: its number, its name, and the zone and the block that it names.
 //!
 //! # What is not proved
 //!
-//! * That a fault has a cause. Nor what [`Mended`] says of the zones that were repaired.
+//! * That a fault has a cause. Nor where [`Mended`] says that the batches of a zone went.
 //! * [`list_image`] and [`mend_image`], which open files: no contract says what a file holds.
 //! * The texts are tested.
 //!
