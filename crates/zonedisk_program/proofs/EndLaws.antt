@@ -1,5 +1,5 @@
 -- What is written before the program ends, and how it ends.
-use Rattle.std.proofs.Common.{◌≡◌, ◌∙◌, ◌⊎◌, ℕ, Bool, true, false, List, inl, inr, refl}
+use Rattle.std.proofs.Common.{◌≡◌, ◌∙◌, ◌⊎◌, ℕ, Bool, true, false, List, inl, inr, refl, sym}
 use Rattle.std.proofs.KnownBytes.{Appends-kept}
 use Rattle.std.specs.Prelude.{IfOk, OnErr, OnOk, Option, Some, None, Result, Ok, Err}
 use Rattle.std.specs.Io.KnownBytes.{Appends, Keeps}
@@ -13,7 +13,7 @@ use Rattle.drive_inspection.specs.declared.finding.Findings.{Findings}
 use Rattle.drive_port.specs.declared.device.Halt.{Halt}
 use Rattle.repair_jobs.specs.Jobs.{TellsMended}
 use Rattle.repair_jobs.specs.declared.fault.RepairJobFault.{RepairJobFault}
-use Rattle.zonedisk_program.specs.Ends.{EndsAsked, EndsFound, EndsInPlace, EndsJob, EndsListed, EndsTask, Ways, is_device}
+use Rattle.zonedisk_program.specs.Ends.{EndsAsked, EndsFound, EndsInPlace, EndsJob, EndsTask, EndsTold, Ways, is_device}
 use Rattle.zonedisk_program.specs.InPlace.{counterpart}
 
 -- a text is written, or a beginning of it; a flush changes no bytes
@@ -23,13 +23,17 @@ pub told : {T E : Type 0} (result : Result T E) (old middle new : Option (List �
 told (Ok value) old middle new text ok err keeps = inl (Appends-kept old middle new text ok keeps)
 told (Err fault) old middle new text ok err keeps = inr (record { count = err.count; short = err.short; appends = Appends-kept old middle new _ err.appends keeps })
 
--- what a check finds after a repair is told, and ends as that says
-pub ends-found : (found : Result Findings Halt) (told : Result Bool RepairJobFault) (old new : Option (List ℕ)) (ended : ExitCode)
-    → IfOk told (λ mountable. TellsMended found mountable old new) → EndsListed told ended → EndsFound found ended
-ends-found (Ok findings) (Ok mountable) old new ended tells ends = λ refused. ends (tells.0 ∙ refused)
-ends-found (Ok findings) (Err fault) old new ended tells ends = λ refused. ends
-ends-found (Err halt) (Ok mountable) old new ended tells ends = absurd tells
-ends-found (Err halt) (Err fault) old new ended tells ends = ends
+-- what a check finds after a repair is told and sent, and ends as that says
+pub ends-found : (found : Result Findings Halt) (told sent : Result Bool RepairJobFault) (old new : Option (List ℕ)) (ended : ExitCode)
+    → IfOk told (λ mountable. TellsMended found mountable old new) → IfOk sent (λ well. told ≡ Ok well) → EndsTold sent ended → EndsFound found ended
+ends-found (Ok findings) told (Err fault) old new ended tells sends ends = λ refused. ends
+ends-found (Err halt) told (Err fault) old new ended tells sends ends = ends
+ends-found found (Err fault) (Ok well) old new ended tells sends ends = absurd (cc)
+ends-found (Err halt) (Ok mountable) (Ok well) old new ended tells sends ends = absurd tells
+ends-found (Ok findings) (Ok mountable) (Ok well) old new ended tells sends ends = λ refused.
+    let same : mountable ≡ well = cc in
+    let is : well ≡ false = sym same ∙ tells.0 ∙ refused in
+    rw is at ends
 
 -- a job on a device is done as it is, and of any other task nothing is said here
 pub ends-task : (begins : Bool) (ways : Ways) (task : Task) (ended : ExitCode) → (is_device task ≡ true → begins ≡ false)

@@ -101,12 +101,13 @@ abbrev pub EndsRescue : Result Rescued RescueJobFault → ExitCode → Type 0
 EndsRescue (Ok rescued) ended = is_whole rescued ≡ false → exit_status ended ≡ 1
 EndsRescue (Err fault) ended = exit_status ended ≡ 1
 
--- What a repair is for is told: it ends with the status 1 if there is anything, or if there was a fault.
-abbrev pub EndsListed : Result Bool RepairJobFault → ExitCode → Type 0
-EndsListed (Ok none) ended = none ≡ false → exit_status ended ≡ 1
-EndsListed (Err fault) ended = exit_status ended ≡ 1
+-- What a repair finds ends with the status 0 if all of it was sent, and all is well: nothing is to be repaired, or the
+-- drive can be mounted. Else it ends with 1.
+abbrev pub EndsTold : Result Bool RepairJobFault → ExitCode → Type 0
+EndsTold (Ok true) ended = exit_status ended ≡ 0
+EndsTold sent ended = exit_status ended ≡ 1
 
--- the same of what a check finds: it ends so if the drive cannot be mounted
+-- a repair ends with the status 1 if a check finds then that the drive cannot be mounted
 abbrev pub EndsFound : Result Findings Halt → ExitCode → Type 0
 EndsFound (Ok findings) ended = is_none findings.refusal ≡ false → exit_status ended ≡ 1
 EndsFound (Err halt) ended = exit_status ended ≡ 1

@@ -50,8 +50,8 @@
 //! * A rescue ends with the exit status 1 if it ended by a fault, or if a block is lost or perhaps older
 //!   (`EndsRescue`).
 //! * A repair ends with the exit status 1 if it ended by a fault, if what it did may not be durable or is not saved, or
-//!   if the drive cannot be mounted then (`EndsMended`). One that only tells what it is for ends so if there is anything
-//!   (`EndsListed`).
+//!   if the drive cannot be mounted then (`EndsMended`). What it finds ends with 0 if all of it was sent and all is
+//!   well: nothing is to be repaired, or the drive can be mounted. Else that ends with 1 (`EndsTold`).
 //! * A run on a device, and a format of one, end with the line of a device and the exit status 1 if only the sync at
 //!   their end failed (`EndsLines`).
 //!
@@ -61,8 +61,9 @@
 //!
 //! * The texts of clap, and the error kinds of refused words, are tested in `call_tests`: clap's contracts say nothing
 //!   of them.
-//! * The texts, the files and the exit status 0 are tested; so is how a drive that stays in its file is known, and that
-//!   a format is forced only where that was asked for (`tool_rows`).
+//! * That an output has failed where a repair says so: one that sends nothing, and ends with 1, meets its contracts.
+//! * The texts, the files and any other exit status 0 are tested; so is how a drive that stays in its file is known, and
+//!   that a format is forced only where that was asked for (`tool_rows`).
 //!
 //! Tests: `call_tests`, and the rows of `tool_rows`.
 #![tactic(auto)]

@@ -1,8 +1,8 @@
 // Drives of which zones end in something foreign: they are shown, or repaired.
 
-ghost use Rattle.std.specs.Prelude.{◌≡◌, false};
+ghost use Rattle.std.specs.Prelude.{◌≡◌, ◌⊎◌, false, Err, IfErr, IfOk, Ok};
 ghost use Rattle.std.specs.Process.{exit_status};
-ghost use Rattle.zonedisk_program.specs.Ends.{EndsFound, EndsListed, EndsMended};
+ghost use Rattle.zonedisk_program.specs.Ends.{EndsFound, EndsMended, EndsTold};
 
 use crate::devices::{is_synced, refuse_lines};
 use crate::files::{fail, tell_saved};
@@ -78,23 +78,35 @@ fn refuse_repair<R: Eprint, W: Write>(
     ExitCode::FAILURE
 }
 
-/// Sends what was told, and tells why not all was. It ends well only if all is well.
-fn end_listed<R: Eprint, W: Write>(
+/// Sends what was told. What cannot be sent is a fault of the output.
+fn send<W: Write>(
+    told: Result<bool, RepairJobFault>,
+    output: &mut W,
+) -> Result<bool, RepairJobFault>
+    ensures ok { IfOk result (λ well. told ≡ Ok well) }
+    ensures err { IfErr result (λ fault. (told ≡ Err fault) ⊎ (fault ≡ RepairJobFault.Output)) }
+{
+    let well = told?;
+    match output.flush() {
+        Ok(()) => Ok(well),
+        Err(_) => Err(RepairJobFault::Output),
+    }
+}
+
+/// Tells why not all was sent. It ends well just if all was, and all is well.
+fn end_told<R: Eprint, W: Write>(
     rt: &R,
     alloc: Global,
     job: &RepairJob,
-    told: Result<bool, RepairJobFault>,
+    sent: Result<bool, RepairJobFault>,
     output: &mut W,
 ) -> ExitCode
-    ensures { EndsListed told result }
+    ensures { EndsTold sent result }
 {
-    let well = match told {
+    let well = match sent {
         Ok(well) => well,
         Err(fault) => return refuse_repair(rt, alloc, job, fault, output),
     };
-    if output.flush().is_err() {
-        return refuse_repair(rt, alloc, job, RepairJobFault::Output, output);
-    }
     if well {
         ExitCode::SUCCESS
     } else {
@@ -124,8 +136,8 @@ fn end_found<R: Eprint, W: Write>(
 ) -> ExitCode
     ensures { EndsFound mended.now.found result }
 {
-    let told = tell_found(alloc, &mended.found, output);
-    end_listed(rt, alloc, job, told, output)
+    let sent = send(tell_found(alloc, &mended.found, output), output);
+    end_told(rt, alloc, job, sent, output)
 }
 
 /// Says that what was done may be lost.
@@ -196,8 +208,8 @@ pub(crate) fn repair_image<R: Eprint + Files<File = fs::File>, W: Write>(
     output: &mut W,
 ) -> ExitCode {
     if !job.force {
-        let told = list_image(rt, alloc, job, output);
-        return end_listed(rt, alloc, job, told, output);
+        let sent = send(list_image(rt, alloc, job, output), output);
+        return end_told(rt, alloc, job, sent, output);
     }
     let Repaired { mended, saved } = mend_image(rt, alloc, job);
     tell_saved(rt, alloc, &job.image, saved.unwrap_or(Saved::IN_PLACE));
@@ -222,8 +234,8 @@ fn list_device<R: Eprint, D: Devices, W: Write>(
         Ok(drive) => drive,
         Err(fault) => return refuse_lines(rt, &job.image, fault, output),
     };
-    let told = list_tails(alloc, &mut drive, output);
-    end_listed(rt, alloc, job, told, output)
+    let sent = send(list_tails(alloc, &mut drive, output), output);
+    end_told(rt, alloc, job, sent, output)
 }
 
 /// Repairs the drive behind a device. That ends with a sync.
