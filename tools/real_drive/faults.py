@@ -7,8 +7,10 @@ import subprocess
 
 import file_faults
 from asked import AskedGuest
+from fake_guest import FakeGuest
 from looks import count, look
 from machine import files_of, install, script_of
+from mended import refuse_repair, repair, repair_nothing
 from places import batches_of, newest
 from saved import Saved
 from shapes import OF_FAULTS
@@ -53,9 +55,11 @@ def fail_write(disk, name):
         count("failed writes after which the drive is mounted")
         look(disk.is_there(disk.read_all()), f"{name}: a mount lost an answered line")
         look(saved.check[-2:] == MOUNTABLE, f"{name}: mounted, and check says {saved.check}")
+        repair_nothing(disk, name)
     else:
         look(saved.is_refused("zone "), f"{name}: check says {saved.check}")
         look(saved.reply.startswith("fault mount 4 Log "), f"{name}: the mount says {saved.reply}")
+        repair(disk, name, MOUNTABLE)
 
 
 def fail_data(disk, name, once):
@@ -88,6 +92,7 @@ def fail_header(disk, name):
     batch = disk.chance.choice(batches_of(disk.shape, disk.guest.image))
     disk.guest.fail("read", batch.header, once=False)
     saved = Saved(disk.guest, name, disk.chance.choice(KINDS))
+    refuse_repair(disk, name, "fault repair 6 Halted")
     disk.guest.mend()
     saved.judge(disk)
     count("unreadable headers")
@@ -121,6 +126,7 @@ def wear(disk, name, kind, state):
         look(len(saved.older) == disk.shape.blocks, f"{name}: only {len(saved.older)} blocks are listed")
     status, said = disk.guest.ask("zonedisk format --device /dev/ng0n1 --force")
     look(status == 1 and f"zone {zone} is Read Only or Offline" in said, f"{name}: format says {status} {said}")
+    refuse_repair(disk, name, f"fault repair 2 Unusable {zone}")
     disk.guest.ask(UNWORN)
 
 
@@ -141,6 +147,21 @@ def tear_write(disk, name):
     wrong = [number for number, text in given if number not in known and text not in disk.may_be[number]]
     count("torn writes")
     count("torn writes that left wrong blocks, as nothing tells", bool(wrong))
+
+
+def write_foreign(disk, name):
+    """Another program writes a block after the batches of a zone: a repair moves them."""
+    disk.begin()
+    start, _ = a_zone(disk, OPENED, CLOSED)
+    entry = f"zonedisk entry append --start {start} --data {disk.chance.randbytes(disk.shape.block).hex()}"
+    status, _ = disk.guest.ask(f"{entry} | zonedisk nvme --device /dev/ng0n1 > /dev/null")
+    look(status == 0, f"{name}: no foreign block is written")
+    saved = Saved(disk.guest, name, disk.chance.choice(KINDS))
+    saved.judge(disk)
+    look(disk.is_there(saved.blocks), f"{name}: an answered line is not rescued")
+    look(saved.reply.startswith("fault mount 4 Log "), f"{name}: the mount says {saved.reply}")
+    count("foreign blocks")
+    repair(disk, name, MOUNTABLE)
 
 
 def fail_answer(disk, name):
@@ -189,14 +210,15 @@ def try_zones(disk):
     """Zones that wear out, and Flushes that fail."""
     for state, kind in itertools.product(NAMES, ZONES):
         wear(disk, f"{disk.shape}: a zone that is {kind} and {NAMES[state]}", kind, state)
-    for fault in [fail_flush, fail_answer, tear_write] * 3:
+    for fault in [fail_flush, fail_answer, tear_write, write_foreign] * 3:
         fault(disk, f"{disk.shape}: {fault.__name__}")
 
 
 def one_guest(machine, library, which, job, *words):
     """Some faults of drives in one guest. Every second one has drives of the second shape."""
     files = files_of([library, script_of("asked.sh"), script_of("serving.sh")])
-    with AskedGuest(machine, OF_FAULTS[which % 2], files) as guest:
+    shape = OF_FAULTS[which % 2]
+    with FakeGuest(machine, shape) if machine.fakes else AskedGuest(machine, shape, files) as guest:
         job(Written(guest, random.Random(f"{machine.seed} faults {which}")), *words)
 
 
@@ -211,9 +233,10 @@ def make_library(machine):
 def try_faults(machine, number):
     """Faults on drives of two shapes, and under ext4."""
     library = make_library(machine)
-    install(file_faults.PROGRAMS)
     shares = [number // GUESTS + (share < number % GUESTS) for share in range(GUESTS)]
     jobs = [(one_guest, library, which, try_places, places) for which, places in enumerate(shares) if places]
     jobs += [(one_guest, library, GUESTS + which, try_zones) for which in range(len(OF_FAULTS))]
-    jobs += [(file_faults.try_files, fault, library) for fault in file_faults.FAULTS]
+    if not machine.fakes:
+        install(file_faults.PROGRAMS)
+        jobs += [(file_faults.try_files, fault, library) for fault in file_faults.FAULTS]
     machine.side_by_side(lambda item: item[0](machine, *item[1:]), jobs)

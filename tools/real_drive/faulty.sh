@@ -23,9 +23,10 @@ abandon() {
     echo $? > /share/ended_by
 }
 
-# Looks for each synced file on the new drive in the file /tmp/new.
-look_at_new() {
-    DRIVE="--image /tmp/new"
+# Looks for each synced file on a drive, which these words name.
+look_at() {
+    rm -f /share/gone
+    DRIVE=$*
     serve
     DRIVE=
     mount -t ext4 -o ro $node /tmp/files || return

@@ -7,7 +7,7 @@ from file_systems import PROGRAMS
 from looks import count, look
 from machine import files_of, install, modules_of, read_file, script_of
 from places import batches_of, end_of_newest, newest
-from saved import listed
+from saved import DEVICE, listed
 from shapes import OF_FILE_FAULTS
 
 RESCUE = """
@@ -63,13 +63,18 @@ class Files:
         look(status == ("1" if lost or older else "0"), f"{self.name}: the rescue ended by {status}")
         return lost, older
 
-    def lost_files(self):
-        """The synced files that are not on the rescued disk as they were written."""
-        status, said = self.guest.ask("look_at_new")
-        look(status == 0, f"{self.name}: the new drive cannot be used: {said}")
+    def lost_files(self, kind="rescued", drive="--image /tmp/new"):
+        """The synced files that are not on a disk as they were written."""
+        status, said = self.guest.ask(f"look_at {drive}")
+        look(status == 0, f"{self.name}: the {kind} drive cannot be used: {said}")
         synced = read_file(self.guest.share, "synced").split()
-        count("synced files looked for on a rescued disk", len(synced))
+        count(f"synced files looked for on a {kind} disk", len(synced))
         return read_file(self.guest.share, "gone").split()
+
+    def repair(self):
+        """Repairs the drive in place."""
+        status, said = self.guest.ask(f"zonedisk repair {DEVICE} --force 2>&1")
+        look(status == 0, f"{self.name}: a repair ended by {status}: {said}")
 
 
 def fail_write(files):
@@ -82,6 +87,9 @@ def fail_write(files):
     look(not lost, f"{files.name}: blocks {lost} are lost")
     gone = files.lost_files()
     look(not gone, f"{files.name}: files {gone} are lost")
+    files.repair()
+    gone = files.lost_files("repaired", DEVICE)
+    look(not gone, f"{files.name}: files {gone} are lost on the repaired drive")
 
 
 def fail_data(files):

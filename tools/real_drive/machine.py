@@ -49,7 +49,7 @@ class Machine:
 
     def __init__(self, asked, work):
         self.program, self.kernel, self.work = os.path.abspath(asked.program), asked.kernel, work
-        self.guests, self.spoils, self.seed = asked.guests, asked.spoil, asked.seed
+        self.guests, self.spoils, self.seed, self.fakes = asked.guests, asked.spoil, asked.seed, asked.fake
 
     def share(self):
         """A new folder that a guest shares with this machine."""

@@ -8,7 +8,8 @@ from saved import DEVICE, texts_of
 from traces import Line, answered, random_write, text_of
 
 RUN = f"zonedisk run {DEVICE} --blocks $BLOCKS < /share/lines > /share/replies 2> /share/replies.said; status=$?"
-SEE = "nvme zns report-zones /dev/ng0n1 -d 60 > /share/report; return $status"
+SEE_ZONES = "nvme zns report-zones /dev/ng0n1 -d 60"
+SEE = f"{SEE_ZONES} > /share/report; return $status"
 
 
 class Written:
