@@ -36,6 +36,7 @@ pub agrees-sane : (disk : MountedView) → Agrees disk → IsSane disk
 agrees-sane disk agrees = record {
   geometry = agrees.geometry;
   one_drive = omega (arith, agrees.roles.count, agrees.zones, agrees.lawful.count, length-map disk.drive.zones content_of);
+  zones = omega (arith, agrees.zones, agrees.lawful.count, length-map disk.drive.zones content_of);
   short = agrees.reserve.1;
   next = agrees.next;
   fillings_are = within (fillings disk.tables.roles) agrees.roles.apart.occupied (fillings-few disk.drive disk.tables agrees);
@@ -101,6 +102,7 @@ alone-sane a b zone geometry tables sane =
     rw (tables, geometry) (record {
       geometry = sane.geometry;
       one_drive = alone-long g a.tables.roles zone ∙ sane.one_drive;
+      zones = sane.zones;
       short = sane.short;
       next = sane.next;
       fillings_are = alone-all (λ z n. (z < g.zones) × (n ≤ g.capacity)) g a.tables.roles zone sane.fillings_are;
@@ -141,6 +143,7 @@ counts-sane a b zone batch geometry may counts =
     record {
       geometry = rw geometry may.sane.geometry;
       one_drive = ap (λ (r : RolesView). length r.empty) counts.roles ∙ alone-long g a.tables.roles zone ∙ may.sane.one_drive ∙ sym counts.zones;
+      zones = rw geometry (counts.zones ∙ may.sane.zones);
       short = omega (arith, counts.size, may.short);
       next = omega (arith, counts.next, may.next);
       fillings_are = rw (geometry, counts.roles) (subst (AllByRecursion (IsWithin g)) (sym (fillings-with (grown zone (batch_size batch)) alone))
@@ -153,7 +156,7 @@ counts-sane a b zone batch geometry may counts =
 pub after-sane : (a b : MountedView) (zone : ℕ) (batch : Batch) (result : Result (Unit {0}) PortFault) → b.drive.geometry ≡ a.drive.geometry → MayPlace a zone batch → TablesAfter a.drive.geometry a.tables zone batch result b.tables → IsSane b
 after-sane a b zone batch (Ok done) geometry may counts = counts-sane a b zone batch geometry may counts
 after-sane a b zone batch (Err fault) geometry may left = elim left as (λ _. IsSane b) [
-  | inl same ↦ rw (same, geometry) (record { geometry = may.sane.geometry; one_drive = may.sane.one_drive; short = may.sane.short; next = may.sane.next; fillings_are = may.sane.fillings_are })
+  | inl same ↦ rw (same, geometry) (record { geometry = may.sane.geometry; one_drive = may.sane.one_drive; zones = may.sane.zones; short = may.sane.short; next = may.sane.next; fillings_are = may.sane.fillings_are })
   | inr alone ↦ alone-sane a b zone geometry alone may.sane
 ]
 

@@ -21,6 +21,7 @@ use Rattle.zone_choice.specs.Tables.{AreOfOneDrive, TablesView, size_of}
 pub record IsSane (disk : MountedView) : Type 0 where
   pub geometry : IsInRange disk.drive.geometry
   pub one_drive : AreOfOneDrive disk.tables.map disk.tables.roles
+  pub zones : disk.tables.map.zones ≡ disk.drive.geometry.zones
   pub short : size_of disk.tables ≤ 2 ^ 31
   pub next : disk.tables.next ≤ 2 ^ 63
   pub fillings_are : AllByRecursion (λ (filling : Filling). (filling.zone < disk.drive.geometry.zones) × (filling.written ≤ disk.drive.geometry.capacity))

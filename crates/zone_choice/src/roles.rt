@@ -164,9 +164,10 @@ impl Roles {
         self.host
     }
 
-    /// The next zone or the destination.
+    /// The next zone or the destination. It is not the host zone.
     pub fn second(&self) -> Option<Second>
-        ensures { result ≡ self.now.second }
+        ensures second { result ≡ self.now.second }
+        ensures apart { AreApart self.now }
     {
         self.second
     }

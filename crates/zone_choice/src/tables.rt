@@ -1,11 +1,11 @@
 ghost use Rattle.std.specs.Prelude.{◌≡◌, ◌≢◌, ◌≤◌, ◌<◌, ◌+◌, ◌^◌, ℕ, IfNone, IfOk, IfSome, false, length, None};
-ghost use Rattle.std.specs.Prelude.{OnOk, slice_index, slice_index_or, slice_set, true};
+ghost use Rattle.std.specs.Prelude.{OnOk, Some, slice_index, slice_index_or, slice_set, true};
 ghost use Rattle.std.specs.List.{AllByRecursion};
 ghost use Rattle.logical_map.specs.Counts.{lowered, raised};
 ghost use Rattle.logical_map.specs.Live.{first_record, live};
 ghost use Rattle.logical_map.specs.Places.{ArePlacedReady, IsReady, Reserves, place_address};
 ghost use Rattle.logical_map.specs.declared.place.Place.TheVariants as places;
-ghost use Rattle.zone_choice.specs.Roles.{IsLowestEmpty, clean_ended, closed_beside, empty_count, fillings};
+ghost use Rattle.zone_choice.specs.Roles.{AreApart, IsLowestEmpty, clean_ended, closed_beside, empty_count, fillings};
 ghost use Rattle.zone_choice.specs.Roles.{is_sealed_at, next_of, open_beside, promoted, sealed, taken};
 ghost use Rattle.zone_choice.specs.Roles.{with_destination, wrote};
 ghost use Rattle.zone_choice.specs.Tables.{AreOfEmptyDrive, AreReserved, GrowsTo, IsLeastSealed, SameButReady};
@@ -102,6 +102,16 @@ impl Tables {
         self.index.least(self.roles.sealed())
     }
 
+    /// Whether a zone is sealed.
+    pub fn is_sealed(&self, zone: u32) -> bool
+        ensures { result ≡ is_sealed_at self.now.roles zone }
+    {
+        match self.roles.sealed().get(zone as usize) {
+            Some(mark) => *mark,
+            None => false,
+        }
+    }
+
     /// The first of the blocks from `from` on that are in a zone, with its place.
     pub fn first_record(&mut self, zone: u32, from: u32) -> Option<(u32, Place)>
         requires { zone < self.old.map.zones }
@@ -137,6 +147,19 @@ impl Tables {
         ensures { result ≡ self.now.roles.second }
     {
         self.roles.second()
+    }
+
+    /// The destination, if there is one. It is not the host zone.
+    pub fn destination(&self) -> Option<Filling>
+        ensures some { IfSome result (λ filling. self.now.roles.second ≡ Some (Second.Destination filling)) }
+        ensures none { IfNone result ((filling : Filling)
+            → self.now.roles.second ≡ Some (Second.Destination filling) → ⊥) }
+        ensures apart { AreApart self.now.roles }
+    {
+        match self.roles.second() {
+            Some(Second::Destination(filling)) => Some(filling),
+            _ => None,
+        }
     }
 
     /// How many zones are empty.

@@ -3,6 +3,7 @@ use Rattle.std.proofs.Common.{◌≡◌, ◌≢◌, ℕ, suc, ◌+◌, ◌*◌, 
 use Rattle.std.specs.List.{AllByRecursion, concat}
 use Rattle.std.proofs.lemmas.List.{drop_at, get_or-take, length-append, length-map, length-take, take_at}
 use Rattle.std.proofs.Math.Nat.{add-mul}
+use Rattle.zone_states.specs.Geometry.{IsInRange}
 use Rattle.zone_states.specs.Zone.{cut_blocks}
 use Rattle.drive_port.specs.Contents.{contents}
 use Rattle.batch_log.specs.declared.header.Entry.{Entry}
@@ -94,27 +95,30 @@ pub record MoveBuilt (disk : MountedView) (c : CleanView) (builder : BuilderView
   pub is : IsBuilt disk.drive.geometry.block builder
   pub batch : built disk.drive.geometry.block builder ≡ gathered_move (size_of disk.tables) disk.tables.next c.victim c.gathered
 
--- what was built is that Move
-pub move_built : (disk : MountedView) (c : CleanView) (builder : BuilderView) → Agrees disk → IsClean disk c → builder.heading ≡ (gathered_move (size_of disk.tables) disk.tables.next c.victim c.gathered).heading
-    → builder.bytes ≡ header_block disk.drive.geometry.block builder.heading ++ concat (gathered_data c.gathered) → MoveBuilt disk c builder
-move_built disk c builder agrees clean heading bytes =
-    let block = disk.drive.geometry.block in
-    let rs = c.gathered in
-    let whole = data-whole disk c agrees clean in
-    let large = large-block disk.drive.geometry agrees.geometry in
-    let says : IsHeading block builder.heading = rw heading (move-heading disk c agrees clean) in
-    let long : length (header_block block builder.heading) ≡ block = header_length block builder.heading (omega (arith, large)) says in
+-- a header block and whole blocks of data are a batch
+built-of : (block size next victim : ℕ) (rs : List LiveRecord) (builder : BuilderView) → 32 ≤ block → IsHeading block (gathered_move size next victim rs).heading → AreOfLength block (gathered_data rs)
+    → builder.heading ≡ (gathered_move size next victim rs).heading → builder.bytes ≡ header_block block builder.heading ++ concat (gathered_data rs) → IsBuilt block builder × (built block builder ≡ gathered_move size next victim rs)
+built-of block size next victim rs builder large heads whole heading bytes =
+    let says : IsHeading block builder.heading = rw heading heads in
+    let long : length (header_block block builder.heading) ≡ block = header_length block builder.heading large says in
     let rest : drop block builder.bytes ≡ concat (gathered_data rs) = ap (drop block) bytes ∙ drop_at (header_block block builder.heading) (concat (gathered_data rs)) block long in
     let count : data_count builder.heading.entries ≡ length (gathered_data rs) = ap (λ (h : Heading). data_count h.entries) heading ∙ sym (length-data rs) in
-    let body : cut_blocks block (data_count builder.heading.entries) (drop block builder.bytes) ≡ gathered_data rs = ap (λ (n : ℕ). cut_blocks block n (drop block builder.bytes)) count ∙ ap (cut_blocks block (length (gathered_data rs))) rest ∙ cut-concat block (gathered_data rs) whole in
-    record {
-      is = record { header = bytes ∙ ap (λ (xs : List ℕ). header_block block builder.heading ++ xs) (sym rest); data_length = ap length rest ∙ length-concat block (gathered_data rs) whole ∙ ap (λ (n : ℕ). n * block) (sym count) };
-      batch = ap (λ (h : Heading). batch_with h (cut_blocks block (data_count builder.heading.entries) (drop block builder.bytes))) heading ∙ ap (batch_with (gathered_move (size_of disk.tables) disk.tables.next c.victim rs).heading) body;
-    }
+    let body : cut_blocks block (data_count builder.heading.entries) (drop block builder.bytes) ≡ gathered_data rs = ap (λ (n : ℕ). cut_blocks block n (drop block builder.bytes)) count ∙ ap (cut_blocks block (length (gathered_data rs))) rest ∙ cut-concat block (gathered_data rs) whole in (
+      record { header = bytes ∙ ap (λ (xs : List ℕ). header_block block builder.heading ++ xs) (sym rest); data_length = ap length rest ∙ length-concat block (gathered_data rs) whole ∙ ap (λ (n : ℕ). n * block) (sym count) },
+      ap (λ (h : Heading). batch_with h (cut_blocks block (data_count builder.heading.entries) (drop block builder.bytes))) heading ∙ ap (batch_with (gathered_move size next victim rs).heading) body,
+    )
+
+-- what was built is that Move
+pub move_built : (disk : MountedView) (c : CleanView) (builder : BuilderView) → IsInRange disk.drive.geometry → IsHeading disk.drive.geometry.block (gathered_move (size_of disk.tables) disk.tables.next c.victim c.gathered).heading
+    → AreOfLength disk.drive.geometry.block (gathered_data c.gathered) → builder.heading ≡ (gathered_move (size_of disk.tables) disk.tables.next c.victim c.gathered).heading
+    → builder.bytes ≡ header_block disk.drive.geometry.block builder.heading ++ concat (gathered_data c.gathered) → MoveBuilt disk c builder
+move_built disk c builder range heads whole heading bytes =
+    let both = built-of disk.drive.geometry.block (size_of disk.tables) disk.tables.next c.victim c.gathered builder (omega (arith, large-block disk.drive.geometry range)) heads whole heading bytes in
+    record { is = both.0; batch = both.1 }
 
 -- ---- the drive takes it
 
-records-all : (P : ℕ → Type 0) (array : List (List ℕ)) (size zone first : ℕ) (ps : List Place) → ((k : ℕ) → k < length ps → lies_in size zone (get_or ps k places.None) ≡ true → P (first + k)) → AllByRecursion (λ (r : LiveRecord). P r.block) (records_in array size zone first ps)
+pub records-all : (P : ℕ → Type 0) (array : List (List ℕ)) (size zone first : ℕ) (ps : List Place) → ((k : ℕ) → k < length ps → lies_in size zone (get_or ps k places.None) ≡ true → P (first + k)) → AllByRecursion (λ (r : LiveRecord). P r.block) (records_in array size zone first ps)
 records-all P array size zone first [] each = tt
 records-all P array size zone first (p ∷ ps) each = by (lies_in size zone p) refl (records-all P array size zone (first + 1) ps rest)
   where
@@ -126,7 +130,7 @@ records-all P array size zone first (p ∷ ps) each = by (lies_in size zone p) r
     by true is all = ((let same : first + 0 ≡ first = omega arith in rw same at (each 0 (omega arith) is)), all)
     by false is all = all
 
-entries-all : (P : ℕ → Type 0) (rs : List LiveRecord) → AllByRecursion (λ (r : LiveRecord). P r.block) rs → AllByRecursion (λ (e : Entry). P e.block) (gathered_entries rs)
+pub entries-all : (P : ℕ → Type 0) (rs : List LiveRecord) → AllByRecursion (λ (r : LiveRecord). P r.block) rs → AllByRecursion (λ (e : Entry). P e.block) (gathered_entries rs)
 entries-all P [] all = tt
 entries-all P (r ∷ rs) all = (one r.block r.content all.0, entries-all P rs all.1)
   where

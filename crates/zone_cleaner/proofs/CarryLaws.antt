@@ -76,7 +76,7 @@ entries-below (r ∷ rs) low high all = (one r.block r.content all.0.1, entries-
     one block None lt = lt
     one block (Some bytes) lt = lt
 
-named-blocks : (rs : List LiveRecord) → blocks_named (gathered_entries rs) ≡ map (λ (r : LiveRecord). r.block) rs
+pub named-blocks : (rs : List LiveRecord) → blocks_named (gathered_entries rs) ≡ map (λ (r : LiveRecord). r.block) rs
 named-blocks [] = refl
 named-blocks (r ∷ rs) = rw (one r.block r.content, named-blocks rs) refl
   where

@@ -41,7 +41,7 @@ use Rattle.zone_cleaner.proofs.HistoryLaws.{moves-more, moves_have_spare}
 use Rattle.zone_cleaner.proofs.ResetLaws.{reset_gives}
 use Rattle.zone_cleaner.proofs.SealedLaws.{sealed-apart, sealed-holds, sealed-in_range, second-filling, zone-logs}
 use Rattle.zone_cleaner.proofs.StepLaws.{MoveDue, ResetDue, move-due}
-use Rattle.zone_cleaner.proofs.BuildLaws.{MoveBuilt, move-can, move_built}
+use Rattle.zone_cleaner.proofs.BuildLaws.{MoveBuilt, data-whole, move-can, move-heading, move_built}
 use Rattle.zone_cleaner.proofs.CloseLaws.{memory-closes, stops-close}
 use Rattle.zone_cleaner.proofs.FailLaws.{stops_kept}
 use Rattle.zone_cleaner.proofs.MovedLaws.{move_gives, mounted-encoded}
@@ -214,7 +214,7 @@ carries-due : (disk : MountedView) (c : CleanView) (f : Filling) (builder : Buil
 carries-due disk c f builder k = move-due disk (batch_most disk.drive.geometry) c k.at.due (positive-most disk.drive.geometry k.at.agrees.geometry) k.at.clean_is.gathers.few
 
 carries-built : (disk : MountedView) (c : CleanView) (f : Filling) (builder : BuilderView) → Carries disk c f builder → MoveBuilt disk c builder
-carries-built disk c f builder k = move_built disk c builder k.at.agrees k.at.clean_is k.heading k.bytes
+carries-built disk c f builder k = move_built disk c builder k.at.agrees.geometry (move-heading disk c k.at.agrees k.at.clean_is) (data-whole disk c k.at.agrees k.at.clean_is) k.heading k.bytes
 
 carries-to : (disk : MountedView) (c : CleanView) (f : Filling) (builder : BuilderView) → (k : Carries disk c f builder) → k.at.clean_is.destination ≡ f
 carries-to disk c f builder k = destination-is k.at.clean_is.destination f (sym k.at.clean_is.second ∙ k.second)

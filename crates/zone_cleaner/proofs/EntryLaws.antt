@@ -2,9 +2,9 @@
 use Rattle.zone_cleaner.specs.Moving.{HoldsMove, headed_bytes}
 use Rattle.zone_choice.specs.Builder.{BuilderView}
 use Rattle.batch_log.specs.Log.{Batch}
-use Rattle.std.proofs.Common.{◌≡◌, ◌⊎◌, inl, inr, ℕ, ◌+◌, ◌-◌, ◌<◌, ◌≤◌, Result, Ok, Err, Bool, true, false, cond, eqb, List, [], ◌∷◌, ◌++◌, map, length, take, drop, Option, None, Some, refl, sym, ap, ◌∙◌, arith}
-use Rattle.std.specs.Prelude.{IfSome, IsOk, OnOk}
-use Rattle.std.specs.List.{AllByRecursion, concat, flat_map}
+use Rattle.std.proofs.Common.{◌≡◌, ◌⊎◌, inl, inr, ℕ, ◌+◌, ◌-◌, ◌<◌, ◌≤◌, Result, Ok, Err, Bool, true, false, ◌||◌, cond, eqb, List, [], ◌∷◌, ◌++◌, map, length, take, drop, Option, None, Some, refl, sym, ap, ◌∙◌, arith}
+use Rattle.std.specs.Prelude.{IfSome, IsOk, OnOk, is_some}
+use Rattle.std.specs.List.{AllByRecursion, concat, flat_map, list_any}
 use Rattle.std.specs.Map.{remove_entry}
 use Rattle.std.specs.Option.{option_map}
 use Rattle.std.proofs.lemmas.Bool.{ne_eqb}
@@ -160,23 +160,50 @@ pub record MakesRoom (m n : ℕ) (bs : Blocks) (bytes room : List ℕ) : Type 0 
   pub shows : gathered_records m room bs ≡ gathered_records n bytes bs
   pub order : concat (gathered_data (gathered_records m room bs)) ≡ drop m room
 
-abbrev NoneHasData : Blocks → Type 0
+abbrev pub NoneHasData : Blocks → Type 0
 NoneHasData bs = AllByRecursion (λ (b : ℕ × Option ℕ). b.1 ≡ None) bs
 
-none-has : (m n : ℕ) (bytes : List ℕ) (bs : Blocks) → AreWithin n (length bytes) bs → AreOfLength m (gathered_data (gathered_records n bytes bs)) → (n ≡ m → ⊥) → NoneHasData bs
-none-has m n bytes [] within whole other = tt
-none-has m n bytes (b ∷ bs) within whole other = by b.1 within.0 (none-has m n bytes bs within.1) whole
+-- it was looked for, and not found
+pub none-found : (bs : Blocks) → list_any (λ (b : ℕ × Option ℕ). is_some b.1) bs ≡ false → NoneHasData bs
+none-found [] none = tt
+none-found (b ∷ bs) none = by b.1 (none-found bs) none
   where
-    by : (position : Option ℕ) → IfSome position (λ p. (n ≤ p) × (p + n ≤ length bytes)) → (AreOfLength m (gathered_data (gathered_records n bytes bs)) → (n ≡ m → ⊥) → NoneHasData bs)
-        → AreOfLength m (with_data (option_map (block_from n bytes) position) (gathered_data (gathered_records n bytes bs))) → (position ≡ None) × NoneHasData bs
-    by None at rest whole = (refl, rest whole other)
-    by (Some p) at rest whole = absurd (other (omega (arith, whole.0, length-take n (drop p bytes), length-drop p bytes, at.1)))
+    by : (position : Option ℕ) → (list_any (λ (b : ℕ × Option ℕ). is_some b.1) bs ≡ false → NoneHasData bs) → (is_some position || list_any (λ (b : ℕ × Option ℕ). is_some b.1) bs) ≡ false → (position ≡ None) × NoneHasData bs
+    by None rest none = (refl, rest none)
+    by (Some p) rest none = absurd (cc)
+
+-- data of another length is found
+pub some-found : (m n : ℕ) (bytes : List ℕ) (bs : Blocks) → AreWithin n (length bytes) bs → AreOfLength m (gathered_data (gathered_records n bytes bs)) → list_any (λ (b : ℕ × Option ℕ). is_some b.1) bs ≡ true → n ≡ m
+some-found m n bytes [] within whole some = absurd (cc)
+some-found m n bytes (b ∷ bs) within whole some = by b.1 within.0 (some-found m n bytes bs within.1) whole some
+  where
+    by : (position : Option ℕ) → IfSome position (λ p. (n ≤ p) × (p + n ≤ length bytes)) → (AreOfLength m (gathered_data (gathered_records n bytes bs)) → list_any (λ (b : ℕ × Option ℕ). is_some b.1) bs ≡ true → n ≡ m)
+        → AreOfLength m (with_data (option_map (block_from n bytes) position) (gathered_data (gathered_records n bytes bs))) → (is_some position || list_any (λ (b : ℕ × Option ℕ). is_some b.1) bs) ≡ true → n ≡ m
+    by None at rest whole some = rest whole some
+    by (Some p) at rest whole some = omega (arith, whole.0, length-take n (drop p bytes), length-drop p bytes, at.1)
+
+-- it is among the values
+pub some-values : (bs : Blocks) → list_any (λ (b : ℕ × Option ℕ). is_some b.1) bs ≡ list_any is_some (map (λ (b : ℕ × Option ℕ). b.1) bs)
+some-values [] = refl
+some-values (b ∷ bs) = ap (λ (rest : Bool). is_some b.1 || rest) (some-values bs)
+
+-- each block of data has the length
+pub whole-shown : (n : ℕ) (bytes : List ℕ) (bs : Blocks) → AreWithin n (length bytes) bs → AreOfLength n (gathered_data (gathered_records n bytes bs))
+whole-shown n bytes [] within = tt
+whole-shown n bytes (b ∷ bs) within = by b.1 within.0 (whole-shown n bytes bs within.1)
+  where
+    by : (position : Option ℕ) → IfSome position (λ p. (n ≤ p) × (p + n ≤ length bytes)) → AreOfLength n (gathered_data (gathered_records n bytes bs)) → AreOfLength n (with_data (option_map (block_from n bytes) position) (gathered_data (gathered_records n bytes bs)))
+    by None at rest = rest
+    by (Some p) at rest = (omega (arith, length-take n (drop p bytes), length-drop p bytes, at.1), rest)
+
+-- the blocks of the records are the keys
+pub blocks-shown : (n : ℕ) (bytes : List ℕ) (bs : Blocks) → map (λ (r : LiveRecord). r.block) (gathered_records n bytes bs) ≡ map (λ (b : ℕ × Option ℕ). b.0) bs
+blocks-shown n bytes [] = refl
+blocks-shown n bytes (b ∷ bs) = ap (λ (keys : List ℕ). b.0 ∷ keys) (blocks-shown n bytes bs)
 
 -- room is made for a header
-pub makes-room : (m n : ℕ) (bs : Blocks) (bytes room : List ℕ) → AreWithin n (length bytes) bs → AreOfLength m (gathered_data (gathered_records n bytes bs)) → (n ≡ m → ⊥) → length room ≡ m → MakesRoom m n bs bytes room
-makes-room m n bs bytes room within whole other long =
-    let none = none-has m n bytes bs within whole other in
-    record { within = go bs none; shows = same bs none; order = empty bs none ∙ sym (drop_all m room (omega (arith, long))) }
+pub makes-room : (m n : ℕ) (bs : Blocks) (bytes room : List ℕ) → NoneHasData bs → length room ≡ m → MakesRoom m n bs bytes room
+makes-room m n bs bytes room none long = record { within = go bs none; shows = same bs none; order = empty bs none ∙ sym (drop_all m room (omega (arith, long))) }
   where
     go : (bs : Blocks) → NoneHasData bs → AreWithin m (length room) bs
     go [] none = tt
@@ -245,7 +272,6 @@ on-ok (Err error) ok p = absurd (cc)
 -- ---- the Move
 
 -- its header was written before its data
-pub holds-move : {E : Type 0} (result : Result (Unit {0}) E) (builder : BuilderView) (block_bytes : ℕ) (move : Batch) (old : List ℕ) → OnOk result (builder.heading ≡ move.heading) → OnOk result (builder.bytes ≡ headed_bytes block_bytes builder.heading old) → drop block_bytes old ≡ concat move.body
-    → OnOk result (HoldsMove builder block_bytes move)
-holds-move (Ok done) builder block_bytes move old heading bytes body = record { heading = heading; bytes = bytes ∙ ap (λ (d : List ℕ). header_block block_bytes builder.heading ++ d) body }
-holds-move (Err fault) builder block_bytes move old heading bytes body = tt
+pub holds-move : (builder : BuilderView) (block_bytes : ℕ) (move : Batch) (old : List ℕ) → builder.heading ≡ move.heading → builder.bytes ≡ headed_bytes block_bytes builder.heading old → drop block_bytes old ≡ concat move.body
+    → HoldsMove builder block_bytes move
+holds-move builder block_bytes move old heading bytes body = record { heading = heading; bytes = bytes ∙ ap (λ (d : List ℕ). header_block block_bytes builder.heading ++ d) body }

@@ -1,9 +1,9 @@
 -- A step that is not done leaves the clean unchanged.
 use Rattle.std.proofs.Common.{◌≡◌, ℕ, ◌+◌, ◌<◌, ◌≤◌, ◌^◌, true, List, [], ◌∷◌, get_or, inl, arith}
-use Rattle.std.specs.List.{AllByRecursion}
+use Rattle.std.specs.List.{AllByRecursion, slice_get}
 use Rattle.logical_map.specs.declared.place.Place.{Place}
 use Rattle.logical_map.specs.declared.place.Place.TheVariants as places
-use Rattle.zone_choice.specs.Agreement.{Agrees, MountedView}
+use Rattle.zone_choice.specs.Agreement.{Agrees, MountedView, mounted_array}
 use Rattle.drive_array.specs.ZoneLogs.{drive_logs}
 use Rattle.zone_choice.specs.Changes.{KeepsArray}
 use Rattle.drive_array.specs.Reserve.{batch_most}
@@ -15,11 +15,13 @@ use Rattle.zone_cleaner.specs.declared.step.Step.TheVariants.{Gather}
 use Rattle.zone_cleaner.specs.Clean.{CleanView, IsClean}
 use Rattle.zone_cleaner.specs.LiveRecords.{LiveRecord}
 use Rattle.zone_cleaner.specs.Reading.{IsGatherFault}
-use Rattle.zone_cleaner.specs.Turns.{StepFails, StopsClean, next_step}
+use Rattle.zone_cleaner.specs.Turns.{StepFails, StopsClean, next_step, step_due}
 use Rattle.zone_cleaner.proofs.OnlyLaws.{only-same}
 use Rattle.zone_cleaner.proofs.CarryLaws.{gathered-below}
 use Rattle.zone_cleaner.proofs.CleanLaws.{clean_kept, clean_spare, gather-next}
-use Rattle.zone_cleaner.proofs.RecordLaws.{AreBetween}
+use Rattle.logical_map.specs.Live.{blocks_in_zone}
+use Rattle.logical_map.proofs.Parts.{first-parts}
+use Rattle.zone_cleaner.proofs.RecordLaws.{AreBetween, next-within}
 use Rattle.zone_cleaner.proofs.StepLaws.{gather-due}
 
 -- a stop that kept the array
@@ -64,3 +66,11 @@ next_record disk c block place agrees is due =
     go : (rs : List LiveRecord) → c.cursor ≤ block → AreBetween 0 c.cursor rs → AllByRecursion (λ (r : LiveRecord). r.block < block) rs
     go [] le all = tt
     go (r ∷ rs) le all = (omega (arith, all.0.1, le), go rs le all.1)
+
+-- whatever the Reads returned, it is not below the cursor, and its block is the disk's
+pub due-within : (disk : MountedView) (c : CleanView) (block : ℕ) (place : Place) → step_due disk c ≡ Gather block place → (c.cursor ≤ block) × (block < size_of disk.tables)
+due-within disk c block place due =
+    let m = disk.tables.map in
+    let found = (gather-due disk (batch_most disk.drive.geometry) c block place due).found in
+    let parts = first-parts (λ b. get_or m.places b places.None) (slice_get (blocks_in_zone m c.victim c.cursor) 0) block place found in
+    next-within (mounted_array disk) m.zone_size c.victim c.cursor block m.places parts.0

@@ -15,6 +15,7 @@ pub mod FetchLaws
 pub mod CloseLaws
 pub mod FailLaws
 pub mod BuildLaws
+pub mod MayLaws
 pub mod EndLaws
 pub mod StartLaws
 pub mod KindLaws
@@ -23,6 +24,7 @@ pub mod HostLaws
 pub mod RoomLaws
 pub mod RunLaws
 pub mod NeedLaws
+pub mod SoFarLaws
 pub mod NextLaws
 pub mod BesideLaws
 pub mod SaneLaws

@@ -9,7 +9,8 @@ use Rattle.logical_map.specs.Live.{blocks_in, lies_in}
 use Rattle.logical_map.specs.declared.place.Place.{Place}
 use Rattle.logical_map.specs.declared.place.Place.TheVariants as places
 use Rattle.drive_array.specs.Records.{shown_content}
-use Rattle.zone_cleaner.specs.LiveRecords.{LiveRecord, live_content, records_in, without_block}
+use Rattle.batch_log.specs.declared.header.Entry.{Entry}
+use Rattle.zone_cleaner.specs.LiveRecords.{LiveRecord, live_content, records_in, without_all, without_block}
 
 -- how many of these places are in a zone
 abbrev pub live_in : ℕ → ℕ → List Place → ℕ
@@ -293,3 +294,31 @@ records_in-array old new size zone first (p ∷ ps) same =
         let content = one p (rw here at (same 0 (omega arith) is)) in
         rw (content, e) refl
     by false is e = e
+
+-- ---- records are dropped
+
+below-one : (high block : ℕ) (rs : List LiveRecord) → AllByRecursion (λ (r : LiveRecord). r.block < high) rs → AllByRecursion (λ (r : LiveRecord). r.block < high) (without_block block rs)
+below-one high block [] all = tt
+below-one high block (r ∷ rs) all = by (eqb block r.block) (below-one high block rs all.1)
+  where
+    by : (b : Bool) → AllByRecursion (λ (r : LiveRecord). r.block < high) (without_block block rs) → AllByRecursion (λ (r : LiveRecord). r.block < high) (cond b rs (r ∷ without_block block rs))
+    by true rest = all.1
+    by false rest = (all.0, rest)
+
+-- the others are where they were
+pub below-without : (high : ℕ) (es : List Entry) (rs : List LiveRecord) → AllByRecursion (λ (r : LiveRecord). r.block < high) rs → AllByRecursion (λ (r : LiveRecord). r.block < high) (without_all es rs)
+below-without high [] rs all = all
+below-without high (e ∷ es) rs all = below-without high es (without_block e.block rs) (below-one high e.block rs all)
+
+-- one more is after them
+pub below-more : (low high : ℕ) (rs : List LiveRecord) (r : LiveRecord) → low ≤ high → AllByRecursion (λ (r : LiveRecord). r.block < low) rs → r.block < high → AllByRecursion (λ (r : LiveRecord). r.block < high) (rs ++ r ∷ [])
+below-more low high [] r le all lt = (lt, tt)
+below-more low high (first ∷ rs) r le all lt = (omega (arith, all.0, le), below-more low high rs r le all.1 lt)
+
+-- ---- the next record
+
+-- it is not below the cursor, and its block is the disk's
+pub next-within : (array : List (List ℕ)) (size zone from block : ℕ) (ps : List Place) → slice_get (blocks_in size zone from (drop from ps)) 0 ≡ Some block → (from ≤ block) × (block < length ps)
+next-within array size zone from block ps e =
+    let next = first-in array size zone from block (drop from ps) e in
+    (omega (arith, next.at), omega (arith, next.at, next.below, length-drop from ps))

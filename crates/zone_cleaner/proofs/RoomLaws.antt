@@ -18,7 +18,7 @@ use Rattle.zone_cleaner.specs.Turns.{StepDone, next_step}
 
 -- ---- one step
 
-move-host : (geometry : Geometry) (roles : RolesView) (zone blocks : ℕ) → roles.host ≡ None → (wrote (roles_alone geometry roles zone) zone blocks).host ≡ None
+pub move-host : (geometry : Geometry) (roles : RolesView) (zone blocks : ℕ) → roles.host ≡ None → (wrote (roles_alone geometry roles zone) zone blocks).host ≡ None
 move-host geometry roles zone blocks none = by (ltb 1 geometry.open)
   where
     by : (b : Bool) → (wrote (cond b roles (closed_beside roles zone)) zone blocks).host ≡ None

@@ -1,21 +1,33 @@
 -- What holds whatever the Reads returned, after the steps of a clean.
-use Rattle.std.proofs.Common.{◌≡◌, ℕ, ◌++◌, true, Option, Some, None, refl, ◌∙◌}
+use Rattle.std.proofs.Common.{◌≡◌, ◌⊎◌, ℕ, ◌++◌, ◌<◌, ◌≤◌, ltb, Bool, true, false, cond, List, [], ◌∷◌, Option, Some, None, Result, Ok, Err, refl, ap, subst, ◌∙◌, inl, inr, arith}
+use Rattle.std.specs.Prelude.{IsTrue}
+use Rattle.std.specs.List.{AllByRecursion}
 use Rattle.std.specs.Option.{option_map}
 use Rattle.std.proofs.lemmas.List.{length-set}
 use Rattle.drive_port.specs.Drive.{DriveState}
 use Rattle.zone_choice.specs.declared.roles.Filling.{Filling}
 use Rattle.zone_choice.specs.declared.roles.Second.{Second}
 use Rattle.zone_choice.specs.declared.roles.Second.TheVariants.{Destination, Next}
-use Rattle.zone_choice.specs.Agreement.{mounted}
-use Rattle.zone_choice.specs.Roles.{RolesView, clean_ended, ended, filling_list, filling_of, fillings}
-use Rattle.zone_choice.specs.Sane.{IsSane}
+use Rattle.zone_choice.specs.Agreement.{MountedView, mounted}
+use Rattle.zone_choice.specs.Roles.{RolesView, clean_ended, closed_beside, ended, filling_list, filling_of, fillings}
+use Rattle.zone_choice.specs.Changes.{roles_alone}
+use Rattle.zone_choice.specs.Sane.{IsSane, KeepsShape, TablesAfter}
 use Rattle.zone_choice.specs.Tables.{TablesView}
+use Rattle.drive_port.specs.declared.calls.PortFault.{PortFault}
+use Rattle.zone_states.specs.declared.geometry.Geometry.{Geometry}
+use Rattle.batch_log.specs.Log.{Batch}
+use Rattle.zone_cleaner.specs.Answering.{StaysSane}
+use Rattle.zone_cleaner.specs.Clean.{CleanView}
+use Rattle.zone_cleaner.specs.Reading.{OnlyAsks}
+use Rattle.zone_cleaner.specs.Start.{StartLeaves, TurnLeaves}
+use Rattle.zone_cleaner.proofs.RoomLaws.{move-host}
 
 -- the tables are the same
 pub sane-same : (old new : DriveState) (tables : TablesView) → new.geometry ≡ old.geometry → IsSane (mounted old tables) → IsSane (mounted new tables)
 sane-same old new tables geometry sane = record {
   geometry = rw geometry sane.geometry;
   one_drive = sane.one_drive;
+  zones = rw geometry sane.zones;
   short = sane.short;
   next = sane.next;
   fillings_are = rw geometry sane.fillings_are;
@@ -35,7 +47,80 @@ pub sane-ended : (old new : DriveState) (tables : TablesView) (victim : ℕ) →
 sane-ended old new tables victim geometry sane = record {
   geometry = rw geometry sane.geometry;
   one_drive = length-set tables.roles.empty victim true ∙ sane.one_drive;
+  zones = rw geometry sane.zones;
   short = sane.short;
   next = sane.next;
   fillings_are = rw (geometry, fillings-ended tables.roles victim) sane.fillings_are;
+}
+
+-- ---- a clean begins
+
+with-one : (P : Filling → Type 0) (host : Option Filling) (second : Option Second) (f : Filling) → second ≡ None → AllByRecursion P (filling_list host ++ filling_list (option_map filling_of second)) → P f → AllByRecursion P (filling_list host ++ f ∷ [])
+with-one P host second f none all one = at host (subst (λ (s : Option Second). AllByRecursion P (filling_list host ++ filling_list (option_map filling_of s))) none all)
+  where
+    at : (host : Option Filling) → AllByRecursion P (filling_list host ++ []) → AllByRecursion P (filling_list host ++ f ∷ [])
+    at None all = (one, tt)
+    at (Some h) all = (all.0, (one, tt))
+
+sane-started : (a b : MountedView) (clean : Option CleanView) → TurnLeaves a None (Ok tt) b clean → IsSane a → IsSane b
+sane-started a b None leaves sane = rw (leaves.1.1, leaves.0) sane
+sane-started a b (Some c) leaves sane =
+    let start = leaves.1 in
+    let g = a.drive.geometry in
+    rw (start.tables, leaves.0) (record {
+      geometry = sane.geometry;
+      one_drive = length-set a.tables.roles.empty start.destination false ∙ sane.one_drive;
+      zones = sane.zones;
+      short = sane.short;
+      next = sane.next;
+      fillings_are = with-one (λ (f : Filling). (f.zone < g.zones) × (f.written ≤ g.capacity)) a.tables.roles.host a.tables.roles.second _ start.due.alone sane.fillings_are (omega (arith, start.lowest.in_range, sane.one_drive, sane.zones), omega arith);
+    })
+
+-- the start of one sends nothing
+pub stays-started : (a b : MountedView) (clean : Option CleanView) → TurnLeaves a None (Ok tt) b clean → IsSane a → StaysSane a b
+stays-started a b clean leaves sane = record {
+  shape = record { geometry = ap (λ (d : DriveState). d.geometry) leaves.0; trusted = λ t. subst (λ (d : DriveState). IsTrue d.clean) leaves.0 t };
+  sane = sane-started a b clean leaves sane;
+  host = by clean leaves.1;
+}
+  where
+    by : (clean : Option CleanView) → StartLeaves a.drive.geometry a.tables b.tables clean → a.tables.roles.host ≡ None → b.tables.roles.host ≡ None
+    by None start none = rw start.1 none
+    by (Some c) start none = rw start.tables none
+
+-- ---- a step
+
+-- only a Read was sent
+pub stays-asked : (a b : MountedView) → OnlyAsks a b → IsSane a → StaysSane a b
+stays-asked a b asks sane = record {
+  shape = asks.shape;
+  sane = rw (asks.tables, asks.shape.geometry) (record { geometry = sane.geometry; one_drive = sane.one_drive; zones = sane.zones; short = sane.short; next = sane.next; fillings_are = sane.fillings_are });
+  host = λ none. rw asks.tables none;
+}
+
+-- a batch may have been appended
+pub stays-appended : (a b : MountedView) (zone : ℕ) (batch : Batch) (result : Result (Unit {0}) PortFault) → KeepsShape a.drive b.drive → IsSane b → TablesAfter a.drive.geometry a.tables zone batch result b.tables → StaysSane a b
+stays-appended a b zone batch result shape sane after = record { shape = shape; sane = sane; host = by result after }
+  where
+    alone : (g : Geometry) (roles : RolesView) → roles.host ≡ None → (roles_alone g roles zone).host ≡ None
+    alone g roles none = at (ltb 1 g.open)
+      where
+        at : (b : Bool) → (cond b roles (closed_beside roles zone)).host ≡ None
+        at true = none
+        at false = rw none refl
+
+    by : (result : Result (Unit {0}) PortFault) → TablesAfter a.drive.geometry a.tables zone batch result b.tables → a.tables.roles.host ≡ None → b.tables.roles.host ≡ None
+    by (Ok done) counts none = rw counts.roles (move-host a.drive.geometry a.tables.roles zone _ none)
+    by (Err fault) left none = elim left as (λ _. b.tables.roles.host ≡ None) [ inl same ↦ rw same none | inr closed ↦ rw closed (alone a.drive.geometry a.tables.roles none) ]
+
+-- ---- several
+
+pub stays-same : (a : MountedView) → IsSane a → StaysSane a a
+stays-same a sane = record { shape = record { geometry = refl; trusted = λ t. t }; sane = sane; host = λ none. none }
+
+pub stays-more : (a b c : MountedView) → StaysSane a b → StaysSane b c → StaysSane a c
+stays-more a b c one two = record {
+  shape = record { geometry = two.shape.geometry ∙ one.shape.geometry; trusted = λ t. one.shape.trusted (two.shape.trusted t) };
+  sane = two.sane;
+  host = λ none. two.host (one.host none);
 }

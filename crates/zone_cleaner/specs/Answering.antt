@@ -1,6 +1,7 @@
 -- What the calls of the cleaner promise, whatever they answer.
-use Rattle.std.specs.Prelude.{◌≡◌, ◌+◌, ◌*◌, ◌++◌, ◌≤◌, List, [], ◌∷◌, Option, Result, IfErr, IsTrue, OnErr, OnOk}
+use Rattle.std.specs.Prelude.{◌≡◌, ◌+◌, ◌*◌, ◌++◌, ◌≤◌, List, [], ◌∷◌, Option, None, Result, IfErr, IsTrue, OnErr, OnOk}
 use Rattle.zone_choice.specs.Agreement.{MountedView}
+use Rattle.zone_choice.specs.Sane.{IsSane, KeepsShape}
 use Rattle.zone_cleaner.specs.declared.fault.CleanFault.{CleanFault}
 use Rattle.zone_cleaner.specs.Clean.{CleanView, turns_of}
 use Rattle.zone_cleaner.specs.LiveRecords.{LiveRecord}
@@ -8,13 +9,20 @@ use Rattle.zone_cleaner.specs.Reading.{AddsRecord, IsGatherFault, OnlyAsks, Only
 use Rattle.zone_cleaner.specs.Start.{CleanDone, CleanLeaves, CleaningLeaves, EndLeaves}
 use Rattle.zone_cleaner.specs.Start.{HasNextZone, KeepsTurns, TurnDone, TurnLeaves}
 
+-- What holds whatever the Reads returned: the shape is the same, the numbers stay in range, and where there was no host
+-- zone there is none.
+pub record StaysSane (before after : MountedView) : Type 0 where
+  pub shape : KeepsShape before.drive after.drive
+  pub sane : IsSane after
+  pub host : before.tables.roles.host ≡ None → after.tables.roles.host ≡ None
+
 -- The record of a block is read: one Read was sent at most, and nothing else.
 pub record GatherAnswers (before : MountedView) (gathered : List LiveRecord) (more : LiveRecord)
     (result : Result (Unit {0}) CleanFault)
     (after : MountedView) (now : List LiveRecord) : Type 0 where
   pub asks : OnlyAsks before after
   -- a record is after those that were gathered before, or these are the same
-  pub adds : OnOk result (AddsRecord before.drive.geometry.block more.block gathered now)
+  pub adds : OnOk result (AddsRecord more.block gathered now)
   pub failed : OnErr result (now ≡ gathered)
   -- while the drive is clean, the contents are the same, and it is this record
   pub reads : IsTrue after.drive.clean → OnlyReads before after

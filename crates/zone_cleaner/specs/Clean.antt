@@ -1,10 +1,13 @@
 -- A clean: the live records of one zone, the victim, are moved to another, the destination; then the victim is emptied.
-use Rattle.std.specs.Prelude.{◌≡◌, ℕ, zero, suc, ◌+◌, ◌≤◌, max, true, List, [], ◌∷◌, count_by, drop, length, take, Option, Some, None}
+use Rattle.std.specs.Prelude.{◌≡◌, ℕ, zero, suc, ◌+◌, ◌≤◌, max, Bool, true, false, ◌&&◌, nat_lt, List, [], ◌∷◌, count_by, drop, length, slice_index_or, take, Option, Some, None}
 use Rattle.std.specs.Int.{div_ceil}
 use Rattle.std.specs.List.{AllByRecursion}
 use Rattle.batch_log.specs.declared.header.Entry.{Entry}
 use Rattle.batch_log.specs.Log.{Batch}
 use Rattle.logical_map.specs.Live.{lies_in, live}
+use Rattle.logical_map.specs.declared.place.Place.{Place}
+use Rattle.logical_map.specs.declared.place.Place.TheVariants as places
+use Rattle.zone_states.specs.declared.geometry.Geometry.{Geometry}
 use Rattle.zone_choice.specs.declared.roles.Filling.{Filling}
 use Rattle.zone_choice.specs.declared.roles.Second.{Second}
 use Rattle.zone_choice.specs.declared.roles.Second.TheVariants.{Destination, Next}
@@ -77,6 +80,22 @@ pub record AreMoves (block_bytes n : ℕ) (logs : List (List Batch)) (victim des
 -- with all records that are left, and a header for each Move, two blocks of the destination stay free
 abbrev pub HasRoomFor : ℕ → ℕ → ℕ → ℕ → Type 0
 HasRoomFor capacity most written records = written + max (moves_due written) (records + div_ceil records most) + 2 ≤ capacity
+
+-- by the tables, a Move of the gathered records may be sent to the destination
+pub record HasRoomForMove (geometry : Geometry) (tables : TablesView) (clean : CleanView) (destination : Filling) : Type 0 where
+  pub second : tables.roles.second ≡ Some (Destination destination)
+  pub some : 1 ≤ size_of tables
+  pub few : length clean.gathered ≤ batch_most geometry
+  pub room : destination.written + length clean.gathered + 1 ≤ geometry.capacity
+
+abbrev pub is_placed : Place → Bool
+is_placed places.None = false
+is_placed (places.Trimmed address) = true
+is_placed (places.At address) = true
+
+-- a block is the disk's, and is at some place
+abbrev pub has_place : TablesView → ℕ → Bool
+has_place tables block = nat_lt block (size_of tables) && is_placed (slice_index_or tables.map.places block places.None)
 
 -- a clean runs: its victim is sealed, and the second zone is its destination
 pub record IsClean (disk : MountedView) (clean : CleanView) : Type 0 where

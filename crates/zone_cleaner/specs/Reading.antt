@@ -24,21 +24,15 @@ pub record OnlyAsks (before after : MountedView) : Type 0 where
 abbrev pub AddsBlock : ℕ → List ℕ → List ℕ → Type 0
 AddsBlock block_bytes old new = (bytes : List ℕ) × (new ≡ old ++ bytes) × (length bytes ≡ block_bytes)
 
--- a record of this block comes after those that were gathered, a trim or with data as long as that of the drive's blocks
-abbrev pub AddsRecord : ℕ → ℕ → List LiveRecord → List LiveRecord → Type 0
-AddsRecord block_bytes block old new =
-    (content : Option (List ℕ)) × (new ≡ old ++ record { block = block; content = content } ∷ []) × IfSome content (λ bytes. length bytes ≡ block_bytes)
+-- a record of this block comes after those that were gathered
+abbrev pub AddsRecord : ℕ → List LiveRecord → List LiveRecord → Type 0
+AddsRecord block old new = (content : Option (List ℕ)) × (new ≡ old ++ record { block = block; content = content } ∷ [])
 
 -- tables and drive agree, and the newest record of a block is stored at this place
 pub record IsStoredAt (disk : MountedView) (block : ℕ) (at : Place) : Type 0 where
   pub agrees : Agrees disk
   pub in_range : block < size_of disk.tables
   pub place : at ≡ slice_index_or disk.tables.map.places block places.None
-
--- The block is above those that were gathered, whose data are as long as that of the drive's blocks.
-pub record MayGather (disk : MountedView) (block : ℕ) (gathered : List LiveRecord) : Type 0 where
-  pub above : AllByRecursion (λ (r : LiveRecord). r.block < block) gathered
-  pub whole : AreOfLength disk.drive.geometry.block (gathered_data gathered)
 
 -- the record of a block that is stored at a place
 abbrev pub live_record : MountedView → ℕ → Place → LiveRecord

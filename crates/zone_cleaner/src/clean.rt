@@ -1,21 +1,22 @@
-ghost use Rattle.std.specs.Prelude.{◌≡◌, ◌≤◌, ◌<◌, ◌+◌, ◌^◌, List, length, IfErr, IsTrue, OnOk, Some, true};
-ghost use Rattle.std.specs.List.{AllByRecursion};
+ghost use Rattle.std.specs.Prelude.{◌≡◌, ◌≤◌, ◌<◌, ◌+◌, ◌^◌, List, length, map, nat_eq, IfErr, IfNone, IfSome, IsTrue, OnOk, Some, true};
+ghost use Rattle.std.specs.List.{AllByRecursion, IsDistinct, list_all};
 ghost use Rattle.zone_states.specs.Geometry.{IsInRange};
-ghost use Rattle.zone_choice.specs.Roles.{is_sealed_at};
-ghost use Rattle.zone_choice.specs.Sane.{IsSane, KeepsShape};
-ghost use Rattle.zone_cleaner.specs.Clean.{forgotten, destination_written, started};
+ghost use Rattle.zone_choice.specs.Roles.{AreApart, is_sealed_at};
+ghost use Rattle.zone_choice.specs.Sane.{IsSane};
+ghost use Rattle.zone_cleaner.specs.Answering.{StaysSane};
+ghost use Rattle.zone_cleaner.specs.Clean.{HasRoomForMove, forgotten, destination_written, has_place, is_placed, started};
 ghost use Rattle.zone_cleaner.specs.LiveRecords.{LiveRecord};
+ghost use Rattle.zone_cleaner.specs.Reading.{OnlyAsks};
 ghost use Rattle.zone_cleaner.specs.Turns.{EmptiesVictim, IsAtStep, StepFails, StepLeaves, last_step, step_due};
 
 use crate::fault::CleanFault;
-use crate::gathered::{Gathered, MoveHeader, command_fault, fault_of};
+use crate::gathered::{Gathered, MoveHeader, command_fault};
 use crate::step::Step;
 use batch_log::Entry;
-use drive_port::{Device, Honest, reset};
+use drive_port::{Device, Geometry, reset};
 use logical_map::Place;
 use std::marker::Model;
-use zone_choice::honest::append_batch;
-use zone_choice::{Mounted, Second, batch_most};
+use zone_choice::{Filling, Mounted, Second, Tables, append_batch, batch_most};
 
 /// A clean that runs. It moves the live records of one zone, the victim, to another, and then
 /// empties the victim.
@@ -28,11 +29,15 @@ pub struct Clean {
 }
 
 impl Model for Clean {
+    ghost use Rattle.std.specs.Prelude.{◌<◌};
+    ghost use Rattle.std.specs.List.{AllByRecursion};
     ghost use Rattle.zone_cleaner.specs.Clean.{CleanView};
 
     ghost Value = { CleanView };
 
     ghost view = { λ c. record { victim = c.victim; cursor = c.cursor; gathered = c.gathered.records } };
+
+    ghost invariant = { λ c. AllByRecursion (λ r. r.block < c.cursor) c.gathered.records };
 }
 
 impl Clean {
@@ -62,61 +67,97 @@ impl Clean {
         self.gathered.forget(entries);
     }
 
+    /// The zone that the clean empties.
+    pub(crate) fn victim(&self) -> u32
+        ensures { result ≡ self.now.victim }
+    {
+        self.victim
+    }
+
     /// Gathers the record of a block. Its place is in the victim.
-    pub(crate) fn gather<D: Device + Honest>(
+    pub(crate) fn gather<D: Device>(
         &mut self,
         disk: &mut Mounted<D>,
         block: u32,
         place: Place,
     ) -> Result<(), CleanFault>
-        requires { IsAtStep (Step.Gather block place) disk.old self.old }
-        ensures leaves { StepLeaves (Step.Gather block place) disk.old self.old result disk.new
-            (Some self.new) }
-        ensures completed { disk.new.drive.completed ≤ disk.old.drive.completed + 1 }
+        requires next { self.old.cursor ≤ block }
+        requires few { block + 1 < 2 ^ 32 }
+        // While the drive is clean, this step is due, and it is done as such.
+        requires at { IsTrue disk.old.drive.clean → IsAtStep (Step.Gather block place) disk.old self.old }
+        ensures leaves { IsTrue disk.new.drive.clean
+            → StepLeaves (Step.Gather block place) disk.old self.old result disk.new (Some self.new) }
+        // Whatever the Read returned, the tables are the same. It completes one command at most.
+        ensures asks { OnlyAsks disk.old disk.new }
     {
-        let result = self.gathered.gather(disk, block, place);
-        disk.device.vouch();
-        if let Err(fault) = result {
+        if let Err(fault) = self.gathered.gather(disk, block, place) {
             return Err(fault);
         }
         self.cursor = block + 1;
         Ok(())
     }
 
+    /// The destination, if by the tables a Move of the gathered records may be sent to it.
+    fn destination(&self, tables: &Tables, geometry: &Geometry) -> Option<Filling>
+        requires { IsInRange geometry.now }
+        ensures some { IfSome result (HasRoomForMove geometry.now tables.now self.now) }
+        ensures none { IfNone result ((filling : Filling)
+            → HasRoomForMove geometry.now tables.now self.now filling → ⊥) }
+        ensures apart { AreApart tables.now.roles }
+        ensures distinct { IsDistinct nat_eq (map (λ r. r.block) self.now.gathered) }
+    {
+        let count = self.gathered.len();
+        let destination = tables.destination()?;
+        if tables.blocks() == 0 || count > batch_most(geometry) as usize {
+            return None;
+        }
+        if destination.written as usize + count + 1 > geometry.capacity as usize {
+            return None;
+        }
+        Some(destination)
+    }
+
     /// Appends a Move of the gathered records to the destination. All memory is allocated before
     /// the Append.
-    pub(crate) fn carry<D: Device + Honest>(
-        &mut self,
-        disk: &mut Mounted<D>,
-    ) -> Result<(), CleanFault>
-        requires { IsAtStep Step.Move disk.old self.old }
-        ensures leaves { StepLeaves Step.Move disk.old self.old result disk.new (Some self.new) }
+    pub(crate) fn carry<D: Device>(&mut self, disk: &mut Mounted<D>) -> Result<(), CleanFault>
+        requires sane { IsSane disk.old }
+        // While the drive is clean, this step is due, and it is done as such.
+        requires at { IsTrue disk.old.drive.clean → IsAtStep Step.Move disk.old self.old }
+        ensures leaves { IsTrue disk.new.drive.clean
+            → StepLeaves Step.Move disk.old self.old result disk.new (Some self.new) }
+        // Whatever the Reads returned, the numbers stay in range. It completes two commands at most.
+        ensures stays { StaysSane disk.old disk.new }
         ensures completed { disk.new.drive.completed ≤ disk.old.drive.completed + 2 }
     {
-        let Some(Second::Destination(destination)) = disk.tables.second() else {
-            unreachable!();
-        };
         let geometry = disk.geometry();
+        let Some(destination) = self.destination(&disk.tables, &geometry) else {
+            return Err(CleanFault::Damaged);
+        };
         let sequence = disk.tables.next();
         if sequence >= (1 << 63) - geometry.capacity as u64 {
             return Err(CleanFault::Spent);
         }
-        let size = disk.tables.blocks();
-        self.gathered.build(MoveHeader {
-            size,
+        let header = MoveHeader {
+            size: disk.tables.blocks(),
             sequence,
             source: self.victim,
             block_bytes: geometry.block,
-        })?;
+        };
+        if let Err(fault) = self.gathered.build(header) {
+            return Err(fault);
+        }
         disk.tables
             .reserve_moves(destination.zone, self.gathered.len() as u32)?;
         let batch = self.gathered.batch();
+        if !have_places(&disk.tables, batch.entries()) {
+            return Err(CleanFault::Damaged);
+        }
         match append_batch(disk, destination.zone, batch) {
             Ok(()) => {
                 self.gathered.clear();
                 Ok(())
             }
-            Err(halt) => Err(fault_of(halt)),
+            Err(fault) => Err(command_fault(fault)),
         }
     }
 
@@ -133,8 +174,7 @@ impl Clean {
         ensures err { IsTrue disk.new.drive.clean
             → IfErr result (λ fault. StepFails Step.Reset fault disk.old disk.new) }
         // Whatever the Reads returned, the numbers stay in range. It completes one command at most.
-        ensures sane { IsSane disk.new }
-        ensures stays { KeepsShape disk.old.drive disk.new.drive }
+        ensures stays { StaysSane disk.old disk.new }
         ensures completed { disk.new.drive.completed ≤ disk.old.drive.completed + 1 }
     {
         let start = disk.geometry().start_of(self.victim);
@@ -162,6 +202,28 @@ impl Clean {
         }
         last_step(disk.tables.second(), self.gathered.len())
     }
+}
+
+fn is_placed(place: Place) -> bool
+    ensures { result ≡ is_placed place }
+{
+    match place {
+        Place::None => false,
+        _ => true,
+    }
+}
+
+/// Whether each block of a Move has a place, as each that was gathered has while the drive is clean.
+fn have_places(tables: &Tables, entries: &[Entry]) -> bool
+    ensures { result ≡ list_all (λ e. has_place tables.now e.block) entries.now }
+{
+    let size = tables.blocks() as u64;
+    for entry in entries {
+        if entry.block >= size || !is_placed(tables.place_of(entry.block as u32)) {
+            return false;
+        }
+    }
+    true
 }
 
 /// What a clean does next when it has taken all records of its victim. If some are gathered, or no

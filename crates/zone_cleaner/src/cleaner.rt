@@ -1,10 +1,10 @@
-ghost use Rattle.std.specs.Prelude.{◌≡◌, ◌≤◌, ◌<◌, ◌+◌, ◌^◌, IsTrue, None, Some, is_some, length};
+ghost use Rattle.std.specs.Prelude.{◌≡◌, ◌≤◌, ◌<◌, ◌+◌, ◌*◌, ◌^◌, IsTrue, None, Some, is_some, length};
 ghost use Rattle.std.specs.List.{AllByRecursion};
 ghost use Rattle.std.specs.Option.{option_map};
 ghost use Rattle.zone_choice.specs.Builder.{IsBuilt};
 ghost use Rattle.zone_choice.specs.Changes.{CanPlace, built_for};
 ghost use Rattle.zone_choice.specs.Sane.{ByHalt, IsSane, KeepsShape, MayPlace, TablesAfter};
-ghost use Rattle.zone_cleaner.specs.Answering.{CleanAnswers, EndAnswers, TurnAnswers};
+ghost use Rattle.zone_cleaner.specs.Answering.{CleanAnswers, EndAnswers, StaysSane, TurnAnswers};
 ghost use Rattle.zone_cleaner.specs.Clean.{forgotten, started};
 ghost use Rattle.zone_cleaner.specs.Host.{HostLeaves};
 ghost use Rattle.zone_cleaner.specs.Start.{AgreesWithClean, FindsDue, LacksZones, TurnLeaves};
@@ -15,7 +15,7 @@ use crate::fault::CleanFault;
 use crate::gathered::Gathered;
 use crate::step::Step;
 use batch_log::Entry;
-use drive_port::{Device, Geometry, Honest, PortFault};
+use drive_port::{Device, Geometry, PortFault};
 use std::alloc::Global;
 use std::marker::Model;
 use std::mem::replace;
@@ -137,7 +137,8 @@ impl Cleaner {
         requires in_range { IsInRange disk.old.drive.geometry }
         requires zones { length disk.old.tables.roles.empty ≡ disk.old.tables.map.zones }
         // The drive never changes. Either the clean that is due has begun, or none is due and nothing changed.
-        ensures { TurnLeaves disk.old None (Ok tt) disk.new self.new }
+        ensures turn { TurnLeaves disk.old None (Ok tt) disk.new self.new }
+        ensures sane { IsSane disk.old → IsSane disk.new }
     {
         let geometry = disk.geometry();
         let Some(victim) = due(&disk.tables, &geometry) else {
@@ -166,22 +167,26 @@ impl Cleaner {
     }
 
     /// Does what one turn does.
-    fn step<D: Device + Honest>(&mut self, disk: &mut Mounted<D>) -> Result<(), CleanFault>
-        requires cleaned { AgreesWithClean disk.old self.old }
-        ensures leaves { TurnLeaves disk.old self.old result disk.new self.new }
+    fn step<D: Device>(&mut self, disk: &mut Mounted<D>) -> Result<(), CleanFault>
+        requires sane { IsSane disk.old }
+        requires cleaned { IsTrue disk.old.drive.clean → AgreesWithClean disk.old self.old }
+        ensures leaves { IsTrue disk.new.drive.clean
+            → TurnLeaves disk.old self.old result disk.new self.new }
+        ensures stays { StaysSane disk.old disk.new }
         ensures completed { disk.new.drive.completed ≤ disk.old.drive.completed + 2 }
     {
         let Some(clean) = &mut self.clean else {
             self.start(disk);
             return Ok(());
         };
+        if !disk.tables.is_sealed(clean.victim()) {
+            return Err(CleanFault::Damaged);
+        }
         match clean.next_step(disk) {
             Step::Gather(block, place) => clean.gather(disk, block, place),
             Step::Move => clean.carry(disk),
             Step::Reset => {
-                let result = clean.empty_victim(disk);
-                disk.device.vouch();
-                result?;
+                clean.empty_victim(disk)?;
                 self.end();
                 Ok(())
             }
@@ -193,26 +198,42 @@ impl Cleaner {
     ///
     /// After `OutOfMemory` and `Spent` the clean is as before the turn, and the next turn tries it
     /// again. At most two commands are completed.
-    pub fn turn<D: Device + Honest>(&mut self, disk: &mut Mounted<D>) -> Result<(), CleanFault>
-        requires cleaned { AgreesWithClean disk.old self.old }
-        ensures { TurnAnswers disk.old self.old result disk.new self.new }
+    pub fn turn<D: Device>(&mut self, disk: &mut Mounted<D>) -> Result<(), CleanFault>
+        requires sane { IsSane disk.old }
+        // While the drive is clean, tables, drive and clean agree, and a turn is taken.
+        requires cleaned { IsTrue disk.old.drive.clean → AgreesWithClean disk.old self.old }
+        ensures answers { IsTrue disk.new.drive.clean
+            → TurnAnswers disk.old self.old result disk.new self.new }
+        // Whatever the Reads returned, the numbers stay in range.
+        ensures stays { StaysSane disk.old disk.new }
+        ensures completed { disk.new.drive.completed ≤ disk.old.drive.completed + 2 }
     {
         self.step(disk)
     }
 
     /// Takes turns until the clean that runs has ended. Each completes two commands at most. Then the destination is
     /// the next zone, and has two free blocks.
-    pub fn run_to_end<D: Device + Honest>(
-        &mut self,
-        disk: &mut Mounted<D>,
-    ) -> Result<(), CleanFault>
-        requires cleaned { AgreesWithClean disk.old self.old }
-        ensures { EndAnswers disk.old self.old result disk.new self.new }
+    pub fn run_to_end<D: Device>(&mut self, disk: &mut Mounted<D>) -> Result<(), CleanFault>
+        requires sane { IsSane disk.old }
+        requires cleaned { IsTrue disk.old.drive.clean → AgreesWithClean disk.old self.old }
+        ensures answers { IsTrue disk.new.drive.clean
+            → EndAnswers disk.old self.old result disk.new self.new }
+        // Whatever the Reads returned, the numbers stay in range, and it ends.
+        ensures stays { StaysSane disk.old disk.new }
+        ensures completed { disk.new.drive.completed + 2
+            ≤ disk.old.drive.completed + 2 * disk.old.drive.geometry.capacity }
     {
-        while self.running() {
+        // A clean has fewer turns than a zone has blocks.
+        for _ in 1..disk.geometry().capacity {
+            if !self.running() {
+                return Ok(());
+            }
             if let Err(fault) = self.turn(disk) {
                 return Err(fault);
             }
+        }
+        if self.running() {
+            return Err(CleanFault::Damaged);
         }
         Ok(())
     }
@@ -220,13 +241,15 @@ impl Cleaner {
     /// Makes room at once, for a disk that has no host zone, no next zone, and at most one empty
     /// zone. The clean that runs is run to its end. If none runs, one is started before.
     /// Afterwards there is a next zone with two free blocks.
-    pub fn clean_zone<D: Device + Honest>(
-        &mut self,
-        disk: &mut Mounted<D>,
-    ) -> Result<(), CleanFault>
-        requires cleaned { AgreesWithClean disk.old self.old }
+    pub fn clean_zone<D: Device>(&mut self, disk: &mut Mounted<D>) -> Result<(), CleanFault>
+        requires sane { IsSane disk.old }
         requires lacks { LacksZones disk.old.tables.roles }
-        ensures { CleanAnswers disk.old self.old result disk.new self.new }
+        requires cleaned { IsTrue disk.old.drive.clean → AgreesWithClean disk.old self.old }
+        ensures answers { IsTrue disk.new.drive.clean
+            → CleanAnswers disk.old self.old result disk.new self.new }
+        ensures stays { StaysSane disk.old disk.new }
+        ensures completed { disk.new.drive.completed + 2
+            ≤ disk.old.drive.completed + 2 * disk.old.drive.geometry.capacity }
     {
         if self.running() {
             return self.run_to_end(disk);

@@ -1,6 +1,6 @@
-ghost use Rattle.std.specs.Prelude.{◌≡◌, ◌⊎◌, ◌≤◌, ◌<◌, ◌+◌, ◌++◌, ◌∷◌, ◌^◌, false, [], drop, length};
+ghost use Rattle.std.specs.Prelude.{◌≡◌, ◌⊎◌, ◌≤◌, ◌<◌, ◌+◌, ◌++◌, ◌∷◌, ◌^◌, false, [], drop, is_some, length, map, nat_eq};
 ghost use Rattle.std.specs.Prelude.{None, Some, IfErr, IfSome, IsTrue, OnOk, OnErr, slice_index_or};
-ghost use Rattle.std.specs.List.{AllByRecursion, concat};
+ghost use Rattle.std.specs.List.{AllByRecursion, IsDistinct, concat, list_any};
 ghost use Rattle.std.specs.Option.{option_map};
 ghost use Rattle.batch_log.specs.Header.{IsHeading};
 ghost use Rattle.zone_choice.specs.Agreement.{mounted_array};
@@ -10,9 +10,10 @@ ghost use Rattle.zone_cleaner.specs.Gathered.{AreOfLength, AreWithin, stored_byt
 ghost use Rattle.zone_cleaner.specs.Moving.{HoldsMove, headed_bytes, heading_for, move_with};
 ghost use Rattle.zone_cleaner.specs.LiveRecords.{gathered_data, trim_record, without_all, without_block};
 ghost use Rattle.zone_choice.specs.Changes.{IsHalt, fault_halt};
-ghost use Rattle.zone_cleaner.specs.Reading.{AddsBlock, IsGatherFault, IsStoredAt, MayGather, OnlyAsks, OnlyReads};
+ghost use Rattle.zone_cleaner.specs.Reading.{AddsBlock, IsGatherFault, IsStoredAt, OnlyAsks, OnlyReads};
 ghost use Rattle.zone_cleaner.specs.Reading.{data_record, live_record};
 ghost use Rattle.zone_cleaner.specs.Turns.{clean_fault};
+ghost use Rattle.zone_cleaner.specs.declared.fault.CleanFault.TheVariants.{OutOfMemory};
 
 use crate::fault::CleanFault;
 use batch_log::{Entry, Kind};
@@ -133,24 +134,31 @@ impl Gathered {
         }
     }
 
-    /// How many records there are.
+    /// How many records there are, of as many blocks.
     pub fn len(&self) -> usize
-        ensures { result ≡ length self.now.records }
+        ensures len { result ≡ length self.now.records }
+        ensures distinct { IsDistinct nat_eq (map (λ r. r.block) self.now.records) }
     {
         self.records.len()
     }
 
     /// Makes room for a header block of `block_bytes` bytes, the length of each block of data that is there.
-    fn make_room(&mut self, block_bytes: u32) -> Result<(), AllocError>
-        requires whole { AreOfLength block_bytes (gathered_data self.old.records) }
+    fn make_room(&mut self, block_bytes: u32) -> Result<(), CleanFault>
         ensures records { self.new.records ≡ self.old.records }
         ensures room { OnOk result (self.new.block_bytes ≡ block_bytes) }
+        // It is refused only for memory, unless some data has another length.
+        ensures err { AreOfLength block_bytes (gathered_data self.old.records)
+            → IfErr result (λ fault. fault ≡ OutOfMemory) }
     {
-        if self.block_bytes != block_bytes {
-            self.batch.make_room(block_bytes)?;
-            self.block_bytes = block_bytes;
-            self.gaps = false;
+        if self.block_bytes == block_bytes {
+            return Ok(());
         }
+        if has_data(&self.records) {
+            return Err(CleanFault::Damaged);
+        }
+        self.batch.make_room(block_bytes)?;
+        self.block_bytes = block_bytes;
+        self.gaps = false;
         Ok(())
     }
 
@@ -172,8 +180,10 @@ impl Gathered {
         block: u32,
         address: u64,
     ) -> Result<(), CleanFault>
-        requires may { MayGather disk.old block self.old.records }
+        requires above { AllByRecursion (λ r. r.block < block) self.old.records }
         requires stored { IsTrue disk.old.drive.clean → IsStoredAt disk.old block (Place.At address) }
+        requires whole { IsTrue disk.old.drive.clean
+            → AreOfLength disk.old.drive.geometry.block (gathered_data self.old.records) }
         ensures { GatherAnswers disk.old self.old.records (data_record disk.old block) result
             disk.new self.new.records }
     {
@@ -195,8 +205,10 @@ impl Gathered {
         block: u32,
         place: Place,
     ) -> Result<(), CleanFault>
-        requires may { MayGather disk.old block self.old.records }
+        requires above { AllByRecursion (λ r. r.block < block) self.old.records }
         requires stored { IsTrue disk.old.drive.clean → IsStoredAt disk.old block place }
+        requires whole { IsTrue disk.old.drive.clean
+            → AreOfLength disk.old.drive.geometry.block (gathered_data self.old.records) }
         ensures { GatherAnswers disk.old self.old.records (live_record disk.old block place) result
             disk.new self.new.records }
     {
@@ -237,25 +249,30 @@ impl Gathered {
     }
 
     /// Builds the Move of the records. After that its Append allocates nothing for them.
-    pub fn build(&mut self, header: MoveHeader) -> Result<(), AllocError>
-        // One header block can name all the records, and each record's data is a whole block.
+    pub fn build(&mut self, header: MoveHeader) -> Result<(), CleanFault>
+        // One header block can name all the records.
         requires block { (header.block_bytes ≡ 512) ⊎ (header.block_bytes ≡ 4096) }
         requires heading { IsHeading header.block_bytes
             (move_with header self.old.records).heading }
         requires few { AllByRecursion (λ r. r.block + 1 < 2 ^ 32) self.old.records }
-        requires whole { AreOfLength header.block_bytes (gathered_data self.old.records) }
-        // The records never change. Done, the Move is built: its header block, and after it their data.
+        // The records never change. Done, the Move is built: its header block, and after it their data, whole blocks.
         ensures records { self.new.records ≡ self.old.records }
         ensures built { OnOk result
             (HoldsMove self.new.batch header.block_bytes (move_with header self.old.records)) }
+        ensures whole { OnOk result (AreOfLength header.block_bytes (gathered_data self.old.records)) }
+        // It is refused only for memory, unless some data has another length.
+        ensures err { AreOfLength header.block_bytes (gathered_data self.old.records)
+            → IfErr result (λ fault. fault ≡ OutOfMemory) }
     {
         self.make_room(header.block_bytes)?;
         if self.gaps {
             let bytes = self.batch.bytes();
             pack(&self.records, bytes, header.block_bytes, &mut self.packed)?;
-            return head_move(&self.records, &mut self.packed, header);
+            head_move(&self.records, &mut self.packed, header)?;
+            return Ok(());
         }
-        head_move(&self.records, &mut self.batch, header)
+        head_move(&self.records, &mut self.batch, header)?;
+        Ok(())
     }
 
     /// The Move that was built.
@@ -267,6 +284,18 @@ impl Gathered {
         }
         &self.batch
     }
+}
+
+/// Whether one of the records has data.
+fn has_data(records: &IndexMap<u32, Option<usize>>) -> bool
+    ensures { result ≡ list_any (λ b. is_some b.1) records.now.entries }
+{
+    for position in records.values() {
+        if position.is_some() {
+            return true;
+        }
+    }
+    false
 }
 
 /// Makes another batch: room for a header block, and then the data of the records.

@@ -3,10 +3,12 @@
 ghost use Rattle.std.specs.Prelude.{◌≡◌, ◌≤◌, ◌+◌, Some};
 ghost use Rattle.zone_choice.specs.Builder.{IsBuilt};
 ghost use Rattle.zone_choice.specs.Changes.{CanPlace, built_for};
+ghost use Rattle.zone_cleaner.specs.Answering.{CleanAnswers, TurnAnswers};
 ghost use Rattle.zone_cleaner.specs.Host.{HostLeaves};
-ghost use Rattle.zone_cleaner.specs.Start.{AgreesWithClean};
+ghost use Rattle.zone_cleaner.specs.Start.{AgreesWithClean, LacksZones};
 
 use crate::cleaner::Cleaner;
+use crate::fault::CleanFault;
 use drive_port::{Device, Halt, Honest};
 use zone_choice::{BatchBuilder, Filling, Mounted, halt_of};
 
@@ -35,4 +37,31 @@ pub fn append_batch<D: Device + Honest>(
         return Err(halt_of(fault));
     }
     Ok(())
+}
+
+/// Takes one turn, as `Cleaner::turn` does.
+pub fn turn<D: Device + Honest>(
+    cleaner: &mut Cleaner,
+    disk: &mut Mounted<D>,
+) -> Result<(), CleanFault>
+    requires cleaned { AgreesWithClean disk.old cleaner.old }
+    ensures { TurnAnswers disk.old cleaner.old result disk.new cleaner.new }
+{
+    let result = cleaner.turn(disk);
+    disk.device.vouch();
+    result
+}
+
+/// Makes room at once, as `Cleaner::clean_zone` does.
+pub fn clean_zone<D: Device + Honest>(
+    cleaner: &mut Cleaner,
+    disk: &mut Mounted<D>,
+) -> Result<(), CleanFault>
+    requires cleaned { AgreesWithClean disk.old cleaner.old }
+    requires lacks { LacksZones disk.old.tables.roles }
+    ensures { CleanAnswers disk.old cleaner.old result disk.new cleaner.new }
+{
+    let result = cleaner.clean_zone(disk);
+    disk.device.vouch();
+    result
 }

@@ -44,6 +44,7 @@ use std::alloc::Global;
 use std::marker::Model;
 use zone_choice::{BatchBuilder, Mounted, most_blocks};
 use zone_cleaner::Cleaner;
+use zone_cleaner::honest::turn;
 
 /// An array of logical blocks above a zoned drive. A disk owns its drive, and gives it back.
 #[derive(Drop)]
@@ -583,7 +584,7 @@ impl<D: Device + Honest + Drop> Disk<D> {
         ensures completed { CompletesAtMost self.old 2 self.new }
     {
         self.check_serving()?;
-        match self.cleaner.turn(&mut self.mounted) {
+        match turn(&mut self.cleaner, &mut self.mounted) {
             Ok(()) => Ok(()),
             Err(cause) => {
                 let fault = DiskFault::from(cause);

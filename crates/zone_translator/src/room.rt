@@ -8,6 +8,7 @@ use crate::fault::DiskFault;
 use drive_port::{Device, Halt, Honest, finish};
 use zone_choice::{Filling, Mounted, halt_of};
 use zone_cleaner::Cleaner;
+use zone_cleaner::honest::clean_zone;
 
 /// What a halt of the drive is to a disk.
 pub(crate) fn fault_of(halt: Halt) -> DiskFault
@@ -90,7 +91,7 @@ fn find_host<D: Device + Honest>(
     if let Some(host) = take(disk) {
         return Ok(host);
     }
-    if let Err(fault) = cleaner.clean_zone(disk) {
+    if let Err(fault) = clean_zone(cleaner, disk) {
         return Err(DiskFault::from(fault));
     }
     match take(disk) {

@@ -15,11 +15,12 @@ returns-in-Err-clause-err g c = λ clean.
     let halts = reset_fails old _ c.disk.inside.tables c.args.self.now _ c.in-Err.fault at.agrees at.clean_is due (rw (c.start_of-start.ensures, c.geometry.ensures, ← c.disk.view_is, ← c.self.view_is) refl) e.gives e.kept e.leaves e.obeys e.taken in
     rw (c.command_fault.ensures halts.halt, ← c.disk.view_is) halts.fails
 
-pub returns-in-Err-clause-sane : goal.returns-in-Err-clause-sane
-returns-in-Err-clause-sane g c = sane-same (g.D.Device.drive c.disk.inside.device) _ c.disk.inside.tables c.reset.ensures.obeys.geometry (rw (← c.disk.view_is) at c.requires.sane)
-
 pub returns-in-Err-clause-stays : goal.returns-in-Err-clause-stays
-returns-in-Err-clause-stays g c = rw (← c.disk.view_is) (record { geometry = c.reset.ensures.obeys.geometry; trusted = c.reset.ensures.obeys.trusted })
+returns-in-Err-clause-stays g c = record {
+  shape = rw (← c.disk.view_is) (record { geometry = c.reset.ensures.obeys.geometry; trusted = c.reset.ensures.obeys.trusted });
+  sane = sane-same (g.D.Device.drive c.disk.inside.device) _ c.disk.inside.tables c.reset.ensures.obeys.geometry (rw (← c.disk.view_is) at c.requires.sane);
+  host = rw (← c.disk.view_is) (λ none. none);
+}
 
 pub returns-clause-ok : goal.returns-clause-ok
 returns-clause-ok g c = λ clean.
@@ -29,8 +30,9 @@ returns-clause-ok g c = λ clean.
     let e = c.in_default.ensures in
     rw (← c.disk.view_is) (reset_done old _ c.disk.inside.tables c.end_clean.new.self c.args.self.now _ at.agrees at.clean_is due (rw (c.start_of-start.ensures, c.geometry.ensures, ← c.disk.view_is, ← c.self.view_is) refl) e.reset e.leaves e.obeys.lawful e.obeys.durable (rw (← c.self.view_is) c.end_clean.ensures))
 
-pub returns-clause-sane : goal.returns-clause-sane
-returns-clause-sane g c = rw c.end_clean.ensures (sane-ended (g.D.Device.drive c.disk.inside.device) _ c.disk.inside.tables _ c.reset.ensures.obeys.geometry (rw (← c.disk.view_is) at c.requires.sane))
-
 pub returns-clause-stays : goal.returns-clause-stays
-returns-clause-stays g c = rw (← c.disk.view_is) (record { geometry = c.reset.ensures.obeys.geometry; trusted = c.reset.ensures.obeys.trusted })
+returns-clause-stays g c = record {
+  shape = rw (← c.disk.view_is) (record { geometry = c.reset.ensures.obeys.geometry; trusted = c.reset.ensures.obeys.trusted });
+  sane = rw c.end_clean.ensures (sane-ended (g.D.Device.drive c.disk.inside.device) _ c.disk.inside.tables _ c.reset.ensures.obeys.geometry (rw (← c.disk.view_is) at c.requires.sane));
+  host = rw (← c.disk.view_is, c.end_clean.ensures) (λ none. none);
+}

@@ -12,7 +12,7 @@ invariant_of-self-2 g c =
     let at = ap length c.bytes-position.ensures in
     let more = c.in_ok-fetch.ensures.adds in
     let longer : length c.fetch.new.batch.bytes ≡ length s.batch.bytes + s.block_bytes = omega (arith, ap length more.1, length-append s.batch.bytes more.0, more.2, size) in
-    let a = adds-data s.block_bytes c.args.block (length c.bytes-position.result.now) s.records.entries c.insert.new.self.entries s.batch.bytes more.0 c.fetch.new.batch.bytes c.self.invariant.0 c.self.invariant.1 (rw (← same) at c.requires.may.above) at entries more.1 longer in
+    let a = adds-data s.block_bytes c.args.block (length c.bytes-position.result.now) s.records.entries c.insert.new.self.entries s.batch.bytes more.0 c.fetch.new.batch.bytes c.self.invariant.0 c.self.invariant.1 (rw (← same) at c.requires.above) at entries more.1 longer in
     (omega (arith, longer, c.self.invariant.0), a.within, λ none. a.order (c.self.invariant.2 none))
 
 pub returns : goal.returns
@@ -22,12 +22,12 @@ returns g c =
     let size = ap (λ v. v.block_bytes) c.self.view_is ∙ c.in_ok-make_room.ensures.room ∙ ap (λ v. v.block) c.geometry-block_bytes.ensures in
     let entries = rw c.reserve.ensures.entries at (on-ok c.insert.result (c.insert.ensures.succeeds (omega (arith, c.in_ok-reserve.ensures.ok))) c.insert.ensures.entries) in
     let at = ap length c.bytes-position.ensures in
-    let above = rw (← same) at c.requires.may.above in
+    let above = rw (← same) at c.requires.above in
     let more = c.in_ok-fetch.ensures.adds in
     let longer : length c.fetch.new.batch.bytes ≡ length s.batch.bytes + s.block_bytes = omega (arith, ap length more.1, length-append s.batch.bytes more.0, more.2, size) in
     record {
       asks = c.fetch.ensures.asks;
-      adds = (Some more.0, rw (← same) (adds-data s.block_bytes c.args.block (length c.bytes-position.result.now) s.records.entries c.insert.new.self.entries s.batch.bytes more.0 c.fetch.new.batch.bytes c.self.invariant.0 c.self.invariant.1 above at entries more.1 longer).shows, more.2);
+      adds = (Some more.0, rw (← same) (adds-data s.block_bytes c.args.block (length c.bytes-position.result.now) s.records.entries c.insert.new.self.entries s.batch.bytes more.0 c.fetch.new.batch.bytes c.self.invariant.0 c.self.invariant.1 above at entries more.1 longer).shows);
       failed = tt;
       reads = c.fetch.ensures.reads;
       ok = λ clean. rw (← same) (adds-data s.block_bytes c.args.block (length c.bytes-position.result.now) s.records.entries c.insert.new.self.entries s.batch.bytes _ c.fetch.new.batch.bytes c.self.invariant.0 c.self.invariant.1 above at entries (c.in_ok-fetch.ensures.ok clean) longer).shows;

@@ -8,23 +8,23 @@ use Rattle.zone_translator.proofs.disk.Disk.idle.Goals as goal
 pub invariant_of-self : goal.invariant_of-self
 invariant_of-self g c =
     let cleaning = c.in-Ok.ensures.cleaning in
-    rw (rw (← c.self.view_is) at c.in_ok-check_serving.ensures.serving) (holds-serving c.turn.new.disk c.turn.new.self (reserve-kept c.self.inside.mounted c.turn.new.disk cleaning.keeps.geometry cleaning.keeps.given c.self.invariant.reserve) cleaning.goes_on)
+    rw (rw (← c.self.view_is) at c.in_ok-check_serving.ensures.serving) (holds-serving c.turn.new.disk c.turn.new.cleaner (reserve-kept c.self.inside.mounted c.turn.new.disk cleaning.keeps.geometry cleaning.keeps.given c.self.invariant.reserve) cleaning.goes_on)
 
 pub invariant_of-self-in-Err : goal.invariant_of-self-in-Err
 invariant_of-self-in-Err g c =
     let serves = holds-agrees c.self.inside.mounted c.self.inside.cleaner c.self.inside.status (rw (← c.self.view_is) at c.in_ok-check_serving.ensures.serving) c.self.invariant in
     let cleaning = c.in-Err.ensures.cleaning in
-    rw (c.status_of-self-inside.ensures, c.from-fault.ensures) (refused-turn c.self.inside.mounted c.turn.new.disk c.self.inside.cleaner c.turn.new.self c.in-Err.cause c.self.inside.status c.self.invariant.reserve serves cleaning.keeps cleaning.goes_on cleaning.cause).holds
+    rw (c.status_of-self-inside.ensures, c.from-fault.ensures) (refused-turn c.self.inside.mounted c.turn.new.disk c.self.inside.cleaner c.turn.new.cleaner c.in-Err.cause c.self.inside.status c.self.invariant.reserve serves cleaning.keeps cleaning.goes_on cleaning.cause).holds
 
 pub returns-in-Ok-clause-answers : goal.returns-in-Ok-clause-answers
 returns-in-Ok-clause-answers g c =
     let serving = c.in_ok-check_serving.ensures.serving in
     let keeps = c.in-Ok.ensures.cleaning.keeps in
-    let new = view_of c.turn.new.disk c.turn.new.self c.self.inside.status in
+    let new = view_of c.turn.new.disk c.turn.new.cleaner c.self.inside.status in
     record {
       flat = idle-done c.args.self.now new serving (rw (← c.self.view_is) keeps.array) (rw (← c.self.view_is) keeps.size) (rw (← c.self.view_is) refl) (rw (← c.self.view_is) keeps.geometry);
       untouched = idle-unknown c.args.self.now new serving;
-      kept = rw (← c.self.view_is) (cleaned-disk c.self.inside.mounted c.turn.new.disk c.self.inside.cleaner c.turn.new.self c.self.inside.status c.self.inside.status (λ e. e) (below-next c.turn.new.disk c.turn.new.self c.self.inside.status c.in-Ok.ensures.cleaning.goes_on) keeps).kept;
+      kept = rw (← c.self.view_is) (cleaned-disk c.self.inside.mounted c.turn.new.disk c.self.inside.cleaner c.turn.new.cleaner c.self.inside.status c.self.inside.status (λ e. e) (below-next c.turn.new.disk c.turn.new.cleaner c.self.inside.status c.in-Ok.ensures.cleaning.goes_on) keeps).kept;
       durable = rw (← c.self.view_is) keeps.durable;
       cause = tt;
     }
@@ -40,12 +40,12 @@ returns-in-Err-clause-answers g c =
     let serves = holds-agrees c.self.inside.mounted c.self.inside.cleaner c.self.inside.status (rw (← c.self.view_is) at serving) c.self.invariant in
     let cleaning = c.in-Err.ensures.cleaning in
     let keeps = cleaning.keeps in
-    let new = view_of c.turn.new.disk c.turn.new.self c.status_of-self-inside.result in
+    let new = view_of c.turn.new.disk c.turn.new.cleaner c.status_of-self-inside.result in
     let cause : IsCause c.turn.new.disk.drive c.turn.new.disk.tables.next c.from-fault.result = rw c.from-fault.ensures (clean_cause c.turn.new.disk.drive c.turn.new.disk.tables.next c.in-Err.cause cleaning.cause) in
     record {
       flat = idle-refused c.args.self.now new c.from-fault.result serving (rw (← c.self.view_is) keeps.array) (rw (← c.self.view_is) keeps.size) c.status_of-self-inside.ensures (rw (← c.self.view_is) keeps.geometry) cause;
       untouched = idle-unknown c.args.self.now new serving;
-      kept = rw (← c.self.view_is, c.status_of-self-inside.ensures, c.from-fault.ensures) (refused-turn c.self.inside.mounted c.turn.new.disk c.self.inside.cleaner c.turn.new.self c.in-Err.cause c.self.inside.status c.self.invariant.reserve serves keeps cleaning.goes_on cleaning.cause).kept.kept;
+      kept = rw (← c.self.view_is, c.status_of-self-inside.ensures, c.from-fault.ensures) (refused-turn c.self.inside.mounted c.turn.new.disk c.self.inside.cleaner c.turn.new.cleaner c.in-Err.cause c.self.inside.status c.self.invariant.reserve serves keeps cleaning.goes_on cleaning.cause).kept.kept;
       durable = rw (← c.self.view_is) keeps.durable;
       cause = cause-of new c.from-fault.result cause;
     }
@@ -56,5 +56,5 @@ returns-in-Err-clause-turn g c =
     record {
       turn = rw (← c.self.view_is) (λ serving. (c.in-Err.cause, c.from-fault.ensures, lost.leaves));
       turns = λ serving. tt;
-      refused = rw (← c.self.view_is) (turns-back c.self.inside.mounted c.turn.new.disk c.self.inside.cleaner c.turn.new.self c.self.inside.status c.status_of-self-inside.result lost.cleaning.keeps.geometry lost.refused);
+      refused = rw (← c.self.view_is) (turns-back c.self.inside.mounted c.turn.new.disk c.self.inside.cleaner c.turn.new.cleaner c.self.inside.status c.status_of-self-inside.result lost.cleaning.keeps.geometry lost.refused);
     }
