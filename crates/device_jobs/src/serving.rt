@@ -11,7 +11,8 @@ use crate::hardening::{HardenFault, harden_by};
 use drive_port::{Device, Honest};
 use job_drives::KeepFault;
 use nbd_jobs::{
-    BUFFER, Ended, Kept, NbdFault, NbdJob, SessionTold, are_sent, sent_end, serve_stopping,
+    Ended, Kept, NbdFault, NbdJob, REPLIES, REQUESTS, SessionTold, are_sent, sent_end,
+    serve_stopping,
 };
 use nbd_session::{Client, Medium};
 use std::alloc::Global;
@@ -120,8 +121,8 @@ pub fn serve_client<D: Device + Honest + Drop, M: Medium + Drop, R: Read + Drop,
     output: &mut W,
 ) -> Served {
     let (Ok(mut reader), Ok(mut writer)) = (
-        BufReader::with_capacity(alloc, BUFFER, input),
-        BufWriter::with_capacity(alloc, BUFFER, output),
+        BufReader::with_capacity(alloc, REQUESTS, input),
+        BufWriter::with_capacity(alloc, REPLIES, output),
     ) else {
         return Served {
             told: SessionTold::unserved(NbdFault::File(KeepFault::Memory)),

@@ -64,7 +64,7 @@ mod serving;
 pub use done::{SessionDone, SessionTold};
 pub use explanation::{explain, failed_note, forgotten_note};
 pub use fault::NbdFault;
-pub use file::{BUFFER, are_sent, do_nbd_job};
+pub use file::{REPLIES, REQUESTS, are_sent, do_nbd_job};
 pub use forgetting::{CACHE_BYTES, Forgotten};
 pub use job::{Fail, Forget, NbdJob};
 pub use saving::sent_end;

@@ -22,8 +22,8 @@ pub enum Aim {
     Share(u32),
     /// This number.
     Blocks(u64),
-    /// For random writes of 1, 8 and 64 blocks each the greatest number that keeps the write amplification, which
-    /// is in hundredths. If no number keeps it, it has no row.
+    /// For random writes of 1, 4, 16 and 64 blocks together the greatest number that keeps the write amplification,
+    /// which is in hundredths. If no number keeps it, it has no row.
     Amplification(u32),
 }
 
@@ -40,7 +40,7 @@ fn share_rows(alloc: Global, geometry: &Geometry) -> Result<Vec<Row>, AllocError
     Ok(rows)
 }
 
-/// Whether random writes of `write` blocks keep a write amplification.
+/// Whether random writes of `write` blocks together keep a write amplification.
 fn keeps(geometry: &Geometry, blocks: u64, write: u32, hundredths: u32) -> bool
     requires in_range { IsInRange geometry.now }
     requires fits { FitsReserve geometry.now blocks }

@@ -17,10 +17,10 @@ use drive_array::batch_most;
 use std::num::{saturating_f64_to_u32, saturating_f64_to_u64};
 use zone_states::Geometry;
 
-/// How many blocks the random writes have for which a row has an estimate.
-pub const WRITES: [u32; 3] = [1, 8, 64];
+/// How many blocks at random places are written together, for which a row has an estimate.
+pub const WRITES: [u32; 4] = [1, 4, 16, 64];
 
-/// What random writes of one length are expected to cost, long after the drive was filled.
+/// What random writes of so many blocks are expected to cost, long after the drive was filled.
 #[derive(Clone, Copy, Debug, PartialEq, Eq)]
 pub struct Estimate {
     /// Blocks that are appended for each block of the host, in hundredths.
@@ -90,7 +90,8 @@ fn settled(batch_most: u32, data_share: f64, rho: f64) -> Filling {
     zone_with(low, batch_most, data_share)
 }
 
-/// The estimate for random writes of `write` blocks each to a drive with that many logical blocks.
+/// The estimate for random writes to a drive with that many logical blocks. `write` blocks are written together: by one
+/// write, or by writes of single blocks that are one batch.
 pub fn expected(geometry: &Geometry, blocks: u64, write: u32) -> Estimate
     requires in_range { IsInRange geometry.now }
     requires fits { FitsReserve geometry.now blocks }

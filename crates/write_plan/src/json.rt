@@ -7,7 +7,7 @@ use serde_json::{Value, json};
 use std::alloc::{AllocError, Global};
 use zone_states::Geometry;
 
-/// What random writes of one length are expected to cost.
+/// What random writes of so many blocks together are expected to cost.
 fn estimate_json(alloc: Global, write: u32, estimate: &Estimate) -> Result<Value, AllocError> {
     let amplification = f64::from(estimate.amplification) / 100.0;
     json!(in alloc; {

@@ -33,8 +33,8 @@ struct Pen {
     top: u32,
 }
 
-/// The pens of the three lengths of writes.
-const PENS: [Pen; 3] = [
+/// The pens of the curves.
+const PENS: [Pen; 4] = [
     Pen {
         colour: "#8c2d04",
         dashes: "none",
@@ -49,6 +49,11 @@ const PENS: [Pen; 3] = [
         colour: "#005a32",
         dashes: "2 3",
         top: 90,
+    },
+    Pen {
+        colour: "#54278f",
+        dashes: "9 3 2 3",
+        top: 110,
     },
 ];
 
@@ -130,10 +135,15 @@ fn write_name(text: &mut String, write: u32, pen: &Pen) -> Result<(), AllocError
         "<path d=\"M75 {y}h50\" stroke=\"{}\" stroke-width=\"2\" stroke-dasharray=\"{}\"/>",
         pen.colour, pen.dashes
     )?;
-    let blocks = if write == 1 { "block" } else { "blocks" };
+    if write == 1 {
+        return writeln!(
+            text,
+            "<text x=\"133\" y=\"{y}\" dy=\"4\">random writes of 1 block</text>"
+        );
+    }
     writeln!(
         text,
-        "<text x=\"133\" y=\"{y}\" dy=\"4\">random writes of {write} {blocks}</text>"
+        "<text x=\"133\" y=\"{y}\" dy=\"4\">random writes, {write} blocks together</text>"
     )
 }
 
@@ -152,7 +162,7 @@ fn write_frame(text: &mut String) -> Result<(), AllocError> {
 }
 
 /// The write amplification of random writes by the share of the greatest number of logical blocks, as a plot: an SVG
-/// file of one curve for each length of writes.
+/// file of one curve for each number of blocks together.
 pub fn plan_svg(alloc: Global, geometry: &Geometry) -> Result<String, AllocError>
     requires { IsInRange geometry.now }
 {

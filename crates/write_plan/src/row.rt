@@ -20,8 +20,8 @@ pub struct Row {
     pub memory: u64,
     /// How many Reads a mount sends at least once each block was written.
     pub least_reads: u64,
-    /// What random writes of 1, 8 and 64 blocks are expected to cost.
-    pub estimates: [Estimate; 3],
+    /// What random writes are expected to cost, of 1, 4, 16 and 64 blocks together.
+    pub estimates: [Estimate; 4],
 }
 
 /// That many percent of the greatest number of logical blocks, and one at least.

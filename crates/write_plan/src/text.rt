@@ -15,7 +15,7 @@ fn write_amplification(text: &mut String, estimate: &Estimate) -> Result<(), All
 }
 
 /// Adds the amplifications, and then the Reads.
-fn write_estimates(text: &mut String, estimates: &[Estimate; 3]) -> Result<(), AllocError> {
+fn write_estimates(text: &mut String, estimates: &[Estimate; 4]) -> Result<(), AllocError> {
     for estimate in estimates {
         write_amplification(text, estimate)?;
     }
@@ -77,11 +77,13 @@ pub fn plan_text(alloc: Global, geometry: &Geometry, rows: &[Row]) -> Result<Str
         "{zones} zones of {capacity} blocks of {block} bytes, {batch} entries a batch, {most} blocks at most"
     )?;
     text.push_str(
-        "                                                  reads  write amplification, writes of",
+        "                                                  reads      write amplification, blocks together",
     )?;
-    text.push_str("     reads of a full drive, writes of\n")?;
+    text.push_str("      reads of a full drive, blocks together\n")?;
     text.push_str("percent      blocks          bytes      memory    at least")?;
-    text.push_str("         1         8        64          1          8         64\n")?;
+    text.push_str(
+        "         1         4        16        64          1          4         16         64\n",
+    )?;
     for row in rows {
         write_row(&mut text, row)?;
     }
