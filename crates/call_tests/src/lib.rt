@@ -1,6 +1,6 @@
-//! Tests of what only a call can show: readers and writers that fail, files that stop and lose power, devices above a
-//! way, drives that lie, command lines and the files that they leave, counts and places. The rows of `worked_runs`,
-//! `nbd_rows` and `tool_rows` show the rest.
+//! Tests of what only a call can show: stores that fail, files that stop and lose power, devices above a way, drives
+//! that lie, counts and places. `job_tests` has those of the program's jobs. The rows of `worked_runs`, `nbd_rows` and
+//! `tool_rows` show the rest.
 //!
 //! They are in a crate of their own, since a crate with tests is proved twice: each library is proved once, and its
 //! tests load it. Here is nothing but tests, and what they need.
@@ -27,15 +27,9 @@ mod drives_in_files;
 #[cfg(test)]
 mod failing;
 #[cfg(test)]
-mod fakes;
-#[cfg(test)]
 mod first_looks;
 #[cfg(test)]
 mod halting;
-#[cfg(test)]
-mod images;
-#[cfg(test)]
-mod jobs;
 #[cfg(test)]
 mod journal;
 #[cfg(test)]
@@ -47,19 +41,9 @@ mod places;
 #[cfg(test)]
 mod reads_ahead;
 #[cfg(test)]
-mod repairs;
-#[cfg(test)]
-mod rescues;
-#[cfg(test)]
-mod runs;
-#[cfg(test)]
 mod shown_zones;
 #[cfg(test)]
 mod small_drives;
-#[cfg(test)]
-mod texts;
-#[cfg(test)]
-mod tools;
 #[cfg(test)]
 mod unsent;
 #[cfg(test)]

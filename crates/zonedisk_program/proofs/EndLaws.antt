@@ -5,8 +5,8 @@ use Rattle.std.specs.Prelude.{IfOk, OnErr, OnOk, Option, Some, None, Result, Ok,
 use Rattle.std.specs.Io.KnownBytes.{Appends, Keeps}
 use Rattle.std.specs.Process.{exit_status}
 use Rattle.std.specs.declared.process.ExitCode.{ExitCode}
-use Rattle.zonedisk_program.specs.declared.task.Task.{Task}
-use Rattle.zonedisk_program.specs.declared.task.Task.TheVariants as tasks
+use Rattle.asked_tasks.specs.declared.task.Task.{Task}
+use Rattle.asked_tasks.specs.declared.task.Task.TheVariants as tasks
 use Rattle.device_jobs.specs.declared.job.DeviceJob.{DeviceJob}
 use Rattle.disk_files.specs.Output.{AppendsFront}
 use Rattle.drive_inspection.specs.declared.finding.Findings.{Findings}

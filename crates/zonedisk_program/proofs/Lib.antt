@@ -1,5 +1,1 @@
-pub mod CommandLaws
-pub mod WordLaws
-pub mod ToolLaws
-pub mod DeviceLaws
 mod EndLaws

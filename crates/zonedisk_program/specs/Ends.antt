@@ -2,8 +2,8 @@
 use Rattle.std.specs.Prelude.{◌≡◌, ◌⊎◌, ◌&&◌, Bool, true, false, Option, Some, None, Result, Ok, Err, codes, is_none, is_some, ⊤}
 use Rattle.std.specs.Io.KnownBytes.{Appends}
 use Rattle.std.specs.Process.{exit_status}
-use Rattle.zonedisk_program.specs.declared.task.Task.{Task}
-use Rattle.zonedisk_program.specs.declared.task.Task.TheVariants.{Convert, Device}
+use Rattle.asked_tasks.specs.declared.task.Task.{Task}
+use Rattle.asked_tasks.specs.declared.task.Task.TheVariants.{Convert, Device}
 use Rattle.disk_files.specs.Output.{AppendsFront}
 use Rattle.disk_runs.specs.Run.{Known}
 use Rattle.nbd_jobs.specs.declared.fault.NbdFault.{NbdFault}

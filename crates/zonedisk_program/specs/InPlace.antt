@@ -14,8 +14,8 @@ use Rattle.tool_jobs.specs.declared.showing.ZonesForm.{ZonesForm}
 use Rattle.tool_jobs.specs.declared.showing.ZonesForm.TheVariants as forms
 use Rattle.device_jobs.specs.declared.job.DeviceJob.{DeviceJob}
 use Rattle.device_jobs.specs.declared.job.DeviceJob.TheVariants as jobs
-use Rattle.zonedisk_program.specs.declared.task.Task.{Task}
-use Rattle.zonedisk_program.specs.declared.task.Task.TheVariants as tasks
+use Rattle.asked_tasks.specs.declared.task.Task.{Task}
+use Rattle.asked_tasks.specs.declared.task.Task.TheVariants as tasks
 
 -- Which lines of a trace are taken, by whether it only reads, and whether it is synced. One that only reads is never synced.
 abbrev pub taking_of : Bool → Bool → Taking

@@ -1,9 +1,2 @@
-pub mod Program
-pub mod Words
-pub mod Values
-pub mod ToolWords
-pub mod EntryWords
-pub mod DriveWords
-pub mod DeviceWords
 pub mod InPlace
 pub mod Ends

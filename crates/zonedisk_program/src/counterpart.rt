@@ -2,12 +2,12 @@
 
 ghost use Rattle.std.specs.Prelude.{◌≡◌, IfErr, IfOk, None, Some};
 ghost use Rattle.device_jobs.specs.declared.job.DeviceJob.TheVariants as jobs;
-ghost use Rattle.zonedisk_program.specs.declared.task.Task.TheVariants as tasks;
+ghost use Rattle.asked_tasks.specs.declared.task.Task.TheVariants as tasks;
 ghost use Rattle.tool_jobs.specs.declared.job.ToolJob.TheVariants as tools;
 ghost use Rattle.zonedisk_program.specs.InPlace.{counterpart, lines_counterpart, plan_counterpart, tool_counterpart};
 ghost use Rattle.zonedisk_program.specs.InPlace.{taking_of, zones_in};
 
-use crate::task::Task;
+use asked_tasks::Task;
 use device_jobs::{DeviceJob, DeviceRun};
 use disk_jobs::Job;
 use disk_runs::Taking;

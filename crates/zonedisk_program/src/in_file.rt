@@ -4,7 +4,7 @@ ghost use Rattle.std.specs.Prelude.{◌≡◌, false, true};
 ghost use Rattle.std.specs.Process.{exit_status};
 ghost use Rattle.zonedisk_program.specs.Ends.{is_device};
 
-use crate::task::Task;
+use asked_tasks::Task;
 use disk_jobs::Job;
 use std::io::Read;
 use std::process::ExitCode;

@@ -20,21 +20,6 @@
 //!
 //! # What is promised
 //!
-//! Of the words:
-//!
-//! * A task holds what clap's exact matches of the words have: the subcommand and, for each of its options, the value
-//!   under its name; a number is spelled only in digits, and fits. Clap refuses none of these words
-//!   (`specs/Program.antt` has the words that the program takes, and `specs/Words.antt` the task that they ask for).
-//! * A job is one on a device exactly if `--device` is given. Then no file is named, and nothing is asked for that
-//!   only a drive in a file can have (`specs/DeviceWords.antt`).
-//! * A new drive that stays in its file is asked for by `format --in-place`, with a shape. Then no device is named,
-//!   and nothing is forced (`AsksForNew`).
-//! * A drive is put into another file by `convert`, with both paths (`AsksForConvert`).
-//! * A rescue has the paths and the number that its options were given (`AsksForRescue`). A repair changes the drive
-//!   only with `--force` (`AsksForRepair`).
-//! * Words are refused only where clap refuses them, where they ask for no task in this sense, or where memory runs
-//!   out (`IsAnswerTo`).
-//!
 //! Of the task:
 //!
 //! * [`do_device`] ends each job on a device with the exit status 1 if there is no way to any. So does the program
@@ -55,40 +40,28 @@
 //! * A run on a device, and a format of one, end with the line of a device and the exit status 1 if only the sync at
 //!   their end failed (`EndsLines`).
 //!
-//! What the replies are is promised by the crates of the jobs.
+//! Which words ask for a task is promised by `asked_tasks`, and what the replies are by the crates of the jobs.
 //!
 //! # What is not proved
 //!
-//! * The texts of clap, and the error kinds of refused words, are tested in `call_tests`: clap's contracts say nothing
-//!   of them.
 //! * That an output has failed where a repair says so: one that sends nothing, and ends with 1, meets its contracts.
 //! * The texts, the files and any other exit status 0 are tested; so is how a drive that stays in its file is known, and
 //!   that a format is forced only where that was asked for (`tool_rows`).
 //!
-//! Tests: `call_tests`, and the rows of `tool_rows`.
+//! Tests: `job_tests`, and the rows of `tool_rows`.
 #![tactic(auto)]
 
 ghost use Rattle.std.specs.Prelude.{◌≡◌, false};
 ghost use Rattle.std.specs.Process.{exit_status};
 ghost use Rattle.zonedisk_program.specs.Ends.{EndsAsked, EndsTask, is_new, reaches};
 
-mod command;
 mod converting;
 mod counterpart;
-mod device_words;
 mod devices;
-mod failing;
 mod files;
-mod forgetting;
 mod in_file;
-mod place;
-mod raw_words;
-mod refusal;
 mod repairing;
 mod rescuing;
-mod task;
-mod tool_words;
-mod words;
 
 use crate::converting::{into_drive_file, into_image};
 pub use crate::counterpart::in_place;
@@ -97,8 +70,7 @@ use crate::files::{copy, do_lines, do_nbd, fail, use_tool};
 use crate::in_file::{begins_in_place, refuse_in_place};
 use crate::repairing::repair_image;
 use crate::rescuing::{rescue_device, rescue_image};
-pub use crate::task::Task;
-pub use crate::words::task_of;
+pub use asked_tasks::{Task, task_of};
 use clap::error::ErrorKind;
 use device_jobs::DeviceJob;
 pub use device_jobs::{Devices, NoDevices};

@@ -1,0 +1,3 @@
+pub mod WordLaws
+pub mod ToolLaws
+pub mod DeviceLaws

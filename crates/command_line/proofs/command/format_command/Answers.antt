@@ -1,0 +1,14 @@
+use Rattle.std.proofs.lemmas.Result.{IfOk-weaker}
+use Rattle.command_line.proofs.CommandLaws.{dressed, is_command, one_more, options_more}
+use Rattle.command_line.proofs.command.format_command.Goals as goal
+
+pub returns : goal.returns
+returns c =
+    let made = c.new.result in
+    let m0 = dressed made c.about.result c.after_help.result _ c.new.ensures.app c.about.ensures c.after_help.ensures in
+    let m1 = one_more made c.after_help.result c.in_ok-arg.field-0 _ c.image_option.result _ m0 c.in_ok-arg.ensures c.image_option.ensures.rule c.image_option.ensures.local in
+    let m2 = one_more made c.in_ok-arg.field-0 c.in_ok-arg-2.field-0 _ c.device_option.result _ m1 c.in_ok-arg-2.ensures c.device_option.ensures.rule c.device_option.ensures.local in
+    let m3 = one_more made c.in_ok-arg-2.field-0 c.in_ok-arg-3.field-0 _ c.flag.result _ m2 c.in_ok-arg-3.ensures c.flag.ensures.rule c.flag.ensures.local in
+    let m4 = one_more made c.in_ok-arg-3.field-0 c.in_ok-command.command _ c.flag-2.result _ m3 c.in_ok-command.ensures c.flag-2.ensures.rule c.flag-2.ensures.local in
+    IfOk-weaker c.geometry_options.result _ _ (λ new adds.
+    is_command made new _ c.new.ensures.local (options_more made c.in_ok-command.command new _ _ m4 adds)) c.geometry_options.ensures

@@ -1,0 +1,14 @@
+use Rattle.std.proofs.Common.{refl}
+use Rattle.std.proofs.lemmas.Result.{IfOk-weaker}
+use Rattle.command_line.proofs.CommandLaws.{one_more}
+use Rattle.command_line.proofs.command.shape_options.Goals as goal
+
+pub returns : goal.returns
+returns c =
+    let old = c.args.command in
+    let m1 = one_more old old c.in_ok-arg.field-0 _ c.part.result _ (refl, refl) c.in_ok-arg.ensures c.part.ensures.rule c.part.ensures.local in
+    let m2 = one_more old c.in_ok-arg.field-0 c.in_ok-arg-2.field-0 _ c.part-2.result _ m1 c.in_ok-arg-2.ensures c.part-2.ensures.rule c.part-2.ensures.local in
+    let m3 = one_more old c.in_ok-arg-2.field-0 c.in_ok-arg-3.field-0 _ c.part-3.result _ m2 c.in_ok-arg-3.ensures c.part-3.ensures.rule c.part-3.ensures.local in
+    IfOk-weaker c.arg-4.result _ _ (λ new adds.
+    let last = one_more old c.in_ok-arg-3.field-0 new _ c.part-4.result _ m3 adds c.part-4.ensures.rule c.part-4.ensures.local in
+    record { app = last.0; globals = last.1 }) c.arg-4.ensures
