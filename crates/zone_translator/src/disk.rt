@@ -47,14 +47,14 @@ use zone_cleaner::Cleaner;
 
 /// An array of logical blocks above a zoned drive. A disk owns its drive, and gives it back.
 #[derive(Drop)]
-pub struct Disk<D: Device + Drop> {
+pub struct AnyDisk<D: Device + Drop> {
     mounted: Mounted<D>,
     cleaner: Cleaner,
     status: DiskStatus,
     batch: BatchBuilder,
 }
 
-impl<D: Device + Drop> Model for Disk<D> {
+impl<D: Device + Drop> Model for AnyDisk<D> {
     ghost use Rattle.zone_translator.specs.View.{DiskView};
     ghost use Rattle.zone_translator.specs.Calls.{Holds};
 
@@ -119,12 +119,12 @@ fn status_of(fault: DiskFault) -> DiskStatus
     }
 }
 
-impl<D: Device + Drop> Disk<D> {
+impl<D: Device + Drop> AnyDisk<D> {
     /// The disk that a drive holds, of `blocks` logical blocks if no header on the drive says how many. The drive
     /// is checked, and what a stop left of it repaired: see `remount::mount`.
     ///
     /// With the fault the drive is given back, and can be mounted if it could before.
-    pub fn mount(alloc: Global, mut device: D, blocks: u64) -> Result<Disk<D>, (MountFault, D)>
+    pub fn mount(alloc: Global, mut device: D, blocks: u64) -> Result<AnyDisk<D>, (MountFault, D)>
         ensures disk { IfOk result (λ disk. IsTrue disk.drive.clean → IsMounted (D.drive device) blocks disk) }
         ensures err { IfErr result (λ refusal. IsTrue (D.drive refusal.1).clean
             → GivesBack (D.drive device) blocks refusal.0 (D.drive refusal.1)) }
@@ -136,7 +136,7 @@ impl<D: Device + Drop> Disk<D> {
             → D.drive refusal.1 ≡ D.drive device) }
     {
         match mount(alloc, &mut device, blocks) {
-            Ok(tables) => Ok(Disk {
+            Ok(tables) => Ok(AnyDisk {
                 mounted: Mounted::new(alloc, device, tables),
                 cleaner: Cleaner::new(alloc),
                 status: DiskStatus::Serving,
@@ -545,8 +545,9 @@ impl<D: Device + Drop> Disk<D> {
         // It answers what a flat array knows beforehand.
         ensures known { known_growth (flat_of self.now) blocks ≡ refusal_before result }
         // If the growth continues, the size is not below the disk's, the reserve allows it, and the disk serves.
-        ensures grows { OnOk result ((disk_size self.now ≤ blocks)
-            × FitsReserve self.now.drive.geometry blocks) }
+        ensures grows { OnOk result ((disk_size self.now ≤ blocks) × (blocks ≤ 2 ^ 31)) }
+        ensures reserve { IsTrue self.now.drive.clean
+            → OnOk result (FitsReserve self.now.drive.geometry blocks) }
         ensures serving { OnOk result (self.now.status ≡ Serving) }
         // A refusal has its cause, and the drive can be mounted in any case.
         ensures cause { IsTrue self.now.drive.clean → IfErr result (DiskCause self.now) }
@@ -648,7 +649,7 @@ impl<D: Device + Drop> Disk<D> {
     }
 
     /// Mounts the drive again, as a mount with the same number of logical blocks does it. A clean that runs is
-    /// forgotten. A drive that has stopped is not mounted: take it by [`into_device`](Disk::into_device), restart it,
+    /// forgotten. A drive that has stopped is not mounted: take it by [`into_device`](AnyDisk::into_device), restart it,
     /// and mount it.
     ///
     /// A refusal is `Halted` or `OutOfMemory`. It leaves the array on the drive, and the disk answers `Unmounted` to
@@ -712,7 +713,7 @@ impl<D: Device + Drop> Disk<D> {
         Ok(())
     }
 
-    /// Shows blocks as [`read`](Disk::read) does, by fewer commands: one for all blocks whose data are neighbours on the
+    /// Shows blocks as [`read`](AnyDisk::read) does, by fewer commands: one for all blocks whose data are neighbours on the
     /// drive, as far as one command reaches.
     pub fn read_joined(
         &mut self,

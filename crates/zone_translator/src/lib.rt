@@ -91,6 +91,7 @@
 mod disk;
 mod fault;
 mod flush;
+mod honest;
 pub mod laws;
 mod list;
 mod read;
@@ -100,8 +101,9 @@ mod status;
 mod write;
 
 pub use batch_log::Entry;
-pub use disk::Disk;
+pub use disk::AnyDisk;
 pub use fault::DiskFault;
+pub use honest::Disk;
 pub use laws::{write_keeps_others, written_reads_back};
 pub use logical_map::Place;
 pub use remount::MountFault;

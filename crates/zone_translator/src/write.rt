@@ -246,11 +246,12 @@ pub(crate) fn grow_batch<D: Device>(
     batch: &mut BatchBuilder,
     blocks: u32,
 ) -> Result<(), DiskFault>
-    // The size is not below the disk's, and the reserve allows it.
+    // The size is not below the disk's.
     requires sane { IsSane disk.old }
     requires grows { size_of disk.old.tables ≤ blocks }
-    requires reserve { FitsReserve disk.old.drive.geometry blocks }
-    // While the drive is clean, tables, drive and clean agree.
+    requires short { blocks ≤ 2 ^ 31 }
+    // While the drive is clean, the reserve allows it, and tables, drive and clean agree.
+    requires reserve { IsTrue disk.old.drive.clean → FitsReserve disk.old.drive.geometry blocks }
     requires agrees { IsTrue disk.old.drive.clean → AgreesWithClean disk.old cleaner.old }
     // Then, done, the disk has this size, and a header says so. Refused, the array is the same, unless the drive stopped.
     ensures leaves { IsTrue disk.new.drive.clean → GrowLeaves disk.old disk.new cleaner.new blocks result }
@@ -265,6 +266,10 @@ pub(crate) fn grow_batch<D: Device>(
     ensures completed { disk.new.drive.completed
         ≤ disk.old.drive.completed + batch_commands disk.old.drive.geometry }
 {
+    // A disk has one block at least.
+    if blocks == 0 {
+        return Err(DiskFault::Stopped);
+    }
     let host = find_room(disk, cleaner)?;
     batch.start(Kind::Host, next_sequence(disk), 0, Some(blocks));
     batch.encode(disk.geometry().block)?;
