@@ -1,15 +1,13 @@
-use Rattle.std.proofs.Common.{◌≡◌, length, ◌<◌, ◌≤◌, ◌+◌, ◌++◌, ◌^◌, refl, ap, sym, subst, ◌∙◌, inl, rules, Some, Err, true, false, arith}
-use Rattle.std.specs.List.{concat, list_all}
-use Rattle.batch_log.specs.declared.header.Entry.{Entry}
+use Rattle.std.proofs.Common.{◌≡◌, length, ◌<◌, ◌≤◌, ◌+◌, ◌++◌, ◌^◌, refl, ap, sym, subst, ◌∙◌, rules, Some, Err, true, false, arith}
+use Rattle.std.specs.List.{concat}
 use Rattle.drive_array.proofs.AllLaws.{all-weaker}
 use Rattle.zone_choice.specs.Agreement.{MountedView, mounted}
 use Rattle.zone_choice.specs.Builder.{IsBuilt}
 use Rattle.zone_choice.specs.Changes.{BatchLeaves, CanPlace, Places, built_for, closes_before, fault_halt, sequence_end}
 use Rattle.zone_choice.specs.Tables.{size_of}
-use Rattle.zone_choice.specs.Sane.{IsSane, KeepsShape, MayPlace, TablesAfter}
-use Rattle.zone_cleaner.specs.Clean.{has_place}
+use Rattle.zone_choice.specs.Sane.{KeepsShape, MayPlace, TablesAfter}
 use Rattle.batch_log.specs.Header.{header_block}
-use Rattle.zone_cleaner.specs.LiveRecords.{LiveRecord, gathered_data, gathered_entries, gathered_move}
+use Rattle.zone_cleaner.specs.LiveRecords.{LiveRecord, gathered_data, gathered_move}
 use Rattle.zone_cleaner.specs.Turns.{IsAtStep}
 use Rattle.zone_cleaner.specs.declared.step.Step.TheVariants.{Move}
 use Rattle.zone_cleaner.proofs.BesideLaws.{few-closes}
