@@ -1,5 +1,5 @@
 -- What holds of a disk's numbers whatever the Reads of its drive returned.
-use Rattle.std.proofs.Common.{◌≡◌, ◌⊎◌, ℕ, ◌++◌, ◌<◌, ◌≤◌, false, List, [], ◌∷◌, Option, Some, None, refl, ap, subst, sym, ◌∙◌, inl, inr, arith}
+use Rattle.std.proofs.Common.{◌≡◌, ◌++◌, ◌<◌, ◌≤◌, false, List, Option, Some, None, refl, ap, subst, sym, ◌∙◌, inl, inr, arith}
 use Rattle.std.specs.Prelude.{IsTrue}
 use Rattle.std.specs.List.{AllByRecursion}
 use Rattle.std.specs.Option.{option_map}
@@ -10,7 +10,7 @@ use Rattle.zone_choice.specs.declared.roles.Filling.{Filling}
 use Rattle.zone_choice.specs.declared.roles.Second.{Second}
 use Rattle.zone_choice.specs.declared.roles.Second.TheVariants.{Destination, Next}
 use Rattle.zone_choice.specs.Agreement.{MountedView, mounted}
-use Rattle.zone_choice.specs.Roles.{RolesView, filling_list, filling_of, next_of, promoted, sealed, taken, with_next}
+use Rattle.zone_choice.specs.Roles.{RolesView, filling_list, filling_of, next_of, promoted, sealed, with_next}
 use Rattle.zone_choice.specs.Sane.{IsSane}
 use Rattle.zone_choice.specs.Tables.{TablesView, size_of}
 use Rattle.zone_cleaner.specs.Answering.{StaysSane}

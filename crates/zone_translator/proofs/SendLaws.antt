@@ -1,26 +1,22 @@
 -- When a batch of the host may be sent, by the numbers of the tables alone.
-use Rattle.std.proofs.Common.{◌≡◌, ◌≢◌, ℕ, ◌+◌, ◌*◌, ◌<◌, ◌≤◌, ◌^◌, Bool, true, [], ◌∷◌, ◌++◌, length, take, Option, Some, None, Result, Ok, Err, refl, sym, ap, subst, ◌∙◌, inl, inr, arith, append-nil, List}
-use Rattle.std.specs.Prelude.{nat_eq}
-use Rattle.std.specs.List.{AllByRecursion, IsDistinct}
+use Rattle.std.proofs.Common.{◌≡◌, ℕ, ◌+◌, ◌*◌, ◌<◌, ◌≤◌, ◌^◌, Bool, true, [], ◌∷◌, ◌++◌, length, take, Option, Some, None, Result, Ok, Err, refl, sym, ap, subst, ◌∙◌, inl, inr, arith, append-nil, List}
+use Rattle.std.specs.List.{AllByRecursion}
 use Rattle.std.specs.Option.{option_map}
 use Rattle.std.proofs.lemmas.List.{length-take}
 use Rattle.std.proofs.lemmas.Nat.{mul-le}
 use Rattle.zone_states.specs.declared.geometry.Geometry.{Geometry}
-use Rattle.zone_states.specs.Geometry.{IsInRange}
-use Rattle.zone_states.specs.Zone.{cut_blocks}
 use Rattle.drive_port.specs.Drive.{DriveState}
 use Rattle.drive_port.specs.declared.calls.PortFault.{PortFault}
 use Rattle.batch_log.specs.declared.header.Entry.{Entry}
-use Rattle.batch_log.specs.Header.{IsHeading, IsSize, entry_room, header_block}
-use Rattle.batch_log.specs.Log.{Batch, batch_size, data_count}
+use Rattle.batch_log.specs.Header.{IsHeading, IsSize, header_block}
+use Rattle.batch_log.specs.Log.{Batch, data_count}
 use Rattle.batch_log.proofs.LentLaws.{data-few}
 use Rattle.logical_map.specs.Places.{IsReady}
-use Rattle.drive_array.specs.Reserve.{FitsReserve, batch_most}
+use Rattle.drive_array.specs.Reserve.{batch_most}
 use Rattle.zone_choice.specs.declared.roles.Filling.{Filling}
 use Rattle.zone_choice.specs.declared.roles.Second.{Second}
 use Rattle.zone_choice.specs.Agreement.{MountedView}
-use Rattle.zone_choice.specs.Builder.{BuilderView, built, entries_from}
-use Rattle.zone_choice.specs.Changes.{built_for}
+use Rattle.zone_choice.specs.Builder.{BuilderView, entries_from}
 use Rattle.zone_choice.specs.Roles.{AreApart, Differ, RolesView, filling_list, filling_of, fillings}
 use Rattle.zone_choice.specs.Sane.{IsSane, KeepsShape, MayPlace, TablesAfter}
 use Rattle.drive_array.specs.Sizes.{size_or}

@@ -1,7 +1,7 @@
 use Rattle.std.proofs.Common.{subst}
 use Rattle.remount.specs.Mount.{MountFails}
 use Rattle.drive_survey.specs.Scan.{FailsBy}
-use Rattle.zone_choice.specs.Agreement.{MountedView, mounted}
+use Rattle.zone_choice.specs.Agreement.{MountedView}
 use Rattle.zone_translator.proofs.MountLaws.{mounted-sane}
 use Rattle.zone_cleaner.proofs.SaneLaws.{sane-same}
 use Rattle.zone_translator.proofs.disk.mount_again.Goals as goal

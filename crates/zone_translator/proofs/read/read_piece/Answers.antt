@@ -1,4 +1,4 @@
-use Rattle.std.proofs.Common.{◌++◌, ◌∙◌, List, ℕ, ap, refl, sym, arith}
+use Rattle.std.proofs.Common.{◌++◌, ◌∙◌, List, ℕ, ap, refl, arith}
 use Rattle.zone_states.specs.declared.geometry.Geometry.{Geometry}
 use Rattle.zone_choice.proofs.ChangeLaws.{keeps-refl}
 use Rattle.zone_translator.proofs.ReadLaws.{alone, at-data, place_kept, row_can, row_halts, row_shown, together, zeros_piece}

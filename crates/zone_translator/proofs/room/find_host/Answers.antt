@@ -3,7 +3,7 @@ use Rattle.std.specs.Prelude.{IsTrue}
 use Rattle.drive_port.specs.Drive.{DriveState}
 use Rattle.zone_choice.specs.Agreement.{MountedView}
 use Rattle.zone_choice.specs.declared.roles.Filling.{Filling}
-use Rattle.zone_cleaner.specs.Answering.{CleanAnswers, StaysSane}
+use Rattle.zone_cleaner.specs.Answering.{CleanAnswers}
 use Rattle.zone_cleaner.specs.Start.{CleanLeaves, KeepsByCleaning}
 use Rattle.zone_translator.specs.Answering.{StaysOfSize}
 use Rattle.zone_translator.proofs.CleaningLaws.{stays-cleaning, stays-join, zone-fails, zone-stays}

@@ -1,9 +1,9 @@
-use Rattle.std.proofs.Common.{Ok, ◌≤◌, arith}
+use Rattle.std.proofs.Common.{Ok}
 use Rattle.zone_choice.specs.declared.roles.Filling.{Filling}
 use Rattle.zone_choice.proofs.ChangeLaws.{keeps-refl}
 use Rattle.zone_cleaner.proofs.TurnLaws.{keeps-none}
 use Rattle.zone_translator.proofs.CleaningLaws.{array-first, array-stays, stays-cleaning}
-use Rattle.zone_translator.proofs.RangeLaws.{host-within, range-more, range-same}
+use Rattle.zone_translator.proofs.RangeLaws.{range-more, range-same}
 use Rattle.zone_translator.proofs.RoomLaws.{keeps-serving, retire_clean, retire_room, room-join}
 use Rattle.zone_translator.proofs.room.make_room.Goals as goal
 

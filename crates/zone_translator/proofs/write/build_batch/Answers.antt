@@ -1,6 +1,4 @@
-use Rattle.std.proofs.Common.{refl, subst}
-use Rattle.std.specs.Prelude.{IsTrue}
-use Rattle.drive_port.specs.Drive.{DriveState}
+use Rattle.std.proofs.Common.{refl}
 use Rattle.zone_choice.specs.Agreement.{mounted}
 use Rattle.zone_choice.specs.Roles.{AreApart}
 use Rattle.zone_translator.proofs.SendLaws.{may-write, range-ready}

@@ -1,8 +1,6 @@
 use Rattle.std.proofs.Common.{◌∙◌, Err, Ok, ap, refl, rules, arith, true}
 use Rattle.zone_translator.proofs.BatchLaws.{host-heading}
 use Rattle.zone_translator.proofs.CleaningLaws.{append-stays, cleaning-stays, stays-cleaning, stays-join}
-use Rattle.std.specs.Prelude.{IsTrue}
-use Rattle.drive_port.specs.Drive.{DriveState}
 use Rattle.zone_choice.specs.declared.roles.Filling.{Filling}
 use Rattle.zone_choice.specs.Changes.{built_for, fault_halt}
 use Rattle.zone_translator.proofs.GrowthLaws.{grow-next, growth-halts, growth-no_memory, growth-no_room, growth-writes}

@@ -1,4 +1,4 @@
-use Rattle.std.proofs.Common.{◌≡◌, ◌≤◌, arith}
+use Rattle.std.proofs.Common.{◌≡◌, arith}
 use Rattle.zone_translator.specs.declared.status.DiskStatus.TheVariants.{Serving}
 use Rattle.drive_array.specs.Reserve.{FitsReserve}
 use Rattle.zone_translator.proofs.DiskLaws.{growth-fits, holds-agrees, on-ok}
