@@ -11,7 +11,7 @@ use Rattle.drive_array.specs.ZoneLogs.{drive_logs, log_at, encoded}
 use Rattle.drive_array.specs.Mountable.{IsMountable}
 use Rattle.zone_choice.specs.declared.roles.Filling.{Filling}
 use Rattle.zone_choice.specs.Roles.{fillings}
-use Rattle.zone_choice.specs.Tables.{TablesView, size_of}
+use Rattle.zone_choice.specs.Tables.{AreOfOneDrive, TablesView, size_of}
 use Rattle.drive_survey.specs.declared.reported.ReportedZone.{ReportedZone}
 use Rattle.drive_survey.specs.declared.survey.Survey.{Survey}
 use Rattle.drive_survey.specs.Scan.{AreKnown}
@@ -77,6 +77,8 @@ IsWithin geometry filling = (filling.zone < geometry.zones) × (filling.written 
 
 -- the numbers of tables that a disk rests on to send what no drive refuses
 pub record AreSane (geometry : Geometry) (tables : TablesView) : Type 0 where
+  pub one_drive : AreOfOneDrive tables.map tables.roles
+  pub zones : tables.map.zones ≡ geometry.zones
   pub short : size_of tables ≤ 2 ^ 31
   pub next : tables.next ≤ 2 ^ 63
   pub fillings_are : AllByRecursion (IsWithin geometry) (fillings tables.roles)

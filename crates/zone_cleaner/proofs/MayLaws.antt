@@ -1,5 +1,5 @@
 -- When a Move may be sent, by the numbers of the tables and of the clean alone.
-use Rattle.std.proofs.Common.{◌≡◌, ◌≢◌, ℕ, ◌+◌, ◌<◌, ◌≤◌, ◌^◌, ltb, Bool, true, false, ◌&&◌, List, [], ◌∷◌, ◌++◌, map, length, get_or, take, Option, Some, None, refl, sym, ap, subst, ◌∙◌, arith}
+use Rattle.std.proofs.Common.{◌≡◌, ◌≢◌, ℕ, ◌+◌, ◌<◌, ◌≤◌, ◌^◌, ltb, Bool, true, false, ◌&&◌, List, [], ◌∷◌, ◌++◌, map, length, get_or, take, Option, Some, None, refl, sym, subst, arith}
 use Rattle.std.specs.Prelude.{nat_eq}
 use Rattle.std.specs.List.{AllByRecursion, IsDistinct, concat, list_all}
 use Rattle.std.specs.Option.{option_map}
@@ -8,8 +8,7 @@ use Rattle.std.proofs.lemmas.List.{get_or-take, length-map, length-take}
 use Rattle.batch_log.specs.declared.header.Entry.{Entry}
 use Rattle.batch_log.specs.declared.header.Kind.TheVariants.{Host, Move}
 use Rattle.batch_log.specs.Header.{IsHeading, IsSize, entry_room, header_block}
-use Rattle.batch_log.specs.Log.{batch_size, data_count}
-use Rattle.drive_array.specs.Reserve.{batch_most}
+use Rattle.batch_log.specs.Log.{batch_size}
 use Rattle.drive_array.proofs.AllLaws.{all-weaker}
 use Rattle.logical_map.specs.Live.{lies_in}
 use Rattle.logical_map.specs.Places.{ArePlacedReady, IsReady}
@@ -23,7 +22,7 @@ use Rattle.zone_choice.specs.Builder.{BuilderView, IsBuilt}
 use Rattle.zone_choice.specs.Changes.{built_for}
 use Rattle.zone_choice.specs.Roles.{AreApart, Differ, RolesView, filling_list, filling_of, fillings}
 use Rattle.zone_choice.specs.Sane.{IsSane, MayPlace}
-use Rattle.zone_choice.specs.Tables.{TablesView, size_of}
+use Rattle.zone_choice.specs.Tables.{size_of}
 use Rattle.zone_cleaner.specs.Clean.{CleanView, HasRoomForMove, IsClean, has_place, is_placed}
 use Rattle.zone_cleaner.specs.Gathered.{AreOfLength}
 use Rattle.zone_cleaner.specs.LiveRecords.{LiveRecord, gathered_data, gathered_entries, gathered_entry, gathered_move}

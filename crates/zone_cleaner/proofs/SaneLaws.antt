@@ -1,5 +1,5 @@
 -- What holds whatever the Reads returned, after the steps of a clean.
-use Rattle.std.proofs.Common.{◌≡◌, ◌⊎◌, ℕ, ◌++◌, ◌<◌, ◌≤◌, ltb, Bool, true, false, cond, List, [], ◌∷◌, Option, Some, None, Result, Ok, Err, refl, ap, subst, ◌∙◌, inl, inr, arith}
+use Rattle.std.proofs.Common.{◌≡◌, ℕ, ◌++◌, ◌<◌, ◌≤◌, ltb, Bool, true, false, cond, [], ◌∷◌, Option, Some, None, Result, Ok, Err, refl, ap, subst, ◌∙◌, inl, inr, arith}
 use Rattle.std.specs.Prelude.{IsTrue}
 use Rattle.std.specs.List.{AllByRecursion}
 use Rattle.std.specs.Option.{option_map}
@@ -12,7 +12,8 @@ use Rattle.zone_choice.specs.Agreement.{MountedView, mounted}
 use Rattle.zone_choice.specs.Roles.{RolesView, clean_ended, closed_beside, ended, filling_list, filling_of, fillings}
 use Rattle.zone_choice.specs.Changes.{roles_alone}
 use Rattle.zone_choice.specs.Sane.{IsSane, KeepsShape, TablesAfter}
-use Rattle.zone_choice.specs.Tables.{TablesView}
+use Rattle.drive_array.specs.Sizes.{size_or}
+use Rattle.zone_choice.specs.Tables.{TablesView, size_of}
 use Rattle.drive_port.specs.declared.calls.PortFault.{PortFault}
 use Rattle.zone_states.specs.declared.geometry.Geometry.{Geometry}
 use Rattle.batch_log.specs.Log.{Batch}
@@ -81,9 +82,19 @@ pub stays-started : (a b : MountedView) (clean : Option CleanView) → TurnLeave
 stays-started a b clean leaves sane = record {
   shape = record { geometry = ap (λ (d : DriveState). d.geometry) leaves.0; trusted = λ t. subst (λ (d : DriveState). IsTrue d.clean) leaves.0 t };
   sane = sane-started a b clean leaves sane;
+  size = same clean leaves.1;
+  given = given clean leaves.1;
   host = by clean leaves.1;
 }
   where
+    same : (clean : Option CleanView) → StartLeaves a.drive.geometry a.tables b.tables clean → size_of b.tables ≡ size_of a.tables
+    same None start = ap size_of start.1
+    same (Some c) start = ap size_of start.tables
+
+    given : (clean : Option CleanView) → StartLeaves a.drive.geometry a.tables b.tables clean → b.tables.given ≡ a.tables.given
+    given None start = ap (λ (t : TablesView). t.given) start.1
+    given (Some c) start = ap (λ (t : TablesView). t.given) start.tables
+
     by : (clean : Option CleanView) → StartLeaves a.drive.geometry a.tables b.tables clean → a.tables.roles.host ≡ None → b.tables.roles.host ≡ None
     by None start none = rw start.1 none
     by (Some c) start none = rw start.tables none
@@ -95,13 +106,24 @@ pub stays-asked : (a b : MountedView) → OnlyAsks a b → IsSane a → StaysSan
 stays-asked a b asks sane = record {
   shape = asks.shape;
   sane = rw (asks.tables, asks.shape.geometry) (record { geometry = sane.geometry; one_drive = sane.one_drive; zones = sane.zones; short = sane.short; next = sane.next; fillings_are = sane.fillings_are });
+  size = ap size_of asks.tables;
+  given = ap (λ (t : TablesView). t.given) asks.tables;
   host = λ none. rw asks.tables none;
 }
 
--- a batch may have been appended
-pub stays-appended : (a b : MountedView) (zone : ℕ) (batch : Batch) (result : Result (Unit {0}) PortFault) → KeepsShape a.drive b.drive → IsSane b → TablesAfter a.drive.geometry a.tables zone batch result b.tables → StaysSane a b
-stays-appended a b zone batch result shape sane after = record { shape = shape; sane = sane; host = by result after }
+-- a batch may have been appended that says the size
+pub stays-appended : (a b : MountedView) (zone : ℕ) (batch : Batch) (result : Result (Unit {0}) PortFault) → batch.heading.size ≡ Some (size_of a.tables) → KeepsShape a.drive b.drive → IsSane b → TablesAfter a.drive.geometry a.tables zone batch result b.tables
+    → StaysSane a b
+stays-appended a b zone batch result says shape sane after = record { shape = shape; sane = sane; size = same result after; given = given result after; host = by result after }
   where
+    same : (result : Result (Unit {0}) PortFault) → TablesAfter a.drive.geometry a.tables zone batch result b.tables → size_of b.tables ≡ size_of a.tables
+    same (Ok done) counts = counts.size ∙ ap (size_or (size_of a.tables)) says
+    same (Err fault) left = elim left as (λ _. size_of b.tables ≡ size_of a.tables) [ inl kept ↦ ap size_of kept | inr closed ↦ ap size_of closed ]
+
+    given : (result : Result (Unit {0}) PortFault) → TablesAfter a.drive.geometry a.tables zone batch result b.tables → b.tables.given ≡ a.tables.given
+    given (Ok done) counts = counts.given
+    given (Err fault) left = elim left as (λ _. b.tables.given ≡ a.tables.given) [ inl kept ↦ ap (λ (t : TablesView). t.given) kept | inr closed ↦ ap (λ (t : TablesView). t.given) closed ]
+
     alone : (g : Geometry) (roles : RolesView) → roles.host ≡ None → (roles_alone g roles zone).host ≡ None
     alone g roles none = at (ltb 1 g.open)
       where
@@ -116,11 +138,13 @@ stays-appended a b zone batch result shape sane after = record { shape = shape; 
 -- ---- several
 
 pub stays-same : (a : MountedView) → IsSane a → StaysSane a a
-stays-same a sane = record { shape = record { geometry = refl; trusted = λ t. t }; sane = sane; host = λ none. none }
+stays-same a sane = record { shape = record { geometry = refl; trusted = λ t. t }; sane = sane; size = refl; given = refl; host = λ none. none }
 
 pub stays-more : (a b c : MountedView) → StaysSane a b → StaysSane b c → StaysSane a c
 stays-more a b c one two = record {
   shape = record { geometry = two.shape.geometry ∙ one.shape.geometry; trusted = λ t. one.shape.trusted (two.shape.trusted t) };
   sane = two.sane;
+  size = two.size ∙ one.size;
+  given = two.given ∙ one.given;
   host = λ none. two.host (one.host none);
 }

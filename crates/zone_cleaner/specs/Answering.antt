@@ -2,6 +2,7 @@
 use Rattle.std.specs.Prelude.{◌≡◌, ◌+◌, ◌*◌, ◌++◌, ◌≤◌, List, [], ◌∷◌, Option, None, Result, IfErr, IsTrue, OnErr, OnOk}
 use Rattle.zone_choice.specs.Agreement.{MountedView}
 use Rattle.zone_choice.specs.Sane.{IsSane, KeepsShape}
+use Rattle.zone_choice.specs.Tables.{size_of}
 use Rattle.zone_cleaner.specs.declared.fault.CleanFault.{CleanFault}
 use Rattle.zone_cleaner.specs.Clean.{CleanView, turns_of}
 use Rattle.zone_cleaner.specs.LiveRecords.{LiveRecord}
@@ -9,11 +10,13 @@ use Rattle.zone_cleaner.specs.Reading.{AddsRecord, IsGatherFault, OnlyAsks, Only
 use Rattle.zone_cleaner.specs.Start.{CleanDone, CleanLeaves, CleaningLeaves, EndLeaves}
 use Rattle.zone_cleaner.specs.Start.{HasNextZone, KeepsTurns, TurnDone, TurnLeaves}
 
--- What holds whatever the Reads returned: the shape is the same, the numbers stay in range, and where there was no host
--- zone there is none.
+-- What holds whatever the Reads returned: the shape and the size are the same, the numbers stay in range, and where there
+-- was no host zone there is none.
 pub record StaysSane (before after : MountedView) : Type 0 where
   pub shape : KeepsShape before.drive after.drive
   pub sane : IsSane after
+  pub size : size_of after.tables ≡ size_of before.tables
+  pub given : after.tables.given ≡ before.tables.given
   pub host : before.tables.roles.host ≡ None → after.tables.roles.host ≡ None
 
 -- The record of a block is read: one Read was sent at most, and nothing else.

@@ -1,6 +1,5 @@
 -- How the record of a block is read from the drive, and gathered.
-use Rattle.std.specs.Prelude.{◌≡◌, ℕ, ◌+◌, ◌<◌, ◌≤◌, ◌++◌, true, List, [], ◌∷◌, length, Option, Some, IfSome, slice_index_or}
-use Rattle.std.specs.List.{AllByRecursion}
+use Rattle.std.specs.Prelude.{◌≡◌, ℕ, ◌+◌, ◌<◌, ◌≤◌, ◌++◌, true, List, [], ◌∷◌, length, Option, Some, slice_index_or}
 use Rattle.drive_port.specs.Contents.{SameContents}
 use Rattle.drive_port.specs.Drive.{DriveState}
 use Rattle.logical_map.specs.declared.place.Place.{Place}
@@ -11,8 +10,7 @@ use Rattle.zone_choice.specs.Sane.{KeepsShape}
 use Rattle.zone_choice.specs.Tables.{size_of}
 use Rattle.zone_cleaner.specs.declared.fault.CleanFault.{CleanFault}
 use Rattle.zone_cleaner.specs.declared.fault.CleanFault.TheVariants as faults
-use Rattle.zone_cleaner.specs.Gathered.{AreOfLength}
-use Rattle.zone_cleaner.specs.LiveRecords.{LiveRecord, live_content, gathered_data}
+use Rattle.zone_cleaner.specs.LiveRecords.{LiveRecord, live_content}
 
 -- One Read was sent, or none, whatever it returned: the tables are the same.
 pub record OnlyAsks (before after : MountedView) : Type 0 where

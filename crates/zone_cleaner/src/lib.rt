@@ -14,7 +14,9 @@
 //!
 //! # What is promised
 //!
-//! Of any drive that obeys its rules:
+//! Whatever the Reads of its drive return, each call ends within its bound on commands, the numbers of the disk stay in
+//! range, and its size stays (`StaysSane` in specs/Answering). Where they do not fit, it is refused by `Damaged`. All else
+//! is promised while the drive is clean, that is as long as each Read returned what the drive holds:
 //!
 //! * A turn starts the clean that is due, of the sealed zone with the fewest live records. Or it does exactly the next
 //!   step of the running clean: it gathers a record, appends a Move, or resets the victim (`TurnLeaves` in
@@ -40,7 +42,6 @@ mod clean;
 mod cleaner;
 mod fault;
 mod gathered;
-pub mod honest;
 mod step;
 
 pub use cleaner::Cleaner;

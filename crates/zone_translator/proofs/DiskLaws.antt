@@ -1,10 +1,12 @@
 -- A disk, by what its parts change.
 use Rattle.std.proofs.Common.{◌≡◌, ℕ, Bool, true, false, List, length, Option, Some, None, is_some, Result, Ok, Err, inl, inr, refl, sym, ap, subst, ◌≤◌, ◌∙◌, arith}
+use Rattle.std.specs.Prelude.{OnOk}
 use Rattle.zone_states.specs.declared.geometry.Geometry.{Geometry}
 use Rattle.zone_choice.specs.Agreement.{MountedView, mounted_array}
 use Rattle.drive_array.specs.ZoneLogs.{drive_logs}
 use Rattle.zone_choice.specs.Changes.{KeepsArray}
 use Rattle.zone_choice.specs.Roles.{empty_count}
+use Rattle.zone_choice.specs.Sane.{IsSane, KeepsShape}
 use Rattle.zone_choice.specs.Tables.{size_of}
 use Rattle.zone_choice.proofs.AgreementLaws.{size-encoded}
 use Rattle.drive_array.proofs.WholeLaws.{length-encoded}
@@ -15,12 +17,13 @@ use Rattle.zone_cleaner.specs.declared.fault.CleanFault.TheVariants as faults
 use Rattle.zone_cleaner.specs.Clean.{CleanView, turns_left}
 use Rattle.zone_cleaner.specs.Start.{AgreesWithClean, GoesOn, IsCleaningCause, KeepsByCleaning}
 use Rattle.zone_cleaner.proofs.NextLaws.{cleaning_kept, cleaned_kept}
+use Rattle.zone_cleaner.proofs.SaneLaws.{sane-same}
 use Rattle.zone_cleaner.proofs.TurnLaws.{cleans_mountable}
 use Rattle.zone_translator.specs.declared.fault.DiskFault.{DiskFault}
 use Rattle.zone_translator.specs.declared.fault.DiskFault.TheVariants.{OutOfRange, OutOfMemory, Stopped, Spent, Unmounted, Smaller, Reserve}
 use Rattle.zone_translator.specs.declared.status.DiskStatus.{DiskStatus}
 use Rattle.zone_translator.specs.declared.status.DiskStatus.TheVariants as statuses
-use Rattle.zone_translator.specs.Calls.{Holds, status_left}
+use Rattle.zone_translator.specs.Calls.{HoldsClean, status_left}
 use Rattle.zone_translator.specs.Changes.{GrowLeaves, Keeps, Names, NoMoreTurns, StopKeeps, WriteLeaves, cleaning_fault}
 use Rattle.zone_translator.specs.declared.write.Rest.{Rest}
 use Rattle.zone_translator.specs.Answers.{KeepsClean}
@@ -33,11 +36,31 @@ use Rattle.zone_translator.specs.Flat.{IsAfterFront, IsFront, grow}
 use Rattle.zone_translator.specs.Read.{IsBlockFault, IsReadFault}
 use Rattle.zone_translator.proofs.WriteLaws.{front-none}
 use Rattle.zone_translator.proofs.RoomLaws.{room-stops}
-use Rattle.zone_translator.specs.View.{AreBelowNext, DiskView, KeepsDisk, KeepsDurable, disk_turns, flat_of, given_size, disk_places}
+use Rattle.zone_translator.specs.Answering.{StaysOfSize}
+use Rattle.zone_translator.specs.View.{AreBelowNext, DiskView, StaysAlike, KeepsDisk, KeepsDurable, disk_turns, flat_of, given_size, disk_places}
 
 -- what a disk of these parts is seen as
 abbrev pub view_of : MountedView → Option CleanView → DiskStatus → DiskView
 view_of disk clean status = record { drive = disk.drive; tables = disk.tables; clean = clean; status = status }
+
+-- whatever the Reads returned, its shape and size stay
+pub alike-of : (a b : MountedView) (x y : Option CleanView) (was is : DiskStatus) → StaysOfSize a b → StaysAlike (view_of a x was) (view_of b y is)
+alike-of a b x y was is stays = record { shape = stays.range.shape; size = stays.size }
+
+-- a command went that changed no tables
+pub alike-sent : (a b : MountedView) (x : Option CleanView) (was is : DiskStatus) → KeepsShape a.drive b.drive → b.tables ≡ a.tables → StaysAlike (view_of a x was) (view_of b x is)
+alike-sent a b x was is shape tables = record { shape = shape; size = ap size_of tables }
+
+-- the numbers stay in range
+pub sane-sent : (a b : MountedView) → KeepsShape a.drive b.drive → b.tables ≡ a.tables → IsSane a → IsSane b
+sane-sent a b shape tables sane = rw tables (sane-same a.drive b.drive a.tables shape.geometry sane)
+
+-- one after the other
+pub alike-same : (a : DiskView) → StaysAlike a a
+alike-same a = record { shape = record { geometry = refl; trusted = λ t. t }; size = refl }
+
+pub alike-join : (a b c : DiskView) → StaysAlike a b → StaysAlike b c → StaysAlike a c
+alike-join a b c one two = record { shape = record { geometry = two.shape.geometry ∙ one.shape.geometry; trusted = λ t. one.shape.trusted (two.shape.trusted t) }; size = two.size ∙ one.size }
 
 -- while the disk serves, the array has its number of blocks; and on a drive that can be mounted each is a whole block
 pub length-array : (disk : MountedView) (clean : Option CleanView) → AgreesWithClean disk clean → length (mounted_array disk) ≡ size_of disk.tables
@@ -141,42 +164,36 @@ pub reserve-kept : (a b : MountedView) → b.drive.geometry ≡ a.drive.geometry
 reserve-kept a b same given fits = rw (same, given) fits
 
 -- a disk that serves, by the agreement of its tables and its drive
-pub holds-serving : (disk : MountedView) (clean : Option CleanView) → FitsReserve disk.drive.geometry disk.tables.given → AgreesWithClean disk clean → Holds disk clean statuses.Serving
+pub holds-serving : (disk : MountedView) (clean : Option CleanView) → FitsReserve disk.drive.geometry disk.tables.given → AgreesWithClean disk clean → HoldsClean disk clean statuses.Serving
 holds-serving disk clean fits serves = record {
   mountable = cleans_mountable disk clean serves;
-  geometry = serves.0.geometry;
   reserve = fits;
-  short = serves.0.reserve.1;
   agrees = serves;
   stopped = λ e. absurd (cc);
 }
 
 -- one whose drive stopped
-holds-stopped : (a b : MountedView) (clean clean' : Option CleanView) → FitsReserve a.drive.geometry a.tables.given → AgreesWithClean a clean → StopKeeps a b → Holds b clean' statuses.Stopped
+holds-stopped : (a b : MountedView) (clean clean' : Option CleanView) → FitsReserve a.drive.geometry a.tables.given → AgreesWithClean a clean → StopKeeps a b → HoldsClean b clean' statuses.Stopped
 holds-stopped a b clean clean' fits serves stops = record {
   mountable = stops.keeps.mountable;
-  geometry = rw stops.keeps.geometry serves.0.geometry;
   reserve = reserve-kept a b stops.keeps.geometry stops.keeps.given fits;
-  short = omega (arith, stops.size, serves.0.reserve.1);
   agrees = tt;
   stopped = λ e. stops.stopped;
 }
 
 -- one that was read, and continues or has stopped
-pub holds-kept : (a b : MountedView) (clean : Option CleanView) → FitsReserve a.drive.geometry a.tables.given → AgreesWithClean a clean → KeepsArray a b → Holds b clean statuses.Serving
+pub holds-kept : (a b : MountedView) (clean : Option CleanView) → FitsReserve a.drive.geometry a.tables.given → AgreesWithClean a clean → KeepsArray a b → HoldsClean b clean statuses.Serving
 holds-kept a b clean fits serves kept = holds-serving b clean (reserve-kept a b kept.geometry kept.given fits) (cleaned_kept a b clean serves kept)
 
 -- a read leaves what a disk holds
-pub holds-read : (a b : MountedView) (clean : Option CleanView) (fault : DiskFault) → FitsReserve a.drive.geometry a.tables.given → AgreesWithClean a clean → KeepsArray a b → IsReadFault b.drive fault → Holds b clean (status_left fault)
+pub holds-read : (a b : MountedView) (clean : Option CleanView) (fault : DiskFault) → FitsReserve a.drive.geometry a.tables.given → AgreesWithClean a clean → KeepsArray a b → IsReadFault b.drive fault → HoldsClean b clean (status_left fault)
 holds-read a b clean OutOfRange fits serves kept cause = absurd cause
 holds-read a b clean OutOfMemory fits serves kept cause = holds-kept a b clean fits serves kept
 holds-read a b clean Stopped fits serves kept cause =
     let now = cleaned_kept a b clean serves kept in
     record {
       mountable = cleans_mountable b clean now;
-      geometry = now.0.geometry;
       reserve = reserve-kept a b kept.geometry kept.given fits;
-      short = now.0.reserve.1;
       agrees = tt;
       stopped = λ e. cause;
     }
@@ -189,7 +206,7 @@ holds-read a b clean Unmounted fits serves kept cause = absurd cause
 
 -- the parts of the disk, and what it keeps
 pub record Refused (a b : MountedView) (clean clean' : Option CleanView) (fault : DiskFault) (was : DiskStatus) : Type 0 where
-  pub holds : Holds b clean' (status_left fault)
+  pub holds : HoldsClean b clean' (status_left fault)
   pub kept : KeepsDurable (view_of a clean was) (view_of b clean' (status_left fault))
   pub size : size_of b.tables ≡ size_of a.tables
 
@@ -254,7 +271,7 @@ refused-growth a b clean clean' size Reserve was fits serves leaves = record { r
 refused-growth a b clean clean' size Unmounted was fits serves leaves = record { refused = refused-serving a b clean clean' Unmounted was fits refl leaves; front = leaves.0.array }
 
 -- while it serves, its tables agree with its drive
-pub holds-agrees : (disk : MountedView) (clean : Option CleanView) (status : DiskStatus) → status ≡ statuses.Serving → Holds disk clean status → AgreesWithClean disk clean
+pub holds-agrees : (disk : MountedView) (clean : Option CleanView) (status : DiskStatus) → status ≡ statuses.Serving → HoldsClean disk clean status → AgreesWithClean disk clean
 holds-agrees disk clean statuses.Serving e holds = holds.agrees
 holds-agrees disk clean statuses.Stopped e holds = absurd (cc)
 holds-agrees disk clean statuses.Unmounted e holds = absurd (cc)
@@ -366,3 +383,14 @@ read-none disk mountable = record { kept = still-refl disk mountable; array = re
 -- two reads keep all
 pub read-join : (a b c : DiskView) → KeepsByRead a b → KeepsByRead b c → KeepsByRead a c
 read-join a b c p q = record { kept = still-join a b c p.kept q.kept; array = q.array ∙ p.array; size = q.size ∙ p.size; places = q.places ∙ p.places; turns = q.turns ∙ p.turns }
+
+-- ---- growth
+
+-- the reserve allows what is between the size and the most that it allows
+pub growth-fits : (disk : MountedView) (clean : Option CleanView) (blocks most : ℕ) → AgreesWithClean disk clean → FitsReserve disk.drive.geometry most → size_of disk.tables ≤ blocks → blocks ≤ most → FitsReserve disk.drive.geometry blocks
+growth-fits disk clean blocks most serves fits low high =
+    (omega (arith, serves.0.reserve.0, low), omega (arith, fits.1, high), (fits.2.0, fits.2.1, omega (arith, fits.2.2, high)))
+
+pub on-ok : {V E : Type 0} (result : Result V E) (A B : Type 0) → (A → B) → OnOk result A → OnOk result B
+on-ok (Ok value) A B f a = f a
+on-ok (Err fault) A B f a = tt

@@ -88,31 +88,26 @@ pub flush-kept : (old new : DriveState) (tables : TablesView) → Agrees (mounte
 flush-kept old new tables agrees answers = keeps old new tables agrees answers.kept answers.lawful answers.flushed.counts.refused (omega (arith, answers.flushed.counts.appended))
 
 -- one that was not
-pub record FlushHalts (old new : DriveState) (tables : TablesView) (fault : PortFault) : Type 0 where
+pub record FlushFails (old new : DriveState) (fault : PortFault) : Type 0 where
   pub halt : IsHalt fault
-  pub kept : KeepsArray (hardened (mounted old tables) (mounted new tables)) (mounted new tables)
   pub may : MayBeDurable old new
   pub cause : IsReadFault new (disk_fault (fault_halt fault))
 
--- it is not refused, and the result is kept
-pub flush_halts : (old new : DriveState) (tables : TablesView) (fault : PortFault) → Agrees (mounted old tables) → FlushAnswers {V = Unit {0}} old (Err fault) new → FlushHalts old new tables fault
-flush_halts old new tables (port.Refused status) agrees answers = absurd answers.taken
-flush_halts old new tables port.Memory agrees answers =
+-- it is not refused
+pub flush_fails : (old new : DriveState) (fault : PortFault) → FlushAnswers {V = Unit {0}} old (Err fault) new → FlushFails old new fault
+flush_fails old new (port.Refused status) answers = absurd answers.taken
+flush_fails old new port.Memory answers = record { halt = tt; may = λ zones left. inl (rw answers.durable at left); cause = tt }
+flush_fails old new port.Stopped answers = record { halt = tt; may = answers.durable; cause = (answers.stops refl).0 }
+
+-- and the array is kept
+pub flush_keeps : (old new : DriveState) (tables : TablesView) (fault : PortFault) → Agrees (mounted old tables) → FlushAnswers {V = Unit {0}} old (Err fault) new → KeepsArray (hardened (mounted old tables) (mounted new tables)) (mounted new tables)
+flush_keeps old new tables (port.Refused status) agrees answers = absurd answers.taken
+flush_keeps old new tables port.Memory agrees answers =
     let same = answers.gives.1.1.1 in
-    record {
-      halt = tt;
-      kept = keeps old new tables agrees answers.kept answers.lawful (ap (λ (drive : DriveState). drive.refused) same) (ap (λ (drive : DriveState). drive.appended) same);
-      may = λ zones left. inl (rw answers.durable at left);
-      cause = tt;
-    }
-flush_halts old new tables port.Stopped agrees answers =
+    keeps old new tables agrees answers.kept answers.lawful (ap (λ (drive : DriveState). drive.refused) same) (ap (λ (drive : DriveState). drive.appended) same)
+flush_keeps old new tables port.Stopped agrees answers =
     let stops = answers.stops refl in
-    record {
-      halt = tt;
-      kept = keeps old new tables agrees answers.kept answers.lawful stops.1.refused stops.1.appended;
-      may = answers.durable;
-      cause = stops.0;
-    }
+    keeps old new tables agrees answers.kept answers.lawful stops.1.refused stops.1.appended
 
 -- ---- the answers of a flush
 

@@ -1,4 +1,5 @@
 pub mod CleaningLaws
+pub mod RangeLaws
 pub mod RoomLaws
 pub mod FlatLaws
 pub mod BatchLaws
@@ -18,6 +19,7 @@ pub mod AgainLaws
 pub mod LossLaws
 pub mod ListedLaws
 pub mod ListedWriteLaws
+pub mod SendLaws
 pub mod ListedDiskLaws
 pub mod OrderLaws
 pub mod JoinedLaws

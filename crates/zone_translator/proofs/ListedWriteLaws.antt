@@ -71,12 +71,12 @@ listed-heading block_bytes size sequence es is_size room short le below distinct
 }
 
 -- the batch that was built
-record IsBuiltListed (block : ℕ) (heading : Heading) (body : List ℕ) (builder : BuilderView) : Type 0 where
+pub record IsBuiltListed (block : ℕ) (heading : Heading) (body : List ℕ) (builder : BuilderView) : Type 0 where
   pub built_is : IsBuilt block builder
   pub says : IsHeading block builder.heading
   pub batch_is : built block builder ≡ record { heading = heading; body = cut_blocks block (data_count heading.entries) body }
 
-built-listed : (block : ℕ) (heading : Heading) (body : List ℕ) (builder : BuilderView) → 32 ≤ block → IsHeading block heading → length body ≡ data_count heading.entries * block
+pub built-listed : (block : ℕ) (heading : Heading) (body : List ℕ) (builder : BuilderView) → 32 ≤ block → IsHeading block heading → length body ≡ data_count heading.entries * block
     → builder.heading ≡ heading → builder.bytes ≡ header_block block heading ++ body → IsBuiltListed block heading body builder
 built-listed block heading body builder large says long heading-is bytes-are =
     let rest : drop block builder.bytes ≡ body = ap (drop block) bytes-are ∙ drop_at (header_block block heading) body block (header_length block heading large says) in

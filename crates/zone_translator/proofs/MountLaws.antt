@@ -15,13 +15,16 @@ use Rattle.zone_choice.specs.Tables.{TablesView}
 use Rattle.zone_cleaner.specs.Clean.{CleanView, HasNoDestination}
 use Rattle.drive_survey.specs.declared.fault.MountFault.{MountFault}
 use Rattle.drive_survey.specs.declared.fault.MountFault.TheVariants.{Halted, OutOfMemory}
-use Rattle.remount.specs.Kept.{KeepsMountable}
+use Rattle.remount.specs.Kept.{AreSane, KeepsMountable, Stays}
 use Rattle.remount.specs.Mount.{HostIsBelow, IsToMount, MountFails, Mounts}
 use Rattle.drive_survey.specs.Scan.{FailsBy}
+use Rattle.drive_survey.specs.Survey.{MayAsk}
+use Rattle.zone_choice.specs.Sane.{IsSane}
 use Rattle.remount.proofs.RefusalLaws.{only-halts}
 use Rattle.zone_translator.specs.declared.status.DiskStatus.{DiskStatus}
 use Rattle.zone_translator.specs.declared.status.DiskStatus.TheVariants.{Serving, Unmounted}
-use Rattle.zone_translator.specs.Calls.{Holds}
+use Rattle.zone_states.specs.Geometry.{IsInRange}
+use Rattle.zone_translator.specs.Calls.{HoldsClean}
 use Rattle.zone_cleaner.specs.Start.{AgreesWithClean}
 use Rattle.zone_cleaner.proofs.TurnLaws.{cleans_mountable}
 use Rattle.zone_translator.specs.Flat.{FlatRemount}
@@ -82,8 +85,8 @@ is-mounted old new n tables kept mounts =
 -- ---- mounting again
 
 -- the drive of a disk can be mounted
-holds-mount : (drive : DriveState) (tables : TablesView) (clean : Option CleanView) (status : DiskStatus) → Holds (mounted drive tables) clean status → IsToMount drive tables.given
-holds-mount drive tables clean status holds = record { geometry = holds.geometry; reserve = holds.reserve; mountable = holds.mountable }
+holds-mount : (drive : DriveState) (tables : TablesView) (clean : Option CleanView) (status : DiskStatus) → IsInRange drive.geometry → HoldsClean (mounted drive tables) clean status → IsToMount drive tables.given
+holds-mount drive tables clean status range holds = record { geometry = range; reserve = holds.reserve; mountable = holds.mountable }
 
 -- a remount does so, too
 remounted : (old : DiskView) (new : DriveState) (n : ℕ) (tables : TablesView) → n ≡ given_size old → Mounts old.drive new n tables → MountsDisk old.drive (given_size old) (view_of (mounted new tables) None Serving)
@@ -97,15 +100,15 @@ remounted-flat old new n tables clean is same mounts =
     flat-is old (view_of (mounted new tables) clean Serving) (disk_array old) (length (disk_array old)) Serving disk.array (disk.size ∙ ap length disk.array) refl same
 
 -- one that was refused
-remount-halts : (drive new : DriveState) (tables : TablesView) (clean : Option CleanView) (status : DiskStatus) (n : ℕ) (fault : MountFault) → n ≡ tables.given → Holds (mounted drive tables) clean status → FailsBy (MountFails drive n) new fault → FailsBy (λ _. ⊥) new fault
-remount-halts drive new tables clean status n fault is holds fails = only-halts drive new n fault (rw is (holds-mount drive tables clean status holds)) fails
+remount-halts : (drive new : DriveState) (tables : TablesView) (clean : Option CleanView) (status : DiskStatus) (n : ℕ) (fault : MountFault) → n ≡ tables.given → IsInRange drive.geometry → HoldsClean (mounted drive tables) clean status → FailsBy (MountFails drive n) new fault → FailsBy (λ _. ⊥) new fault
+remount-halts drive new tables clean status n fault is range holds fails = only-halts drive new n fault (rw is (holds-mount drive tables clean status range holds)) fails
 
 -- one that was refused is a flat array's, too
-refused-flat : (old : DiskView) (new : DriveState) (n : ℕ) (clean : Option CleanView) (fault : MountFault) → n ≡ given_size old → Holds (mounted_of old) old.clean old.status → KeepsMountable n old.drive new → FailsBy (MountFails old.drive n) new fault
+refused-flat : (old : DiskView) (new : DriveState) (n : ℕ) (clean : Option CleanView) (fault : MountFault) → n ≡ given_size old → IsInRange old.drive.geometry → HoldsClean (mounted_of old) old.clean old.status → KeepsMountable n old.drive new → FailsBy (MountFails old.drive n) new fault
     → FlatRemount (flat_of old) (Err fault) (flat_of (view_of (mounted new old.tables) clean Unmounted))
-refused-flat old new n clean fault is holds kept fails =
+refused-flat old new n clean fault is range holds kept fails =
     let array : encoded new (given_size old) ≡ disk_array old = (rw is at kept).array holds.mountable in
-    (stops (remount-halts old.drive new old.tables old.clean old.status n fault is holds fails), flat-is old (view_of (mounted new old.tables) clean Unmounted) (disk_array old) (disk_size old) Unmounted array refl refl kept.geometry)
+    (stops (remount-halts old.drive new old.tables old.clean old.status n fault is range holds fails), flat-is old (view_of (mounted new old.tables) clean Unmounted) (disk_array old) (disk_size old) Unmounted array refl refl kept.geometry)
   where
     stops : FailsBy (λ _. ⊥) new fault → (fault ≡ OutOfMemory) ⊎ (fault ≡ Halted)
     stops (inl memory) = inl memory
@@ -129,14 +132,34 @@ remounts old new clean none kept mounts =
     }
 
 -- and of one that is not
-pub remount-refused : (old : DiskView) (new : MountedView) (clean : Option CleanView) (fault : MountFault) → clean ≡ None → new.tables ≡ old.tables → Holds (mounted_of old) old.clean old.status → KeepsMountable (given_size old) old.drive new.drive
+pub remount-refused : (old : DiskView) (new : MountedView) (clean : Option CleanView) (fault : MountFault) → clean ≡ None → new.tables ≡ old.tables → IsInRange old.drive.geometry → HoldsClean (mounted_of old) old.clean old.status → KeepsMountable (given_size old) old.drive new.drive
     → FailsBy (MountFails old.drive (given_size old)) new.drive fault → Remounts old (Err fault) (view_of new clean Unmounted)
-remount-refused old new clean fault none tables holds kept fails = record {
-  flat = rw tables (refused-flat old new.drive (given_size old) clean fault refl holds kept fails);
+remount-refused old new clean fault none tables range holds kept fails = record {
+  flat = rw tables (refused-flat old new.drive (given_size old) clean fault refl range holds kept fails);
   mounts = tt;
-  cause = remount-halts old.drive new.drive old.tables old.clean old.status (given_size old) fault refl holds fails;
+  cause = remount-halts old.drive new.drive old.tables old.clean old.status (given_size old) fault refl range holds fails;
   kept = kept;
   given = ap (λ (t : TablesView). t.given) tables;
   mountable = rw tables (kept.mountable holds.mountable);
   clean = none;
+}
+
+-- a disk of which a remount was refused
+pub holds-unmounted : (old new : MountedView) (clean clean' : Option CleanView) (status : DiskStatus) → new.tables ≡ old.tables → KeepsMountable old.tables.given old.drive new.drive → HoldsClean old clean status → HoldsClean new clean' Unmounted
+holds-unmounted old new clean clean' status tables kept holds = record {
+  mountable = rw tables (kept.mountable holds.mountable);
+  reserve = rw (tables, kept.geometry) holds.reserve;
+  agrees = tt;
+  stopped = λ e. absurd (cc);
+}
+
+-- whatever the Reads returned, the numbers of a disk that was mounted are in range
+pub mounted-sane : (old new : DriveState) (tables : TablesView) (n : ℕ) → Stays old new → MayAsk old n → AreSane new.geometry tables → IsSane (mounted new tables)
+mounted-sane old new tables n stays asked are = record {
+  geometry = rw stays.geometry asked.geometry;
+  one_drive = are.one_drive;
+  zones = are.zones;
+  short = are.short;
+  next = are.next;
+  fillings_are = are.fillings_are;
 }

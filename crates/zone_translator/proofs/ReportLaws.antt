@@ -16,11 +16,13 @@ use Rattle.drive_port.specs.declared.calls.PortFault.{PortFault}
 use Rattle.drive_port.specs.declared.calls.PortFault.TheVariants as port
 use Rattle.drive_port.proofs.ClosingLaws.{length-closing}
 use Rattle.zone_choice.specs.Agreement.{Agrees, mounted}
-use Rattle.zone_choice.specs.Changes.{KeepsArray}
+use Rattle.zone_choice.specs.Changes.{IsHalt, KeepsArray, fault_halt}
 use Rattle.zone_choice.specs.Tables.{TablesView}
 use Rattle.zone_choice.proofs.ChangeLaws.{keeps-contents, keeps-halt, keeps-same}
 use Rattle.zone_choice.proofs.OpenLaws.{closing-opens}
 use Rattle.zone_translator.specs.Calls.{ReportsAll, whole_report}
+use Rattle.zone_translator.specs.Changes.{disk_fault}
+use Rattle.zone_translator.specs.Read.{IsReadFault}
 use Rattle.zone_translator.proofs.ReadLaws.{ReadHalts}
 use Rattle.drive_survey.proofs.ReportLaws.{length-matching, whole-room, can-report}
 
@@ -61,3 +63,13 @@ report_halts old new tables dwords returned port.Stopped agrees gives same closi
   kept = keeps-same old new tables agrees same (closing-opens old.zones new.zones closing) obeys.lawful (obeys.counts refl).refused obeys.durable (obeys.counts refl).appended;
   cause = obeys.stops refl;
 }
+
+-- why it is not done
+pub record ReportFails (new : DriveState) (fault : PortFault) : Type 0 where
+  pub halt : IsHalt fault
+  pub cause : IsReadFault new (disk_fault (fault_halt fault))
+
+pub report_fails : (old new : DriveState) (fault : PortFault) → IsInRange old.geometry → Obeys {V = Unit {0}} old (Err fault) new → (0 < end_of old.geometry → IsNotRefused {V = Unit {0}} (Err fault)) → ReportFails new fault
+report_fails old new (port.Refused status) range obeys passed = absurd (passed (can-report old range))
+report_fails old new port.Memory range obeys passed = record { halt = tt; cause = tt }
+report_fails old new port.Stopped range obeys passed = record { halt = tt; cause = obeys.stops refl }

@@ -23,7 +23,7 @@ use Rattle.zone_choice.proofs.RolesLaws.{roles_with, second_list}
 use Rattle.zone_cleaner.specs.declared.fault.CleanFault.{CleanFault}
 use Rattle.zone_cleaner.specs.declared.fault.CleanFault.TheVariants as faults
 use Rattle.zone_cleaner.specs.Clean.{CleanView}
-use Rattle.zone_cleaner.specs.Start.{AgreesWithClean, IsCleaningCause, KeepsByCleaning, trims}
+use Rattle.zone_cleaner.specs.Start.{AgreesWithClean, GoesOn, IsCleaningCause, KeepsByCleaning, trims}
 use Rattle.zone_cleaner.proofs.NextLaws.{cleaned_kept, cleaning_kept, promote_gives}
 use Rattle.zone_cleaner.proofs.TurnLaws.{keeps-more}
 use Rattle.zone_translator.proofs.CleaningLaws.{StaysClean, array-stays, goes-same, newer-same, stays-cleaning}
@@ -115,6 +115,13 @@ clean_cause drive next faults.OutOfMemory is = tt
 clean_cause drive next faults.Stopped is = is
 clean_cause drive next faults.Spent is = is
 clean_cause drive next faults.Damaged is = absurd is
+
+-- a whole clean was not done
+pub room-cleaned : (V : Type 0) (a b : MountedView) (clean : Option CleanView) (cause : CleanFault) → KeepsByCleaning a b → GoesOn (Err cause) b clean → IsCleaningCause b.drive b.tables.next cause → RoomLeaves {V = V} a b clean (Err (cleaning_fault cause))
+room-cleaned V a b clean faults.OutOfMemory keeps on is = (keeps, on)
+room-cleaned V a b clean faults.Stopped keeps on is = keeps
+room-cleaned V a b clean faults.Spent keeps on is = (keeps, on)
+room-cleaned V a b clean faults.Damaged keeps on is = absurd is
 
 -- ---- the host zone
 

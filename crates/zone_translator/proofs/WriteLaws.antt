@@ -77,7 +77,7 @@ built-batch block size sequence trim first count body builder large is_size room
       batch_is = rw (heading-is, rest) refl;
     }
 
-few-entries : (g : Geometry) (count : ℕ) → count ≤ batch_most g → (count ≤ entry_room g.block) × (count ≤ g.transfer - 1)
+pub few-entries : (g : Geometry) (count : ℕ) → count ≤ batch_most g → (count ≤ entry_room g.block) × (count ≤ g.transfer - 1)
 few-entries g count le = (omega arith, omega arith)
 
 -- how many blocks a batch takes
@@ -88,7 +88,7 @@ pub record TakesCount (g : Geometry) (host : Filling) (left : ℕ) (trim : Bool)
   pub room : host.written + 1 + data_count (entries_from trim 0 count) ≤ g.capacity
 
 -- a batch takes one block at least, and no more than are left
-count-takes : (g : Geometry) (host : Filling) (left : ℕ) (trim : Bool) → IsInRange g → host.written + 2 ≤ g.capacity → 1 ≤ left → TakesCount g host left trim (batch_count g host left trim)
+pub count-takes : (g : Geometry) (host : Filling) (left : ℕ) (trim : Bool) → IsInRange g → host.written + 2 ≤ g.capacity → 1 ≤ left → TakesCount g host left trim (batch_count g host left trim)
 count-takes g host left true range free some =
     let most = positive-most g range in
     record { some = omega (arith, most, some); few = omega arith; most = omega arith; room = omega (arith, free, data_count-trims 0 (batch_count g host left true)) }
@@ -105,7 +105,7 @@ batch-counted g h host left false count same range free some is =
     let takes : TakesCount h host left false count = rw is (count-takes h host left false range free some) in
     (takes.some, takes.few, tt)
 
-data_count-anywhere : (trim : Bool) (first other count : ℕ) → data_count (entries_from trim first count) ≡ data_count (entries_from trim other count)
+pub data_count-anywhere : (trim : Bool) (first other count : ℕ) → data_count (entries_from trim first count) ≡ data_count (entries_from trim other count)
 data_count-anywhere true first other count = data_count-trims first count ∙ sym (data_count-trims other count)
 data_count-anywhere false first other count = data_count-entries first count ∙ sym (data_count-entries other count)
 

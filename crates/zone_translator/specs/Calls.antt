@@ -1,5 +1,5 @@
 -- What holds of the parts of a disk, and what a read gives.
-use Rattle.std.specs.Prelude.{◌≡◌, ℕ, ◌≤◌, ◌^◌, ◌++◌, Bool, true, false, List, length, Option, Some, None, Result, Ok, Err, is_some}
+use Rattle.std.specs.Prelude.{◌≡◌, ℕ, ◌≤◌, ◌^◌, ◌++◌, Bool, true, false, List, length, Option, Some, None, Result, Ok, Err, IsTrue, is_some}
 use Rattle.std.specs.List.{concat, flat_map}
 use Rattle.nvme_wire.specs.Descriptor.{descriptor_bytes, report_head_bytes}
 use Rattle.nvme_wire.specs.declared.command.ReportingOptions.TheVariants.{AnyState}
@@ -9,7 +9,7 @@ use Rattle.zone_report.specs.Report.{matching}
 use Rattle.zone_states.specs.Geometry.{IsInRange}
 use Rattle.drive_port.specs.Drive.{DriveState, IsClosing}
 use Rattle.zone_choice.specs.Agreement.{MountedView}
-use Rattle.zone_choice.specs.Tables.{size_of}
+use Rattle.zone_choice.specs.Sane.{IsSane}
 use Rattle.drive_array.specs.Mountable.{IsMountable}
 use Rattle.drive_array.specs.Reserve.{FitsReserve}
 use Rattle.zone_translator.specs.declared.fault.DiskFault.{DiskFault}
@@ -29,20 +29,23 @@ WhileServing Serving Fact = Fact
 WhileServing Stopped Fact = Unit {0}
 WhileServing Unmounted Fact = Unit {0}
 
--- The drive of a disk can be mounted: its geometry is in range, and its reserve allows the number that the mount was
--- given. While the disk serves, the tables agree with the drive, and a clean runs, or none does and a zone is kept
--- empty. It has answered `Stopped` only after the drive has stopped.
-pub record Holds (disk : MountedView) (clean : Option CleanView) (status : DiskStatus) : Type 0 where
+-- The drive of a disk can be mounted, and its reserve allows the number that the mount was given. While the disk
+-- serves, the tables agree with the drive, and a clean runs, or none does and a zone is kept empty. It has answered
+-- `Stopped` only after the drive has stopped.
+pub record HoldsClean (disk : MountedView) (clean : Option CleanView) (status : DiskStatus) : Type 0 where
   pub mountable : IsMountable disk.drive disk.tables.given
-  pub geometry : IsInRange disk.drive.geometry
   pub reserve : FitsReserve disk.drive.geometry disk.tables.given
-  pub short : size_of disk.tables ≤ 2 ^ 31
   pub agrees : WhileServing status (AgreesWithClean disk clean)
   pub stopped : status ≡ Stopped → disk.drive.stopped ≡ true
 
+-- So it is while the drive is clean. Whatever its Reads returned, the numbers of the disk are in range.
+pub record Holds (disk : MountedView) (clean : Option CleanView) (status : DiskStatus) : Type 0 where
+  pub sane : IsSane disk
+  pub when : IsTrue disk.drive.clean → HoldsClean disk clean status
+
 -- what of it a test of a call beforehand tells
 pub record IsSound (disk : DiskView) : Type 0 where
-  pub mountable : IsMountable disk.drive (given_size disk)
+  pub mountable : IsTrue disk.drive.clean → IsMountable disk.drive (given_size disk)
   pub range : IsInRange disk.drive.geometry
   pub short : disk_size disk ≤ 2 ^ 31
 

@@ -4,6 +4,7 @@ pub mod Changes
 pub mod View
 pub mod Keeping
 pub mod Calls
+pub mod Answering
 pub mod Read
 pub mod Mount
 pub mod Laws

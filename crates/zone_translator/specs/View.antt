@@ -4,6 +4,7 @@ use Rattle.std.specs.Int.{div_ceil}
 use Rattle.std.specs.List.{AllByRecursion}
 use Rattle.drive_port.specs.Drive.{DriveState}
 use Rattle.batch_log.specs.Log.{Batch}
+use Rattle.zone_choice.specs.Sane.{KeepsShape}
 use Rattle.zone_choice.specs.Tables.{TablesView, size_of}
 use Rattle.logical_map.specs.Live.{lies_in}
 use Rattle.logical_map.specs.declared.place.Place.{Place}
@@ -88,6 +89,11 @@ pub record KeepsDisk (old new : DiskView) : Type 0 where
   pub appended : old.drive.appended ≤ new.drive.appended
   pub below : AreBelowNext old → AreBelowNext new
   pub unmounted : new.status ≡ statuses.Unmounted → old.status ≡ statuses.Unmounted
+
+-- Whatever the Reads of the drive returned, its shape and the number of blocks stay.
+pub record StaysAlike (old new : DiskView) : Type 0 where
+  pub shape : KeepsShape old.drive new.drive
+  pub size : disk_size new ≡ disk_size old
 
 -- a call that is no flush also keeps what is durable of the drive
 pub record KeepsDurable (old new : DiskView) : Type 0 where

@@ -1,4 +1,4 @@
-ghost use Rattle.std.specs.Prelude.{◌≡◌, ◌+◌, ◌<◌, ◌≤◌, ◌^◌, ◌++◌, [], IfErr, IfOk, None, OnErr, OnOk, false};
+ghost use Rattle.std.specs.Prelude.{◌≡◌, ◌+◌, ◌<◌, ◌≤◌, ◌^◌, ◌++◌, [], IfErr, IfOk, IsTrue, None, OnErr, OnOk, false};
 ghost use Rattle.std.specs.Prelude.{is_some, length, nat_eq, nat_lt, slice_index_or, true, ◌*◌};
 ghost use Rattle.std.specs.List.{AllByRecursion, IsDistinct, concat, list_all};
 ghost use Rattle.batch_log.specs.Log.{data_count};
@@ -9,22 +9,23 @@ ghost use Rattle.drive_survey.specs.Scan.{FailsBy};
 ghost use Rattle.drive_survey.specs.Survey.{MayAsk};
 ghost use Rattle.drive_array.specs.Reserve.{FitsReserve};
 ghost use Rattle.zone_choice.specs.Roles.{empty_count};
+ghost use Rattle.zone_choice.specs.Sane.{IsSane, KeepsShape};
 ghost use Rattle.zone_choice.specs.Tables.{size_of};
 ghost use Rattle.zone_translator.specs.Answers.{Answers, AnswersRead, AreBlocksOf, CostsAtMost, IsMounted};
 ghost use Rattle.zone_translator.specs.Answers.{KeepsClean, Remounts, SaysSize, Stores, TakesTurn};
 ghost use Rattle.zone_translator.specs.Answers.{StoresList, count_of_blocks, list_commands, write_bytes};
 ghost use Rattle.zone_translator.specs.Answers.{write_commands, write_content, write_entries};
-ghost use Rattle.zone_translator.specs.Batches.{CanWrite, HasBlocks, KeepsCut, KeepsCutTo, is_trim};
+ghost use Rattle.zone_translator.specs.Batches.{CanWrite, HasBlocks, IsTaken, KeepsCut, KeepsCutTo, is_trim};
 ghost use Rattle.zone_translator.specs.Calls.{IsSound, ReportsAll, answer_before, done_of, refusal_before, status_left};
 ghost use Rattle.zone_translator.specs.Changes.{batch_commands};
 ghost use Rattle.zone_translator.specs.Cleaning.{KeepsCleaning};
 ghost use Rattle.zone_translator.specs.Flat.{answer_while, fill, flush, grow, idle, known_blocks, known_growth};
 ghost use Rattle.zone_translator.specs.Flat.{blocks_from, known_range, report, trim};
-ghost use Rattle.zone_translator.specs.Listed.{CanPutAll, PutSome, RefusedPuts, blocks_named, last_block};
+ghost use Rattle.zone_translator.specs.Listed.{CanPutAll, IsFrontOf, PutSome, RefusedPuts, blocks_named, last_block};
 ghost use Rattle.zone_translator.specs.Mount.{GivesBack};
 ghost use Rattle.zone_translator.specs.Parts.{KeepsByRead, ReadStops, ReadsPieces, RefusedSome, WroteSome};
 ghost use Rattle.zone_translator.specs.Read.{IsPiece};
-ghost use Rattle.zone_translator.specs.View.{CompletesAtMost, DiskCause, HasLive, KeepsDurable, disk_array};
+ghost use Rattle.zone_translator.specs.View.{CompletesAtMost, DiskCause, HasLive, KeepsDurable, StaysAlike, disk_array};
 ghost use Rattle.zone_translator.specs.View.{disk_places, disk_size, disk_turns, flat_of, mounted_of};
 ghost use Rattle.zone_translator.specs.declared.status.DiskStatus.TheVariants.{Serving};
 
@@ -36,26 +37,24 @@ use crate::report::report_all;
 use crate::status::DiskStatus;
 use crate::write::{Content, Rest, grow_batch, next_batch};
 use batch_log::Entry;
-use drive_port::{Device, Honest};
+use drive_port::Device;
 use logical_map::Place;
-use remount::MountFault;
-use remount::honest::mount;
+use remount::{MountFault, mount};
 use std::alloc::Global;
 use std::marker::Model;
 use zone_choice::{BatchBuilder, Mounted, most_blocks};
 use zone_cleaner::Cleaner;
-use zone_cleaner::honest::turn;
 
 /// An array of logical blocks above a zoned drive. A disk owns its drive, and gives it back.
 #[derive(Drop)]
-pub struct Disk<D: Device + Drop> {
+pub struct AnyDisk<D: Device + Drop> {
     mounted: Mounted<D>,
     cleaner: Cleaner,
     status: DiskStatus,
     batch: BatchBuilder,
 }
 
-impl<D: Device + Drop> Model for Disk<D> {
+impl<D: Device + Drop> Model for AnyDisk<D> {
     ghost use Rattle.zone_translator.specs.View.{DiskView};
     ghost use Rattle.zone_translator.specs.Calls.{Holds};
 
@@ -86,15 +85,20 @@ fn new_cleaner<D: Device>(disk: &Mounted<D>) -> Cleaner
 }
 
 /// Finds the tables again on the drive. After a refusal they are the old ones.
-fn mount_again<D: Device + Honest>(disk: &mut Mounted<D>) -> Result<(), MountFault>
-    // Done, the tables are what a mount finds. Refused, they do not change, and the fault has its cause.
-    ensures ok { OnOk result
+fn mount_again<D: Device>(disk: &mut Mounted<D>) -> Result<(), MountFault>
+    requires { IsSane disk.old }
+    // While the drive is clean: done, the tables are what a mount finds. Refused, the fault has its cause.
+    ensures ok { IsTrue disk.new.drive.clean → OnOk result
         (Mounts disk.old.drive disk.new.drive disk.old.tables.given disk.new.tables) }
-    ensures err { IfErr result
+    ensures err { IsTrue disk.new.drive.clean → IfErr result
         (FailsBy (MountFails disk.old.drive disk.old.tables.given) disk.new.drive) }
+    // Then, whatever it answers, a drive that could be mounted still can be, with the same array.
+    ensures kept { IsTrue disk.new.drive.clean
+        → KeepsMountable disk.old.tables.given disk.old.drive disk.new.drive }
+    // Refused, the tables do not change. Whatever the Reads returned, their numbers are in range.
     ensures tables { OnErr result (disk.new.tables ≡ disk.old.tables) }
-    // Whatever it answers, a drive that could be mounted still can be, with the same array.
-    ensures kept { KeepsMountable disk.old.tables.given disk.old.drive disk.new.drive }
+    ensures sane { IsSane disk.new }
+    ensures shape { KeepsShape disk.old.drive disk.new.drive }
 {
     match mount(disk.alloc, &mut disk.device, disk.tables.given() as u64) {
         Ok(tables) => {
@@ -115,21 +119,24 @@ fn status_of(fault: DiskFault) -> DiskStatus
     }
 }
 
-impl<D: Device + Honest + Drop> Disk<D> {
+impl<D: Device + Drop> AnyDisk<D> {
     /// The disk that a drive holds, of `blocks` logical blocks if no header on the drive says how many. The drive
     /// is checked, and what a stop left of it repaired: see `remount::mount`.
     ///
     /// With the fault the drive is given back, and can be mounted if it could before.
-    pub fn mount(alloc: Global, mut device: D, blocks: u64) -> Result<Disk<D>, (MountFault, D)>
-        ensures disk { IfOk result (IsMounted (D.drive device) blocks) }
-        ensures err { IfErr result
-            (λ refusal. GivesBack (D.drive device) blocks refusal.0 (D.drive refusal.1)) }
+    pub fn mount(alloc: Global, mut device: D, blocks: u64) -> Result<AnyDisk<D>, (MountFault, D)>
+        ensures disk { IfOk result (λ disk. IsTrue disk.drive.clean → IsMounted (D.drive device) blocks disk) }
+        ensures err { IfErr result (λ refusal. IsTrue (D.drive refusal.1).clean
+            → GivesBack (D.drive device) blocks refusal.0 (D.drive refusal.1)) }
+        // Whatever the Reads returned, the drive has the same shape.
+        ensures shape { IfOk result (λ disk. KeepsShape (D.drive device) disk.drive) }
+        ensures back { IfErr result (λ refusal. KeepsShape (D.drive device) (D.drive refusal.1)) }
         // Nothing is sent if the geometry is out of range, or if the reserve does not allow the number.
         ensures unsent { IfErr result (λ refusal. (MayAsk (D.drive device) blocks → ⊥)
             → D.drive refusal.1 ≡ D.drive device) }
     {
         match mount(alloc, &mut device, blocks) {
-            Ok(tables) => Ok(Disk {
+            Ok(tables) => Ok(AnyDisk {
                 mounted: Mounted::new(alloc, device, tables),
                 cleaner: Cleaner::new(alloc),
                 status: DiskStatus::Serving,
@@ -157,7 +164,7 @@ impl<D: Device + Honest + Drop> Disk<D> {
     pub fn blocks(&self) -> u64
         ensures size { result ≡ disk_size self.now }
         ensures few { result ≤ 2 ^ 31 }
-        ensures array { self.now.status ≡ Serving
+        ensures array { IsTrue self.now.drive.clean → self.now.status ≡ Serving
             → length (disk_array self.now) ≡ disk_size self.now }
     {
         mounted_blocks(&self.mounted)
@@ -174,7 +181,7 @@ impl<D: Device + Honest + Drop> Disk<D> {
     /// Where the newest record of a block is on the drive. A block that no record names has no place, and
     /// neither has one past the end. After `Stopped` it is the place that was known before.
     pub fn place_of(&self, block: u64) -> Place
-        ensures { self.now.status ≡ Serving
+        ensures { IsTrue self.now.drive.clean → self.now.status ≡ Serving
             → result ≡ slice_index_or (disk_places self.now) block places.None }
     {
         if block >= mounted_blocks(&self.mounted) {
@@ -186,7 +193,7 @@ impl<D: Device + Honest + Drop> Disk<D> {
     /// How many blocks have their newest record in a zone: its live records; 0 for a zone that the drive has not.
     /// After `Stopped` it is the number that was known before.
     pub fn live(&self, zone: u32) -> u32
-        ensures { self.now.status ≡ Serving → HasLive self.now zone result }
+        ensures { IsTrue self.now.drive.clean → self.now.status ≡ Serving → HasLive self.now zone result }
     {
         self.mounted.tables.live(zone)
     }
@@ -205,15 +212,18 @@ impl<D: Device + Honest + Drop> Disk<D> {
         requires serving { self.old.status ≡ Serving }
         requires can { CanWrite (mounted_of self.old) rest }
         // Done, it has written the first of the blocks left. Refused, it may have, and the fault has its cause.
-        ensures wrote { IfOk result (WroteSome self.old rest.entry self.new) }
-        ensures err { IfErr result (RefusedSome self.old rest.entry self.new) }
+        ensures wrote { IsTrue self.new.drive.clean → IfOk result (WroteSome self.old rest.entry self.new) }
+        ensures err { IsTrue self.new.drive.clean → IfErr result (RefusedSome self.old rest.entry self.new) }
         // Whatever it answers, the drive can be mounted, and the size is the same. Its batch is as long as it can be.
-        ensures kept { KeepsDurable self.old self.new }
-        ensures size { disk_size self.new ≡ disk_size self.old }
-        ensures cut { KeepsCut self.old.drive rest.entry self.new.drive }
-        // It adds no turns to a clean that ran, and costs at most the commands of one batch.
-        ensures clean { KeepsCleaning (mounted_of self.old) self.old.clean result
+        ensures kept { IsTrue self.new.drive.clean → KeepsDurable self.old self.new }
+        ensures cut { IsTrue self.new.drive.clean → KeepsCut self.old.drive rest.entry self.new.drive }
+        // It adds no turns to a clean that ran.
+        ensures clean { IsTrue self.new.drive.clean → KeepsCleaning (mounted_of self.old) self.old.clean result
             (mounted_of self.new) self.new.clean }
+        // Done, it took a block at least. Whatever the Reads returned, it costs at most the commands of one batch.
+        ensures taken { IfOk result (IsTaken self.old.drive.geometry rest.entry) }
+        ensures alike { StaysAlike self.old self.new }
+        ensures serves { OnOk result (self.new.status ≡ Serving) }
         ensures completed { CompletesAtMost self.old
             (batch_commands self.old.drive.geometry) self.new }
     {
@@ -230,12 +240,16 @@ impl<D: Device + Honest + Drop> Disk<D> {
     fn write_all(&mut self, first: u64, blocks: u64, content: Content) -> Result<(), DiskFault>
         requires whole { HasBlocks self.old.drive.geometry.block blocks content }
         // It answers as a flat array does. The drive can be mounted again, and each batch is as long as it can be.
-        ensures answers { Answers self.old
+        ensures answers { IsTrue self.new.drive.clean → Answers self.old
             (write_content self.old first blocks content.entry) result self.new }
-        ensures stores { Stores (is_trim content.entry) self.old first blocks result self.new }
+        ensures stores { IsTrue self.new.drive.clean → Stores (is_trim content.entry) self.old first blocks result self.new }
         // It completes at most that many commands and, unless the drive stops, adds no turns to a clean that runs.
-        ensures costs { CostsAtMost self.old
+        ensures costs { IsTrue self.new.drive.clean → CostsAtMost self.old
             (write_commands (is_trim content.entry) self.old blocks) result self.new }
+        // Whatever the Reads returned, shape and size stay, and the commands have that bound.
+        ensures alike { StaysAlike self.old self.new }
+        ensures completed { CompletesAtMost self.old
+            (write_commands (is_trim content.entry) self.old blocks) self.new }
     {
         if self.is_done(first, blocks)? {
             return Ok(());
@@ -263,13 +277,15 @@ impl<D: Device + Honest + Drop> Disk<D> {
         requires in_range { block < disk_size self.old }
         requires serving { self.old.status ≡ Serving }
         // Whatever it answers, the array is the same, and the drive can be mounted again.
-        ensures keeps { KeepsByRead self.old self.new }
+        ensures keeps { IsTrue self.new.drive.clean → KeepsByRead self.old self.new }
         // Done, it has added the block's bytes, and the disk still serves. Refused, the fault has its cause.
-        ensures ok { OnOk result (into.new.items ≡ into.old.items
+        ensures ok { IsTrue self.new.drive.clean → OnOk result (into.new.items ≡ into.old.items
             ++ slice_index_or (disk_array self.old) block []) }
         ensures serving { OnOk result (self.new.status ≡ Serving) }
-        ensures err { IfErr result (ReadStops self.old block self.new) }
-        // It completes one command at most.
+        ensures err { IsTrue self.new.drive.clean → IfErr result (ReadStops self.old block self.new) }
+        // Whatever the Read returned, shape, size and turns stay. It completes one command at most.
+        ensures alike { StaysAlike self.old self.new }
+        ensures turns { disk_turns self.new ≡ disk_turns self.old }
         ensures completed { CompletesAtMost self.old 1 self.new }
     {
         match read_block(&mut self.mounted, block, into) {
@@ -289,14 +305,17 @@ impl<D: Device + Honest + Drop> Disk<D> {
         requires in_range { block + left ≤ disk_size self.old }
         requires serving { self.old.status ≡ Serving }
         // Whatever it answers, the array is the same, and the drive can be mounted again.
-        ensures keeps { KeepsByRead self.old self.new }
+        ensures keeps { IsTrue self.new.drive.clean → KeepsByRead self.old self.new }
         // Done, it has added the bytes of a piece, and the disk still serves. Refused, the fault has its cause.
-        ensures ok { IfOk result (λ count. into.new.items ≡ into.old.items
+        ensures ok { IsTrue self.new.drive.clean → IfOk result (λ count. into.new.items ≡ into.old.items
             ++ concat (blocks_from (disk_array self.old) block count)) }
-        ensures piece { IfOk result (λ count. IsPiece self.old.drive.geometry (disk_places self.old) block left count) }
+        ensures piece { IsTrue self.new.drive.clean → IfOk result (λ count. IsPiece self.old.drive.geometry (disk_places self.old) block left count) }
         ensures serving { OnOk result (self.new.status ≡ Serving) }
-        ensures err { IfErr result (ReadStops self.old block self.new) }
-        // It completes one command at most.
+        ensures err { IsTrue self.new.drive.clean → IfErr result (ReadStops self.old block self.new) }
+        // Whatever the Read returned, shape, size and turns stay. It completes one command at most.
+        ensures some { IfOk result (λ count. (1 ≤ count) × (count ≤ left)) }
+        ensures alike { StaysAlike self.old self.new }
+        ensures turns { disk_turns self.new ≡ disk_turns self.old }
         ensures completed { CompletesAtMost self.old 1 self.new }
     {
         match read_piece(&mut self.mounted, block, left, into) {
@@ -313,7 +332,7 @@ impl<D: Device + Honest + Drop> Disk<D> {
         // It answers what a flat array knows beforehand. Done, the disk serves; refused, the fault has its cause.
         ensures known { answer_while self.now.status ≡ refusal_before result }
         ensures serving { OnOk result (self.now.status ≡ Serving) }
-        ensures cause { IfErr result (DiskCause self.now) }
+        ensures cause { IsTrue self.now.drive.clean → IfErr result (DiskCause self.now) }
         // In both cases the drive can be mounted.
         ensures sound { IsSound self.now }
     {
@@ -333,11 +352,11 @@ impl<D: Device + Honest + Drop> Disk<D> {
         ensures in_range { IfOk result (λ done. done ≡ false
             → (1 ≤ blocks) × (first + blocks ≤ disk_size self.now)) }
         ensures serving { IfOk result (λ done. done ≡ false → self.now.status ≡ Serving) }
-        ensures long { IfOk result (λ done. done ≡ false
+        ensures long { IsTrue self.now.drive.clean → IfOk result (λ done. done ≡ false
             → length (disk_array self.now) ≡ disk_size self.now) }
         // If it is done, it names no block. A refusal has its cause, and the drive can be mounted in any case.
         ensures none { IfOk result (λ done. done ≡ true → blocks ≡ 0) }
-        ensures cause { IfErr result (DiskCause self.now) }
+        ensures cause { IsTrue self.now.drive.clean → IfErr result (DiskCause self.now) }
         ensures sound { IsSound self.now }
     {
         let size = mounted_blocks(&self.mounted);
@@ -356,11 +375,15 @@ impl<D: Device + Honest + Drop> Disk<D> {
     /// After a refusal midway the first blocks are written, perhaps none or all. After `OutOfMemory` or `Spent` the
     /// disk continues; after `Stopped` a mount of the restarted drive finds them.
     pub fn fill(&mut self, first: u64, blocks: u64, byte: u8) -> Result<(), DiskFault>
-        ensures answers { Answers self.old
+        ensures answers { IsTrue self.new.drive.clean → Answers self.old
             (fill self.old.drive.geometry.block first blocks byte) result self.new }
-        ensures stores { Stores false self.old first blocks result self.new }
-        ensures costs { CostsAtMost self.old
+        ensures stores { IsTrue self.new.drive.clean → Stores false self.old first blocks result self.new }
+        ensures costs { IsTrue self.new.drive.clean → CostsAtMost self.old
             (write_commands false self.old blocks) result self.new }
+        // Whatever the Reads returned, shape and size stay, and the commands have that bound.
+        ensures alike { StaysAlike self.old self.new }
+        ensures completed { CompletesAtMost self.old
+            (write_commands false self.old blocks) self.new }
     {
         self.write_all(first, blocks, Content::Byte(byte))
     }
@@ -371,13 +394,17 @@ impl<D: Device + Honest + Drop> Disk<D> {
     pub fn write(&mut self, first: u64, bytes: &[u8]) -> Result<(), DiskFault>
         requires whole { AreBlocksOf self.old bytes.now }
         // It answers as a flat array does. Whatever it answers, the drive can be mounted again.
-        ensures answers { Answers self.old (write_bytes self.old first bytes.now) result self.new }
+        ensures answers { IsTrue self.new.drive.clean → Answers self.old (write_bytes self.old first bytes.now) result self.new }
         // Done, the newest records of these blocks have data. In any case each batch is as long as it can be.
-        ensures stores { Stores false self.old first
+        ensures stores { IsTrue self.new.drive.clean → Stores false self.old first
             (count_of_blocks self.old bytes.now) result self.new }
         // It completes at most that many commands and, unless the drive stops, adds no turns to a clean that runs.
-        ensures costs { CostsAtMost self.old
+        ensures costs { IsTrue self.new.drive.clean → CostsAtMost self.old
             (write_commands false self.old (count_of_blocks self.old bytes.now)) result self.new }
+        // Whatever the Reads returned, shape and size stay, and the commands have that bound.
+        ensures alike { StaysAlike self.old self.new }
+        ensures completed { CompletesAtMost self.old
+            (write_commands false self.old (count_of_blocks self.old bytes.now)) self.new }
     {
         let block = self.mounted.geometry().block as usize;
         self.write_all(first, (bytes.len() / block) as u64, Content::Bytes(bytes))
@@ -388,11 +415,15 @@ impl<D: Device + Honest + Drop> Disk<D> {
     ///
     /// After a refusal midway the first blocks are trimmed, perhaps none or all, as after one of a `fill`.
     pub fn trim(&mut self, first: u64, blocks: u64) -> Result<(), DiskFault>
-        ensures answers { Answers self.old
+        ensures answers { IsTrue self.new.drive.clean → Answers self.old
             (trim self.old.drive.geometry.block first blocks) result self.new }
-        ensures stores { Stores true self.old first blocks result self.new }
-        ensures costs { CostsAtMost self.old
+        ensures stores { IsTrue self.new.drive.clean → Stores true self.old first blocks result self.new }
+        ensures costs { IsTrue self.new.drive.clean → CostsAtMost self.old
             (write_commands true self.old blocks) result self.new }
+        // Whatever the Reads returned, shape and size stay, and the commands have that bound.
+        ensures alike { StaysAlike self.old self.new }
+        ensures completed { CompletesAtMost self.old
+            (write_commands true self.old blocks) self.new }
     {
         self.write_all(first, blocks, Content::Trim)
     }
@@ -404,15 +435,18 @@ impl<D: Device + Honest + Drop> Disk<D> {
         requires serving { self.old.status ≡ Serving }
         requires can { CanPutAll (mounted_of self.old) left }
         // Done, it has written the first of the blocks left. Refused, it may have, and the fault has its cause.
-        ensures wrote { IfOk result (PutSome self.old left.entry self.new) }
-        ensures err { IfErr result (RefusedPuts self.old left.entry self.new) }
+        ensures wrote { IsTrue self.new.drive.clean → IfOk result (PutSome self.old left.entry self.new) }
+        ensures err { IsTrue self.new.drive.clean → IfErr result (RefusedPuts self.old left.entry self.new) }
         // Whatever it answers, the drive can be mounted, and the size is the same. Its batch is as long as it can be.
-        ensures kept { KeepsDurable self.old self.new }
-        ensures size { disk_size self.new ≡ disk_size self.old }
-        ensures cut { KeepsCutTo (last_block left.entry.entries.now) self.old.drive self.new.drive }
-        // It adds no turns to a clean that ran, and costs at most the commands of one batch.
-        ensures clean { KeepsCleaning (mounted_of self.old) self.old.clean result
+        ensures kept { IsTrue self.new.drive.clean → KeepsDurable self.old self.new }
+        ensures cut { IsTrue self.new.drive.clean → KeepsCutTo (last_block left.entry.entries.now) self.old.drive self.new.drive }
+        // It adds no turns to a clean that ran.
+        ensures clean { IsTrue self.new.drive.clean → KeepsCleaning (mounted_of self.old) self.old.clean result
             (mounted_of self.new) self.new.clean }
+        // Done, it took a block at least. Whatever the Reads returned, it costs at most the commands of one batch.
+        ensures taken { IfOk result (IsFrontOf left.entry.entries.now) }
+        ensures alike { StaysAlike self.old self.new }
+        ensures serves { OnOk result (self.new.status ≡ Serving) }
         ensures completed { CompletesAtMost self.old
             (batch_commands self.old.drive.geometry) self.new }
     {
@@ -452,7 +486,7 @@ impl<D: Device + Honest + Drop> Disk<D> {
         ensures serving { IfOk result (λ done. done ≡ false → self.now.status ≡ Serving) }
         // If it is done, it names no block. A refusal has its cause, and the drive can be mounted in any case.
         ensures none { IfOk result (λ done. done ≡ true → length entries.now ≡ 0) }
-        ensures cause { IfErr result (DiskCause self.now) }
+        ensures cause { IsTrue self.now.drive.clean → IfErr result (DiskCause self.now) }
         ensures sound { IsSound self.now }
     {
         if !self.has_all(entries) {
@@ -475,13 +509,17 @@ impl<D: Device + Honest + Drop> Disk<D> {
         requires whole { length bytes.now
             ≡ data_count entries.now * self.old.drive.geometry.block }
         // It answers as a flat array does. Whatever it answers, the drive can be mounted again.
-        ensures answers { Answers self.old
+        ensures answers { IsTrue self.new.drive.clean → Answers self.old
             (write_entries self.old entries.now bytes.now) result self.new }
         // Done, the newest record of each block is its entry's. In any case each batch is as long as it can be.
-        ensures stores { StoresList self.old entries.now result self.new }
+        ensures stores { IsTrue self.new.drive.clean → StoresList self.old entries.now result self.new }
         // It completes at most that many commands and, unless the drive stops, adds no turns to a clean that runs.
-        ensures costs { CostsAtMost self.old
+        ensures costs { IsTrue self.new.drive.clean → CostsAtMost self.old
             (list_commands self.old (length entries.now)) result self.new }
+        // Whatever the Reads returned, shape and size stay, and the commands have that bound.
+        ensures alike { StaysAlike self.old self.new }
+        ensures completed { CompletesAtMost self.old
+            (list_commands self.old (length entries.now)) self.new }
     {
         if self.is_list_done(entries)? {
             return Ok(());
@@ -507,11 +545,12 @@ impl<D: Device + Honest + Drop> Disk<D> {
         // It answers what a flat array knows beforehand.
         ensures known { known_growth (flat_of self.now) blocks ≡ refusal_before result }
         // If the growth continues, the size is not below the disk's, the reserve allows it, and the disk serves.
-        ensures grows { OnOk result ((disk_size self.now ≤ blocks)
-            × FitsReserve self.now.drive.geometry blocks) }
+        ensures grows { OnOk result ((disk_size self.now ≤ blocks) × (blocks ≤ 2 ^ 31)) }
+        ensures reserve { IsTrue self.now.drive.clean
+            → OnOk result (FitsReserve self.now.drive.geometry blocks) }
         ensures serving { OnOk result (self.now.status ≡ Serving) }
         // A refusal has its cause, and the drive can be mounted in any case.
-        ensures cause { IfErr result (DiskCause self.now) }
+        ensures cause { IsTrue self.now.drive.clean → IfErr result (DiskCause self.now) }
         ensures sound { IsSound self.now }
     {
         if blocks < mounted_blocks(&self.mounted) {
@@ -529,13 +568,17 @@ impl<D: Device + Honest + Drop> Disk<D> {
     /// After a refusal the disk has its old size. After `Stopped` the drive has the old size or the new one.
     pub fn grow(&mut self, blocks: u64) -> Result<(), DiskFault>
         // It answers as a flat array does, and the drive can be mounted again. Done, a header has the new size.
-        ensures answers { Answers self.old (grow blocks) result self.new }
-        ensures says { OnOk result (SaysSize self.old blocks self.new) }
+        ensures answers { IsTrue self.new.drive.clean → Answers self.old (grow blocks) result self.new }
+        ensures says { IsTrue self.new.drive.clean → OnOk result (SaysSize self.old blocks self.new) }
         // Done, or if a clean ran before, no turns are added, and the clean is not thrown back. It costs at most the
         // commands of one batch.
-        ensures turns { OnOk result (disk_turns self.new ≤ disk_turns self.old) }
-        ensures fewer { is_some self.old.clean ≡ true → disk_turns self.new ≤ disk_turns self.old }
-        ensures clean { KeepsClean self.old self.new }
+        ensures turns { IsTrue self.new.drive.clean → OnOk result (disk_turns self.new ≤ disk_turns self.old) }
+        ensures fewer { IsTrue self.new.drive.clean → is_some self.old.clean ≡ true → disk_turns self.new ≤ disk_turns self.old }
+        ensures clean { IsTrue self.new.drive.clean → KeepsClean self.old self.new }
+        // Whatever the Reads returned: done, it has this size; refused, the old one. The commands have that bound.
+        ensures size { OnOk result (disk_size self.new ≡ blocks) }
+        ensures same { OnErr result (disk_size self.new ≡ disk_size self.old) }
+        ensures shape { KeepsShape self.old.drive self.new.drive }
         ensures completed { CompletesAtMost self.old
             (batch_commands self.old.drive.geometry) self.new }
     {
@@ -560,8 +603,9 @@ impl<D: Device + Honest + Drop> Disk<D> {
     ///
     /// After a refusal the array is the same, and a loss of power leaves what it might have left before, or this array.
     pub fn flush(&mut self) -> Result<(), DiskFault>
-        ensures answers { Answers self.old flush result self.new }
+        ensures answers { IsTrue self.new.drive.clean → Answers self.old flush result self.new }
         ensures turns { disk_turns self.new ≡ disk_turns self.old }
+        ensures alike { StaysAlike self.old self.new }
         ensures completed { CompletesAtMost self.old 1 self.new }
     {
         self.check_serving()?;
@@ -579,12 +623,13 @@ impl<D: Device + Honest + Drop> Disk<D> {
     ///
     /// After `OutOfMemory` and `Spent` the clean is unchanged, and continues at the next turn.
     pub fn idle(&mut self) -> Result<(), DiskFault>
-        ensures answers { Answers self.old idle result self.new }
-        ensures turn { TakesTurn self.old result self.new }
+        ensures answers { IsTrue self.new.drive.clean → Answers self.old idle result self.new }
+        ensures turn { IsTrue self.new.drive.clean → TakesTurn self.old result self.new }
+        ensures alike { StaysAlike self.old self.new }
         ensures completed { CompletesAtMost self.old 2 self.new }
     {
         self.check_serving()?;
-        match turn(&mut self.cleaner, &mut self.mounted) {
+        match self.cleaner.turn(&mut self.mounted) {
             Ok(()) => Ok(()),
             Err(cause) => {
                 let fault = DiskFault::from(cause);
@@ -597,20 +642,21 @@ impl<D: Device + Honest + Drop> Disk<D> {
     /// Whether a clean runs, of which turns are left. While none runs, a zone is kept empty for the next one.
     pub fn is_cleaning(&self) -> bool
         ensures runs { result ≡ is_some self.now.clean }
-        ensures spare { self.now.status ≡ Serving → result ≡ false
+        ensures spare { IsTrue self.now.drive.clean → self.now.status ≡ Serving → result ≡ false
             → 1 ≤ empty_count self.now.tables.roles }
     {
         self.cleaner.running()
     }
 
     /// Mounts the drive again, as a mount with the same number of logical blocks does it. A clean that runs is
-    /// forgotten. A drive that has stopped is not mounted: take it by [`into_device`](Disk::into_device), restart it,
+    /// forgotten. A drive that has stopped is not mounted: take it by [`into_device`](AnyDisk::into_device), restart it,
     /// and mount it.
     ///
     /// A refusal is `Halted` or `OutOfMemory`. It leaves the array on the drive, and the disk answers `Unmounted` to
     /// every call that needs the drive, until a remount is done.
     pub fn remount(&mut self) -> Result<(), MountFault>
-        ensures { Remounts self.old result self.new }
+        ensures remounts { IsTrue self.new.drive.clean → Remounts self.old result self.new }
+        ensures shape { KeepsShape self.old.drive self.new.drive }
     {
         self.cleaner = new_cleaner(&self.mounted);
         match mount_again(&mut self.mounted) {
@@ -629,11 +675,12 @@ impl<D: Device + Honest + Drop> Disk<D> {
     /// Set 1.1, section 3.4.2): a head of 64 bytes and a descriptor of 64 bytes for each zone.
     pub fn report(&mut self) -> Result<Vec<u8>, DiskFault>
         // It answers as a flat array does, and the drive can be mounted again. Done, the report is whole.
-        ensures answers { Answers self.old report (done_of result) self.new }
+        ensures answers { IsTrue self.new.drive.clean → Answers self.old report (done_of result) self.new }
         ensures zones { IfOk result
             (λ bytes. ReportsAll self.old.drive bytes.items self.new.drive) }
         // As many turns of a clean are left as before, and one command is completed at most.
         ensures turns { disk_turns self.new ≡ disk_turns self.old }
+        ensures alike { StaysAlike self.old self.new }
         ensures completed { CompletesAtMost self.old 1 self.new }
     {
         self.check_serving()?;
@@ -648,8 +695,9 @@ impl<D: Device + Honest + Drop> Disk<D> {
 
     /// Shows `blocks` blocks from `first` on. `into` is empty after a refusal.
     pub fn read(&mut self, first: u64, blocks: u64, into: &mut Vec<u8>) -> Result<(), DiskFault>
-        ensures answers { AnswersRead self.old first blocks result into.new.items self.new }
+        ensures answers { IsTrue self.new.drive.clean → AnswersRead self.old first blocks result into.new.items self.new }
         ensures turns { disk_turns self.new ≡ disk_turns self.old }
+        ensures alike { StaysAlike self.old self.new }
         ensures completed { CompletesAtMost self.old blocks self.new }
     {
         into.clear();
@@ -665,7 +713,7 @@ impl<D: Device + Honest + Drop> Disk<D> {
         Ok(())
     }
 
-    /// Shows blocks as [`read`](Disk::read) does, by fewer commands: one for all blocks whose data are neighbours on the
+    /// Shows blocks as [`read`](AnyDisk::read) does, by fewer commands: one for all blocks whose data are neighbours on the
     /// drive, as far as one command reaches.
     pub fn read_joined(
         &mut self,
@@ -673,10 +721,11 @@ impl<D: Device + Honest + Drop> Disk<D> {
         blocks: u64,
         into: &mut Vec<u8>,
     ) -> Result<(), DiskFault>
-        ensures answers { AnswersRead self.old first blocks result into.new.items self.new }
+        ensures answers { IsTrue self.new.drive.clean → AnswersRead self.old first blocks result into.new.items self.new }
         ensures turns { disk_turns self.new ≡ disk_turns self.old }
         // Done, it has sent one command for each piece at most. In any case there are no more than blocks.
-        ensures joins { OnOk result (ReadsPieces self.old first blocks self.new) }
+        ensures joins { IsTrue self.new.drive.clean → OnOk result (ReadsPieces self.old first blocks self.new) }
+        ensures alike { StaysAlike self.old self.new }
         ensures completed { CompletesAtMost self.old blocks self.new }
     {
         into.clear();

@@ -6,7 +6,7 @@ ghost use Rattle.zone_translator.specs.Laws.{LossIsFound, MountedCan, RemountedC
 ghost use Rattle.zone_translator.specs.Laws.{WrittenReadsBack};
 ghost use Rattle.zone_translator.specs.View.{flat_of};
 
-use crate::disk::Disk;
+use crate::honest::Disk;
 use drive_port::{Device, Honest};
 
 /// Blocks that are written to this disk read back.

@@ -1,7 +1,8 @@
 //! The disk: an array of logical blocks above one zoned drive.
 //!
-//! A zoned drive takes writes only at the write pointers of its zones. A `Disk` owns such a drive, any
-//! `drive_port::Device`, and shows it as an array of blocks that can be read and written in any order.
+//! A zoned drive takes writes only at the write pointers of its zones. A `Disk` owns such a drive, and shows it as an
+//! array of blocks that can be read and written in any order. An [`AnyDisk`] is the same over any `drive_port::Device`,
+//! also one whose Reads lie; a [`Disk`] asks for one whose Reads return what it holds (`Honest`).
 //!
 //! ```text
 //! let mut disk = match Disk::mount(alloc, drive, 8) {
@@ -22,8 +23,14 @@
 //!
 //! # What is promised
 //!
-//! Over every device, for every list of calls on a disk mounted on any drive, with stops and failed allocations at any
-//! point. A stop may fall between two commands or inside one: what holds at an exit with `Stopped` holds then.
+//! Whatever the Reads of its device return, each call of an `AnyDisk` ends, done or refused. Its drive keeps its shape, and
+//! the disk its size but for a growth or a remount (`StaysAlike`). Its commands have the bounds below. The numbers by
+//! which it sends commands stay in range (`Holds`). What does not fit them is refused by `Stopped`, and then the disk
+//! serves no more until its drive is mounted again. All that follows is promised of an `AnyDisk` while its drive is
+//! clean, that is as long as each Read returned what the drive holds; and of a `Disk` always.
+//!
+//! That is for every list of calls on a disk mounted on any drive, with stops and failed allocations at any point. A stop
+//! may fall between two commands or inside one: what holds at an exit with `Stopped` holds then.
 //!
 //! * Each answer is a flat array's answer (`FlatCall` in specs/Flat), by these cases in order: a call of no block is
 //!   done; one past the end is `OutOfRange`; a disk that refused a remount answers `Unmounted`; one that has answered
@@ -91,6 +98,7 @@
 mod disk;
 mod fault;
 mod flush;
+mod honest;
 pub mod laws;
 mod list;
 mod read;
@@ -100,8 +108,9 @@ mod status;
 mod write;
 
 pub use batch_log::Entry;
-pub use disk::Disk;
+pub use disk::AnyDisk;
 pub use fault::DiskFault;
+pub use honest::Disk;
 pub use laws::{write_keeps_others, written_reads_back};
 pub use logical_map::Place;
 pub use remount::MountFault;

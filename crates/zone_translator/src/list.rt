@@ -1,13 +1,16 @@
 //! Lists of blocks: the batches that a disk makes of one.
 
-ghost use Rattle.std.specs.Prelude.{◌≡◌, ◌++◌, ◌+◌, ◌*◌, ◌≤◌, ◌<◌, ◌^◌, IfOk, IfErr, OnOk, drop, length, nat_eq};
+ghost use Rattle.std.specs.Prelude.{◌≡◌, ◌++◌, ◌+◌, ◌*◌, ◌≤◌, ◌<◌, ◌^◌, IfOk, IfErr, IsTrue, OnOk, Some, drop, length, nat_eq};
 ghost use Rattle.std.specs.List.{AllByRecursion, IsDistinct};
 ghost use Rattle.batch_log.specs.Header.{IsSize, entry_room, header_block};
 ghost use Rattle.logical_map.specs.Places.{IsReady};
 ghost use Rattle.zone_choice.specs.Agreement.{Agrees};
+ghost use Rattle.zone_choice.specs.Roles.{AreApart};
+ghost use Rattle.zone_choice.specs.Sane.{IsSane};
 ghost use Rattle.zone_choice.specs.Tables.{SameButReady, size_of};
 ghost use Rattle.zone_cleaner.specs.Start.{AgreesWithClean};
 ghost use Rattle.zone_states.specs.Geometry.{IsInRange};
+ghost use Rattle.zone_translator.specs.Answering.{MaySend, StaysOfSize};
 ghost use Rattle.zone_translator.specs.Batches.{IsRoom, KeepsCutTo};
 ghost use Rattle.zone_translator.specs.Changes.{IsCause, batch_commands};
 ghost use Rattle.zone_translator.specs.Cleaning.{KeepsCleaning};
@@ -18,11 +21,10 @@ use crate::fault::DiskFault;
 use crate::room::fault_of;
 use crate::write::find_room;
 use batch_log::{Entry, Kind};
-use drive_port::{Device, Geometry, Honest};
+use drive_port::{Device, Geometry};
 use std::alloc::AllocError;
 use zone_choice::{BatchBuilder, Filling, Mounted, batch_most};
 use zone_cleaner::Cleaner;
-use zone_cleaner::honest::append_batch;
 
 /// What is left of a list of blocks, each written or trimmed: the blocks, and the data of those that are written.
 #[derive(Clone, Copy)]
@@ -132,12 +134,18 @@ fn build_listed<D: Device>(
     host: Filling,
     left: ListRest,
 ) -> Result<Taken, AllocError>
-    // Tables and drive agree, the host zone has room, a sequence is left, and the list can be written.
-    requires agrees { Agrees disk.old }
+    // By the tables the host zone has room, a sequence is left, and the list can be written.
+    requires sane { IsSane disk.old }
+    requires apart { AreApart disk.old.tables.roles }
     requires room { IsRoom disk.old host }
     requires can { CanPutAll disk.old left }
-    // Done, the batch can be appended, and has as many of the blocks left as it can take.
-    ensures ok { IfOk result (λ taken. IsNextListed disk.new host left.entry batch.new taken.entries) }
+    // While the drive is clean, tables and drive agree. Then, done, the batch is the next one, and can be appended.
+    requires agrees { IsTrue disk.old.drive.clean → Agrees disk.old }
+    ensures ok { IsTrue disk.new.drive.clean
+        → IfOk result (λ taken. IsNextListed disk.new host left.entry batch.new taken.entries) }
+    // Done, it may be sent, and has as many of the blocks left as it can take.
+    ensures may { OnOk result (MaySend disk.new host.zone batch.new) }
+    ensures size { OnOk result (batch.new.heading.size ≡ Some (size_of disk.old.tables)) }
     ensures count { IfOk result
         (λ taken. TakesMost disk.old.drive.geometry host left.entry.entries.now taken) }
     // Whatever it answers, nothing of the disk changes except which blocks are ready to be placed.
@@ -154,30 +162,34 @@ fn build_listed<D: Device>(
 }
 
 /// Appends one batch of a list, and answers how many of the blocks left it took.
-pub(crate) fn next_listed<D: Device + Honest>(
+pub(crate) fn next_listed<D: Device>(
     disk: &mut Mounted<D>,
     cleaner: &mut Cleaner,
     batch: &mut BatchBuilder,
     left: ListRest,
 ) -> Result<Taken, DiskFault>
-    // Tables, drive and clean agree, and the list can be written.
-    requires agrees { AgreesWithClean disk.old cleaner.old }
+    // The list can be written. While the drive is clean, tables, drive and clean agree.
+    requires sane { IsSane disk.old }
     requires can { CanPutAll disk.old left }
-    // Done, it has written the first of the blocks left. Refused, it has written none, unless the drive stopped.
-    ensures leaves { ListedLeaves disk.old left.entry result disk.new cleaner.new }
+    requires agrees { IsTrue disk.old.drive.clean → AgreesWithClean disk.old cleaner.old }
+    // Then, done, it has written the first of the blocks left. Refused, it has written none, unless the drive stopped.
+    ensures leaves { IsTrue disk.new.drive.clean → ListedLeaves disk.old left.entry result disk.new cleaner.new }
+    ensures cause { IsTrue disk.new.drive.clean → IfErr result (IsCause disk.new.drive disk.new.tables.next) }
+    // Then its batch is as long as it can be, and it adds no turns to a clean that ran.
+    ensures cut { IsTrue disk.new.drive.clean
+        → KeepsCutTo (last_block left.entry.entries.now) disk.old.drive disk.new.drive }
+    ensures clean { IsTrue disk.new.drive.clean → KeepsCleaning disk.old cleaner.old result disk.new cleaner.new }
+    // Done, it took one block at least. Whatever the Reads returned, the numbers stay in range.
     ensures taken { IfOk result (λ taken. IsFrontOf left.entry.entries.now taken) }
-    ensures cause { IfErr result (IsCause disk.new.drive disk.new.tables.next) }
-    // Its batch is as long as it can be, and it adds no turns to a clean that ran.
-    ensures cut { KeepsCutTo (last_block left.entry.entries.now) disk.old.drive disk.new.drive }
-    ensures clean { KeepsCleaning disk.old cleaner.old result disk.new cleaner.new }
+    ensures stays { StaysOfSize disk.old disk.new }
     // It costs at most the commands of one batch.
     ensures completed { disk.new.drive.completed
         ≤ disk.old.drive.completed + batch_commands disk.old.drive.geometry }
 {
     let host = find_room(disk, cleaner)?;
     let taken = build_listed(disk, batch, host, left)?;
-    match append_batch(cleaner, disk, host, batch) {
+    match cleaner.append_batch(disk, host, batch) {
         Ok(()) => Ok(taken),
-        Err(halt) => Err(fault_of(halt)),
+        Err(fault) => Err(fault_of(fault)),
     }
 }

@@ -1,18 +1,20 @@
-ghost use Rattle.std.specs.Prelude.{◌≡◌, ◌≤◌, ◌+◌, ◌++◌, ◌<◌, [], IfErr, IfOk, OnOk, length, replicate, slice_index_or};
+ghost use Rattle.std.specs.Prelude.{◌≡◌, ◌≢◌, ◌≤◌, ◌+◌, ◌++◌, ◌<◌, ◌^◌, [], IfErr, IfOk, IsTrue, OnOk, false, length, replicate, slice_index_or};
 ghost use Rattle.std.specs.List.{concat};
 ghost use Rattle.logical_map.specs.declared.place.Place.TheVariants as places;
 ghost use Rattle.zone_choice.specs.Agreement.{Agrees, mounted_array};
 ghost use Rattle.zone_choice.specs.Changes.{KeepsArray};
+ghost use Rattle.zone_choice.specs.Sane.{IsSane, KeepsShape};
 ghost use Rattle.zone_choice.specs.Tables.{size_of};
+ghost use Rattle.zone_states.specs.Geometry.{IsInRange};
 ghost use Rattle.zone_translator.specs.Flat.{blocks_from};
 ghost use Rattle.zone_translator.specs.Read.{AreNeighbours, EndsThere, IsBlockFault, IsPiece};
 
 use crate::fault::DiskFault;
 use crate::room::fault_of;
-use drive_port::{Device, Honest, read_extending};
+use drive_port::{Device, read_extending};
 use logical_map::Place;
 use std::alloc::AllocError;
-use zone_choice::{Mounted, halt_of};
+use zone_choice::Mounted;
 
 fn extend_zeros(into: &mut Vec<u8>, count: usize) -> Result<(), AllocError>
     requires { count ≤ 4096 }
@@ -23,10 +25,22 @@ fn extend_zeros(into: &mut Vec<u8>, count: usize) -> Result<(), AllocError>
     Ok(())
 }
 
+/// Whether a block is where the last of `count` blocks more is that follow an address.
+fn follows(place: Place, address: u64, count: u32) -> bool
+    ensures yes { IsTrue result → place ≡ Place.At (address + count) }
+    ensures no { result ≡ false → place ≢ Place.At (address + count) }
+{
+    match place {
+        Place::At(next) => next >= address && next - address == u64::from(count),
+        _ => false,
+    }
+}
+
 /// How many blocks from `block` on, at most `left`, have their data in a row from this address on, where the data of the
 /// first is.
 fn neighbours<D: Device>(disk: &Mounted<D>, block: u32, address: u64, left: u32) -> u32
-    requires agrees { Agrees disk.now }
+    requires in_order { IsInRange disk.now.drive.geometry }
+    requires short { size_of disk.now.tables ≤ 2 ^ 31 }
     requires some { 1 ≤ left }
     requires in_range { block + left ≤ size_of disk.now.tables }
     requires at { slice_index_or disk.now.tables.map.places block places.None ≡ Place.At address }
@@ -39,7 +53,7 @@ fn neighbours<D: Device>(disk: &Mounted<D>, block: u32, address: u64, left: u32)
     let in_zone = geometry.size - (address % geometry.size as u64) as u32;
     let most = left.min(geometry.transfer).min(in_zone);
     for count in 1..most {
-        if disk.tables.place_of(block + count) != Place::At(address + count as u64) {
+        if !follows(disk.tables.place_of(block + count), address, count) {
             return count;
         }
     }
@@ -48,24 +62,28 @@ fn neighbours<D: Device>(disk: &Mounted<D>, block: u32, address: u64, left: u32)
 
 /// Shows one block and its neighbours after what `into` holds, at most `left` of them: their data by one command, or zeros
 /// for one block without data. It answers how many.
-pub(crate) fn read_piece<D: Device + Honest>(
+pub(crate) fn read_piece<D: Device>(
     disk: &mut Mounted<D>,
     block: u32,
     left: u32,
     into: &mut Vec<u8>,
 ) -> Result<u32, DiskFault>
-    // Tables and drive agree, and the blocks are the disk's.
-    requires agrees { Agrees disk.old }
+    // The blocks are the disk's. While the drive is clean, tables and drive agree.
+    requires sane { IsSane disk.old }
     requires some { 1 ≤ left }
     requires in_range { block + left ≤ size_of disk.old.tables }
-    // Whatever it answers, array and tables are the same, and tables and drive agree.
-    ensures kept { KeepsArray disk.old disk.new }
-    ensures tables { disk.new.tables ≡ disk.old.tables }
-    // Done, it has added the bytes of a piece. Refused, it is out of memory, or the drive stopped at a block with data.
-    ensures ok { IfOk result (λ count. into.new.items ≡ into.old.items
+    requires agrees { IsTrue disk.old.drive.clean → Agrees disk.old }
+    // Then array and tables are the same, and tables and drive agree.
+    ensures kept { IsTrue disk.new.drive.clean → KeepsArray disk.old disk.new }
+    // Then, done, it has added the bytes of the blocks. Refused, it is out of memory, or the drive stopped at a block with
+    // data.
+    ensures ok { IsTrue disk.new.drive.clean → IfOk result (λ count. into.new.items ≡ into.old.items
         ++ concat (blocks_from (mounted_array disk.old) block count)) }
+    ensures err { IsTrue disk.new.drive.clean → IfErr result (IsBlockFault disk.new block) }
+    // Done, the blocks are a piece. Whatever the Read returned, the tables are the same.
     ensures piece { IfOk result (λ count. IsPiece disk.old.drive.geometry disk.old.tables.map.places block left count) }
-    ensures err { IfErr result (IsBlockFault disk.new block) }
+    ensures tables { disk.new.tables ≡ disk.old.tables }
+    ensures shape { KeepsShape disk.old.drive disk.new.drive }
     // It completes one command at most.
     ensures completed { disk.new.drive.completed ≤ disk.old.drive.completed + 1 }
 {
@@ -75,29 +93,30 @@ pub(crate) fn read_piece<D: Device + Honest>(
     };
     let count = neighbours(disk, block, address, left);
     if let Err(fault) = read_extending(&mut disk.device, address, count, into) {
-        return Err(fault_of(halt_of(fault)));
+        return Err(fault_of(fault));
     }
-    disk.device.vouch();
     Ok(count)
 }
 
 /// Shows one block after what `into` holds: the data at its place, or zeros if it has none.
-pub(crate) fn read_block<D: Device + Honest>(
+pub(crate) fn read_block<D: Device>(
     disk: &mut Mounted<D>,
     block: u32,
     into: &mut Vec<u8>,
 ) -> Result<(), DiskFault>
-    // Tables and drive agree, and the block is the disk's.
-    requires agrees { Agrees disk.old }
+    // The block is the disk's. While the drive is clean, tables and drive agree.
+    requires sane { IsSane disk.old }
     requires in_range { block < size_of disk.old.tables }
-    // Whatever it answers, array and tables are the same, and tables and drive agree.
-    ensures kept { KeepsArray disk.old disk.new }
-    ensures tables { disk.new.tables ≡ disk.old.tables }
-    // Done, it has added the block's bytes. Refused, it is out of memory, or the drive stopped at a block with data.
-    ensures ok { OnOk result (into.new.items ≡ into.old.items
+    requires agrees { IsTrue disk.old.drive.clean → Agrees disk.old }
+    // Then array and tables are the same, and tables and drive agree.
+    ensures kept { IsTrue disk.new.drive.clean → KeepsArray disk.old disk.new }
+    // Then, done, it has added the block's bytes. Refused, it is out of memory, or the drive stopped at a block with data.
+    ensures ok { IsTrue disk.new.drive.clean → OnOk result (into.new.items ≡ into.old.items
         ++ slice_index_or (mounted_array disk.old) block []) }
-    ensures err { IfErr result (IsBlockFault disk.new block) }
-    // It completes one command at most.
+    ensures err { IsTrue disk.new.drive.clean → IfErr result (IsBlockFault disk.new block) }
+    // Whatever the Read returned, the tables are the same. It completes one command at most.
+    ensures tables { disk.new.tables ≡ disk.old.tables }
+    ensures shape { KeepsShape disk.old.drive disk.new.drive }
     ensures completed { disk.new.drive.completed ≤ disk.old.drive.completed + 1 }
 {
     let Place::At(address) = disk.tables.place_of(block) else {
@@ -105,8 +124,7 @@ pub(crate) fn read_block<D: Device + Honest>(
         return Ok(());
     };
     if let Err(fault) = read_extending(&mut disk.device, address, 1, into) {
-        return Err(fault_of(halt_of(fault)));
+        return Err(fault_of(fault));
     }
-    disk.device.vouch();
     Ok(())
 }

@@ -1,22 +1,25 @@
-ghost use Rattle.std.specs.Prelude.{◌≡◌, ◌+◌, ◌*◌, ◌≤◌, ◌<◌, IfOk, IfErr, IfSome, IfNone, OnOk, None, Some};
+ghost use Rattle.std.specs.Prelude.{◌≡◌, ◌+◌, ◌*◌, ◌≤◌, ◌<◌, IfOk, IfErr, IfSome, IfNone, IsTrue, OnOk, None, Some, true};
 ghost use Rattle.zone_choice.specs.Agreement.{Agrees};
+ghost use Rattle.zone_choice.specs.Changes.{IsHalt, fault_halt};
+ghost use Rattle.zone_choice.specs.Roles.{AreApart};
+ghost use Rattle.zone_choice.specs.Sane.{IsSane};
 ghost use Rattle.zone_cleaner.specs.Start.{AgreesWithClean, LacksZones};
+ghost use Rattle.zone_translator.specs.Answering.{StaysOfSize};
 ghost use Rattle.zone_translator.specs.Changes.{IsCause, IsHost, RetireLeaves, RoomLeaves, TakesHost, disk_fault};
 ghost use Rattle.zone_translator.specs.Cleaning.{KeepsCleaning};
 
 use crate::fault::DiskFault;
-use drive_port::{Device, Halt, Honest, finish};
-use zone_choice::{Filling, Mounted, halt_of};
+use drive_port::{Device, PortFault, finish};
+use zone_choice::{Filling, Mounted};
 use zone_cleaner::Cleaner;
-use zone_cleaner::honest::clean_zone;
 
-/// What a halt of the drive is to a disk.
-pub(crate) fn fault_of(halt: Halt) -> DiskFault
-    ensures { result ≡ disk_fault halt }
+/// What the fault of a command is to a disk. While the drive is clean, it refuses no command.
+pub(crate) fn fault_of(fault: PortFault) -> DiskFault
+    ensures { IsHalt fault → result ≡ disk_fault (fault_halt fault) }
 {
-    match halt {
-        Halt::Memory => DiskFault::OutOfMemory,
-        Halt::Stopped => DiskFault::Stopped,
+    match fault {
+        PortFault::Memory => DiskFault::OutOfMemory,
+        PortFault::Stopped | PortFault::Refused(_) => DiskFault::Stopped,
     }
 }
 
@@ -29,14 +32,18 @@ fn host_of<D: Device>(disk: &Mounted<D>) -> Option<Filling>
 
 /// Seals the host zone, which has fewer than two free blocks: with one it is sent Finish.
 fn retire<D: Device>(disk: &mut Mounted<D>, host: Filling) -> Result<(), DiskFault>
-    // Tables and drive agree, and this host zone has no room for a batch with data.
-    requires agrees { Agrees disk.old }
+    // The numbers of the disk are in range, and this host zone has no room for a batch with data.
+    requires sane { IsSane disk.old }
     requires host { disk.old.tables.roles.host ≡ Some host }
     requires few { disk.old.drive.geometry.capacity < host.written + 2 }
-    // The array never changes. Done, there is no host zone; refused, the fault has its cause.
-    ensures leaves { RetireLeaves disk.old disk.new result }
+    // While the drive is clean, tables and drive agree.
+    requires agrees { IsTrue disk.old.drive.clean → Agrees disk.old }
+    // Then the array never changes, and a fault has its cause.
+    ensures leaves { IsTrue disk.new.drive.clean → RetireLeaves disk.old disk.new result }
+    ensures err { IsTrue disk.new.drive.clean → IfErr result (IsCause disk.new.drive disk.new.tables.next) }
+    // Done, there is no host zone. Whatever the Reads returned, the numbers stay in range.
     ensures ok { OnOk result (disk.new.tables.roles.host ≡ None) }
-    ensures err { IfErr result (IsCause disk.new.drive disk.new.tables.next) }
+    ensures stays { StaysOfSize disk.old disk.new }
     // It completes one command at most.
     ensures completed { disk.new.drive.completed ≤ disk.old.drive.completed + 1 }
 {
@@ -46,7 +53,7 @@ fn retire<D: Device>(disk: &mut Mounted<D>, host: Filling) -> Result<(), DiskFau
         return Ok(());
     }
     if let Err(fault) = finish(disk.alloc, &mut disk.device, geometry.start_of(host.zone)) {
-        return Err(fault_of(halt_of(fault)));
+        return Err(fault_of(fault));
     }
     disk.tables.seal();
     Ok(())
@@ -72,46 +79,50 @@ fn take<D: Device>(disk: &mut Mounted<D>) -> Option<Filling>
 }
 
 /// A host zone for a disk that has none: the next zone, or an empty one, or the zone that a clean leaves.
-fn find_host<D: Device + Honest>(
-    disk: &mut Mounted<D>,
-    cleaner: &mut Cleaner,
-) -> Result<Filling, DiskFault>
-    // Tables, drive and clean agree, and there is no host zone.
-    requires agrees { AgreesWithClean disk.old cleaner.old }
+fn find_host<D: Device>(disk: &mut Mounted<D>, cleaner: &mut Cleaner) -> Result<Filling, DiskFault>
+    // There is no host zone. While the drive is clean, tables, drive and clean agree.
+    requires sane { IsSane disk.old }
     requires host { disk.old.tables.roles.host ≡ None }
-    // The array never changes. Done, the host zone has two free blocks; refused, the fault has its cause.
-    ensures leaves { RoomLeaves disk.old disk.new cleaner.new result }
-    ensures ok { IfOk result (IsHost disk.new) }
-    ensures err { IfErr result (IsCause disk.new.drive disk.new.tables.next) }
-    // It adds no turns to a clean that ran, and costs at most the commands of a whole clean.
-    ensures clean { KeepsCleaning disk.old cleaner.old result disk.new cleaner.new }
+    requires agrees { IsTrue disk.old.drive.clean → AgreesWithClean disk.old cleaner.old }
+    // Then the array never changes. Done, the host zone has two free blocks; refused, the fault has its cause.
+    ensures leaves { IsTrue disk.new.drive.clean → RoomLeaves disk.old disk.new cleaner.new result }
+    ensures ok { IsTrue disk.new.drive.clean → IfOk result (IsHost disk.new) }
+    ensures err { IsTrue disk.new.drive.clean → IfErr result (IsCause disk.new.drive disk.new.tables.next) }
+    // Then it adds no turns to a clean that ran.
+    ensures clean { IsTrue disk.new.drive.clean → KeepsCleaning disk.old cleaner.old result disk.new cleaner.new }
+    // Whatever the Reads returned, the numbers stay in range. It costs at most the commands of a whole clean.
+    ensures stays { StaysOfSize disk.old disk.new }
     ensures completed { disk.new.drive.completed + 2
         ≤ disk.old.drive.completed + 2 * disk.old.drive.geometry.capacity }
 {
     if let Some(host) = take(disk) {
         return Ok(host);
     }
-    if let Err(fault) = clean_zone(cleaner, disk) {
+    if let Err(fault) = cleaner.clean_zone(disk) {
         return Err(DiskFault::from(fault));
     }
     match take(disk) {
         Some(host) => Ok(host),
-        None => unreachable!(),
+        None => Err(DiskFault::Stopped),
     }
 }
 
-/// A host zone with two free blocks at least: the one that there is, or else another, which may take a clean.
-pub(crate) fn make_room<D: Device + Honest>(
+/// Makes the host zone one with two free blocks at least: the one that there is, or else another, which may take a clean.
+pub(crate) fn make_room<D: Device>(
     disk: &mut Mounted<D>,
     cleaner: &mut Cleaner,
 ) -> Result<Filling, DiskFault>
-    requires agrees { AgreesWithClean disk.old cleaner.old }
-    // The array never changes. Done, the host zone has two free blocks; refused, the fault has its cause.
-    ensures leaves { RoomLeaves disk.old disk.new cleaner.new result }
-    ensures ok { IfOk result (IsHost disk.new) }
-    ensures err { IfErr result (IsCause disk.new.drive disk.new.tables.next) }
-    // It adds no turns to a clean that ran, and costs at most one command more than a whole clean.
-    ensures clean { KeepsCleaning disk.old cleaner.old result disk.new cleaner.new }
+    // While the drive is clean, tables, drive and clean agree.
+    requires sane { IsSane disk.old }
+    requires agrees { IsTrue disk.old.drive.clean → AgreesWithClean disk.old cleaner.old }
+    // Then the array never changes. Done, the host zone has two free blocks; refused, the fault has its cause.
+    ensures leaves { IsTrue disk.new.drive.clean → RoomLeaves disk.old disk.new cleaner.new result }
+    ensures ok { IsTrue disk.new.drive.clean → IfOk result (IsHost disk.new) }
+    ensures err { IsTrue disk.new.drive.clean → IfErr result (IsCause disk.new.drive disk.new.tables.next) }
+    // Then it adds no turns to a clean that ran.
+    ensures clean { IsTrue disk.new.drive.clean → KeepsCleaning disk.old cleaner.old result disk.new cleaner.new }
+    // Whatever the Reads returned, the numbers stay in range. It costs at most one command more than a whole clean.
+    ensures stays { StaysOfSize disk.old disk.new }
     ensures completed { disk.new.drive.completed + 1
         ≤ disk.old.drive.completed + 2 * disk.old.drive.geometry.capacity }
 {
@@ -125,4 +136,16 @@ pub(crate) fn make_room<D: Device + Honest>(
         return Err(fault);
     }
     find_host(disk, cleaner)
+}
+
+/// Whether this is the host zone by the tables, with two free blocks.
+pub(crate) fn has_room<D: Device>(disk: &Mounted<D>, host: Filling) -> bool
+    ensures some { IsTrue result → IsHost disk.now host }
+    ensures none { IsHost disk.now host → result ≡ true }
+    ensures apart { AreApart disk.now.tables.roles }
+{
+    // The destination of a clean is another zone.
+    let _other = disk.tables.destination();
+    disk.tables.host() == Some(host)
+        && u64::from(host.written) + 2 <= u64::from(disk.geometry().capacity)
 }

@@ -1,10 +1,13 @@
-ghost use Rattle.std.specs.Prelude.{◌≡◌, ◌⊎◌, ◌++◌, ◌+◌, ◌*◌, ◌≤◌, ◌<◌, ◌^◌, IfOk, IfErr, OnOk};
+ghost use Rattle.std.specs.Prelude.{◌≡◌, ◌⊎◌, ◌++◌, ◌+◌, ◌*◌, ◌≤◌, ◌<◌, ◌^◌, IfOk, IfErr, IsTrue, OnErr, OnOk, Some};
 ghost use Rattle.batch_log.specs.Header.{IsSize, entry_room};
 ghost use Rattle.zone_choice.specs.Agreement.{Agrees};
 ghost use Rattle.drive_array.specs.Reserve.{FitsReserve};
+ghost use Rattle.zone_choice.specs.Roles.{AreApart};
+ghost use Rattle.zone_choice.specs.Sane.{IsSane};
 ghost use Rattle.zone_choice.specs.Tables.{SameButReady, size_of};
 ghost use Rattle.zone_cleaner.specs.Start.{AgreesWithClean};
 ghost use Rattle.zone_states.specs.Geometry.{IsInRange};
+ghost use Rattle.zone_translator.specs.Answering.{MaySend, StaysInRange, StaysOfSize};
 ghost use Rattle.zone_translator.specs.Batches.{CanWrite, HasBytes, IsAfter, IsNextBatch, IsRoom, IsTaken, KeepsCut};
 ghost use Rattle.zone_translator.specs.Batches.{WritesRest, batch_count, bytes_of, header_of, is_trim, named_with};
 ghost use Rattle.zone_translator.specs.Batches.{next_count, next_heading};
@@ -12,13 +15,12 @@ ghost use Rattle.zone_translator.specs.Changes.{GrowLeaves, IsCause, RoomLeaves,
 ghost use Rattle.zone_translator.specs.Cleaning.{KeepsCleaning};
 
 use crate::fault::DiskFault;
-use crate::room::{fault_of, make_room};
+use crate::room::{fault_of, has_room, make_room};
 use batch_log::Kind;
-use drive_port::{Device, Geometry, Honest};
+use drive_port::{Device, Geometry};
 use std::alloc::AllocError;
 use zone_choice::{BatchBuilder, Filling, Mounted, batch_most};
 use zone_cleaner::Cleaner;
-use zone_cleaner::honest::append_batch;
 
 /// What is written to blocks that follow one another.
 #[derive(Clone, Copy)]
@@ -82,21 +84,29 @@ fn next_sequence<D: Device>(disk: &Mounted<D>) -> u64
 }
 
 /// The zone that the next batch goes to. A batch needs a sequence number, too.
-pub(crate) fn find_room<D: Device + Honest>(
+pub(crate) fn find_room<D: Device>(
     disk: &mut Mounted<D>,
     cleaner: &mut Cleaner,
 ) -> Result<Filling, DiskFault>
-    requires agrees { AgreesWithClean disk.old cleaner.old }
-    // The array never changes. Done, there is room and a sequence is left; refused, the fault has its cause.
-    ensures leaves { RoomLeaves disk.old disk.new cleaner.new result }
+    // While the drive is clean, tables, drive and clean agree.
+    requires sane { IsSane disk.old }
+    requires agrees { IsTrue disk.old.drive.clean → AgreesWithClean disk.old cleaner.old }
+    // Then the array never changes, and a fault has its cause. It adds no turns to a clean that ran.
+    ensures leaves { IsTrue disk.new.drive.clean → RoomLeaves disk.old disk.new cleaner.new result }
+    ensures cause { IsTrue disk.new.drive.clean → IfErr result (IsCause disk.new.drive disk.new.tables.next) }
+    ensures clean { IsTrue disk.new.drive.clean → KeepsCleaning disk.old cleaner.old result disk.new cleaner.new }
+    // Done, by the tables there is room, and a sequence is left. Whatever the Reads returned, the numbers stay in range.
     ensures ok { IfOk result (IsRoom disk.new) }
-    ensures cause { IfErr result (IsCause disk.new.drive disk.new.tables.next) }
-    // It adds no turns to a clean that ran, and costs at most one command more than a whole clean.
-    ensures clean { KeepsCleaning disk.old cleaner.old result disk.new cleaner.new }
+    ensures apart { OnOk result (AreApart disk.new.tables.roles) }
+    ensures stays { StaysOfSize disk.old disk.new }
+    // It costs at most one command more than a whole clean.
     ensures completed { disk.new.drive.completed + 1
         ≤ disk.old.drive.completed + 2 * disk.old.drive.geometry.capacity }
 {
     let host = make_room(disk, cleaner)?;
+    if !has_room(disk, host) {
+        return Err(DiskFault::Stopped);
+    }
     let capacity = disk.geometry().capacity as u64;
     if next_sequence(disk) >= (1 << 63) - capacity {
         return Err(DiskFault::Spent);
@@ -167,12 +177,17 @@ fn build_batch<D: Device>(
     host: Filling,
     rest: Rest,
 ) -> Result<u32, AllocError>
-    // Tables and drive agree, the host zone has room, a sequence is left, and the rest can be written.
-    requires agrees { Agrees disk.old }
+    // By the tables the host zone has room, a sequence is left, and the rest can be written.
+    requires sane { IsSane disk.old }
+    requires apart { AreApart disk.old.tables.roles }
     requires room { IsRoom disk.old host }
     requires can { CanWrite disk.old rest }
-    // Done, the batch can be appended, and has as many of the blocks left as it can take.
-    ensures ok { IfOk result (IsNextBatch disk.new host rest.entry batch.new) }
+    // While the drive is clean, tables and drive agree. Then, done, the batch is the next one, and can be appended.
+    requires agrees { IsTrue disk.old.drive.clean → Agrees disk.old }
+    ensures ok { IsTrue disk.new.drive.clean → IfOk result (IsNextBatch disk.new host rest.entry batch.new) }
+    // Done, it may be sent, and has as many of the blocks left as it can take.
+    ensures may { OnOk result (MaySend disk.new host.zone batch.new) }
+    ensures size { OnOk result (batch.new.heading.size ≡ Some (size_of disk.old.tables)) }
     ensures count { IfOk result
         (λ count. count ≡ next_count disk.old.drive.geometry host rest.entry) }
     // Whatever it answers, nothing of the disk changes except which blocks are ready to be placed.
@@ -193,58 +208,73 @@ fn build_batch<D: Device>(
 }
 
 /// Appends one batch of a write, and answers how many of the blocks left it took.
-pub(crate) fn next_batch<D: Device + Honest>(
+pub(crate) fn next_batch<D: Device>(
     disk: &mut Mounted<D>,
     cleaner: &mut Cleaner,
     batch: &mut BatchBuilder,
     rest: Rest,
 ) -> Result<u32, DiskFault>
-    // Tables, drive and clean agree, and the rest can be written.
-    requires agrees { AgreesWithClean disk.old cleaner.old }
+    // The rest can be written. While the drive is clean, tables, drive and clean agree.
+    requires sane { IsSane disk.old }
     requires can { CanWrite disk.old rest }
-    // Done, it has written the first of the blocks left. Refused, it has written none, unless the drive stopped.
-    ensures leaves { WritesRest disk.old rest.entry result disk.new cleaner.new }
+    requires agrees { IsTrue disk.old.drive.clean → AgreesWithClean disk.old cleaner.old }
+    // Then, done, it has written the first of the blocks left. Refused, it has written none, unless the drive stopped.
+    ensures leaves { IsTrue disk.new.drive.clean → WritesRest disk.old rest.entry result disk.new cleaner.new }
+    ensures cause { IsTrue disk.new.drive.clean → IfErr result (IsCause disk.new.drive disk.new.tables.next) }
+    // Then its batch is as long as it can be, and it adds no turns to a clean that ran.
+    ensures cut { IsTrue disk.new.drive.clean → KeepsCut disk.old.drive rest.entry disk.new.drive }
+    ensures clean { IsTrue disk.new.drive.clean → KeepsCleaning disk.old cleaner.old result disk.new cleaner.new }
+    // Done, it took one block at least. Whatever the Reads returned, the numbers stay in range.
     ensures count { IfOk result (IsTaken disk.old.drive.geometry rest.entry) }
-    ensures cause { IfErr result (IsCause disk.new.drive disk.new.tables.next) }
-    // Its batch is as long as it can be, and it adds no turns to a clean that ran.
-    ensures cut { KeepsCut disk.old.drive rest.entry disk.new.drive }
-    ensures clean { KeepsCleaning disk.old cleaner.old result disk.new cleaner.new }
+    ensures stays { StaysOfSize disk.old disk.new }
     // It costs at most the commands of one batch.
     ensures completed { disk.new.drive.completed
         ≤ disk.old.drive.completed + batch_commands disk.old.drive.geometry }
 {
     let host = find_room(disk, cleaner)?;
     let count = build_batch(disk, batch, host, rest)?;
-    match append_batch(cleaner, disk, host, batch) {
+    match cleaner.append_batch(disk, host, batch) {
         Ok(()) => Ok(count),
-        Err(halt) => Err(fault_of(halt)),
+        Err(fault) => Err(fault_of(fault)),
     }
 }
 
 /// Appends an empty batch, whose header says that the disk has `blocks` blocks.
-pub(crate) fn grow_batch<D: Device + Honest>(
+pub(crate) fn grow_batch<D: Device>(
     disk: &mut Mounted<D>,
     cleaner: &mut Cleaner,
     batch: &mut BatchBuilder,
     blocks: u32,
 ) -> Result<(), DiskFault>
-    // Tables, drive and clean agree, the size is not below the disk's, and the reserve allows it.
-    requires agrees { AgreesWithClean disk.old cleaner.old }
+    // The size is not below the disk's.
+    requires sane { IsSane disk.old }
     requires grows { size_of disk.old.tables ≤ blocks }
-    requires reserve { FitsReserve disk.old.drive.geometry blocks }
-    // Done, the disk has this size, and a header says so. Refused, the array is the same, unless the drive stopped.
-    ensures leaves { GrowLeaves disk.old disk.new cleaner.new blocks result }
-    ensures cause { IfErr result (IsCause disk.new.drive disk.new.tables.next) }
-    // It adds no turns to a clean that ran, and costs at most the commands of one batch.
-    ensures clean { KeepsCleaning disk.old cleaner.old result disk.new cleaner.new }
+    requires short { blocks ≤ 2 ^ 31 }
+    // While the drive is clean, the reserve allows it, and tables, drive and clean agree.
+    requires reserve { IsTrue disk.old.drive.clean → FitsReserve disk.old.drive.geometry blocks }
+    requires agrees { IsTrue disk.old.drive.clean → AgreesWithClean disk.old cleaner.old }
+    // Then, done, the disk has this size, and a header says so. Refused, the array is the same, unless the drive stopped.
+    ensures leaves { IsTrue disk.new.drive.clean → GrowLeaves disk.old disk.new cleaner.new blocks result }
+    ensures cause { IsTrue disk.new.drive.clean → IfErr result (IsCause disk.new.drive disk.new.tables.next) }
+    // Then it adds no turns to a clean that ran.
+    ensures clean { IsTrue disk.new.drive.clean → KeepsCleaning disk.old cleaner.old result disk.new cleaner.new }
+    // Done, the tables have this size; refused, the old one. Whatever the Reads returned, the numbers stay in range.
+    ensures size { OnOk result (size_of disk.new.tables ≡ blocks) }
+    ensures same { OnErr result (size_of disk.new.tables ≡ size_of disk.old.tables) }
+    ensures stays { StaysInRange disk.old disk.new }
+    // It costs at most the commands of one batch.
     ensures completed { disk.new.drive.completed
         ≤ disk.old.drive.completed + batch_commands disk.old.drive.geometry }
 {
+    // A disk has one block at least.
+    if blocks == 0 {
+        return Err(DiskFault::Stopped);
+    }
     let host = find_room(disk, cleaner)?;
     batch.start(Kind::Host, next_sequence(disk), 0, Some(blocks));
     batch.encode(disk.geometry().block)?;
-    match append_batch(cleaner, disk, host, batch) {
+    match cleaner.append_batch(disk, host, batch) {
         Ok(()) => Ok(()),
-        Err(halt) => Err(fault_of(halt)),
+        Err(fault) => Err(fault_of(fault)),
     }
 }

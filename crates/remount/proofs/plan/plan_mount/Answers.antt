@@ -3,8 +3,6 @@ use Rattle.std.specs.Prelude.{Vec}
 use Rattle.std.specs.declared.alloc.Global.{Global}
 use Rattle.zone_states.specs.declared.geometry.Geometry.{Geometry}
 use Rattle.zone_states.specs.Geometry.{IsInRange}
-use Rattle.drive_array.specs.ZoneLogs.{drive_logs}
-use Rattle.drive_array.specs.Spare.{cleared}
 use Rattle.drive_survey.specs.declared.reported.ReportedZone.{ReportedZone}
 use Rattle.drive_survey.proofs.ReadLaws.{keeps-none}
 use Rattle.drive_survey.proofs.NextLaws.{if-fault}

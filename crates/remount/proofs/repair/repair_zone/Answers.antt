@@ -9,8 +9,8 @@ use Rattle.remount.specs.Mount.{IsOnlyTorn}
 use Rattle.remount.specs.Moving.{move_count, moves_before, source_of}
 use Rattle.remount.proofs.BesideLaws.{beside-into, beside-repaired}
 use Rattle.remount.proofs.NotedLaws.{filled-notes}
-use Rattle.remount.proofs.BeginLaws.{has-empty, heads-some, is-finished, is-prepared, is-started, repaired-vacant, repaired-whole, survey-count}
-use Rattle.remount.proofs.CallLaws.{mountable-both, shut-both, shut-known, shut-logs, shut-mountable, zones-shut}
+use Rattle.remount.proofs.BeginLaws.{has-empty, heads-some, is-finished, is-prepared, is-started, repaired-vacant, repaired-whole}
+use Rattle.remount.proofs.CallLaws.{mountable-both, shut-both, shut-logs, shut-mountable, zones-shut}
 use Rattle.remount.proofs.TornRepairLaws.{repaired-since, torn-repaired}
 use Rattle.remount.proofs.StepLaws.{cleared-own, plan-given}
 use Rattle.std.proofs.Common.{arith, length}

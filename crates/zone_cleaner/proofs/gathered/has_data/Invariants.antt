@@ -1,4 +1,4 @@
-use Rattle.std.proofs.Common.{◌≡◌, ℕ, Option, map}
+use Rattle.std.proofs.Common.{◌≡◌, ℕ, Option}
 use Rattle.std.specs.Prelude.{is_some}
 use Rattle.std.specs.List.{list_any}
 use Rattle.zone_cleaner.proofs.gathered.has_data.Given as goal

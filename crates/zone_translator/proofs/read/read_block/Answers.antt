@@ -5,44 +5,49 @@ use Rattle.zone_translator.proofs.ReadLaws.{at-data, place_halts, place_kept, pl
 use Rattle.zone_translator.proofs.read.read_block.Goals as goal
 
 pub returns-in_default-clause-kept : goal.returns-in_default-clause-kept
-returns-in_default-clause-kept g c = keeps-refl c.args.disk.now.drive c.args.disk.now.tables c.requires.agrees
+returns-in_default-clause-kept g c = λ clean. keeps-refl c.args.disk.now.drive c.args.disk.now.tables (c.requires.agrees clean)
 
 pub returns-in_default-clause-ok : goal.returns-in_default-clause-ok
-returns-in_default-clause-ok g c =
-    let agrees = rw (← c.disk.view_is) at c.requires.agrees in
+returns-in_default-clause-ok g c = λ clean.
+    let agrees = rw (← c.disk.view_is) at (c.requires.agrees clean) in
     let in_range = rw (← c.disk.view_is) at c.requires.in_range in
     let geometry = rw (← c.disk.view_is) at c.geometry.ensures in
     let zeros = zeros_shown (g.D.Device.drive c.disk.inside.device) c.disk.inside.tables c.args.block c.place_of.result agrees in_range c.place_of.ensures c.in_default.not-At in
     rw (← c.disk.view_is) (c.in_ok-extend_zeros.ensures ∙ rw (ap (λ (x : Geometry). x.block) geometry) (ap (λ (bytes : List ℕ). c.args.into.now.items ++ bytes) zeros))
 
-pub halt_of-requires : goal.halt_of-requires
-halt_of-requires g c =
-    let agrees = rw (← c.disk.view_is) at c.requires.agrees in
-    let in_range = rw (← c.disk.view_is) at c.requires.in_range in
-    (place_halts (g.D.Device.drive c.disk.inside.device) _ c.disk.inside.tables c.args.block c.in-At.address _ c.in-Err.fault agrees in_range c.in-At.ensures c.in-Err.ensures.gives.given c.in-Err.ensures.kept.contents c.in-Err.ensures.kept.closing c.in-Err.ensures.obeys c.in-Err.ensures.taken).halt
-
 pub returns-in-Err-clause-kept : goal.returns-in-Err-clause-kept
-returns-in-Err-clause-kept g c =
-    let agrees = rw (← c.disk.view_is) at c.requires.agrees in
+returns-in-Err-clause-kept g c = λ clean.
+    let agrees = (rw (← c.disk.view_is) at c.requires.agrees) (c.in-Err.ensures.obeys.trusted clean) in
     let in_range = rw (← c.disk.view_is) at c.requires.in_range in
     rw (← c.disk.view_is)
     (place_halts (g.D.Device.drive c.disk.inside.device) _ c.disk.inside.tables c.args.block c.in-At.address _ c.in-Err.fault agrees in_range c.in-At.ensures c.in-Err.ensures.gives.given c.in-Err.ensures.kept.contents c.in-Err.ensures.kept.closing c.in-Err.ensures.obeys c.in-Err.ensures.taken).kept
 
 pub returns-in-Err-clause-err : goal.returns-in-Err-clause-err
-returns-in-Err-clause-err g c =
-    let agrees = rw (← c.disk.view_is) at c.requires.agrees in
+returns-in-Err-clause-err g c = λ clean.
+    let agrees = (rw (← c.disk.view_is) at c.requires.agrees) (c.in-Err.ensures.obeys.trusted clean) in
     let in_range = rw (← c.disk.view_is) at c.requires.in_range in
     let halts = place_halts (g.D.Device.drive c.disk.inside.device) _ c.disk.inside.tables c.args.block c.in-At.address _ c.in-Err.fault agrees in_range c.in-At.ensures c.in-Err.ensures.gives.given c.in-Err.ensures.kept.contents c.in-Err.ensures.kept.closing c.in-Err.ensures.obeys c.in-Err.ensures.taken in
-    record { cause = rw (c.fault_of.ensures, c.halt_of.ensures) halts.cause; stops = λ stopped. at-data c.disk.inside.tables c.args.block c.in-At.address c.in-At.ensures }
+    record { cause = rw (c.fault_of.ensures halts.halt) halts.cause; stops = λ stopped. at-data c.disk.inside.tables c.args.block c.in-At.address c.in-At.ensures }
 
 pub returns-clause-ok : goal.returns-clause-ok
-returns-clause-ok g c =
-    let agrees = rw (← c.disk.view_is) at c.requires.agrees in
+returns-clause-ok g c = λ clean.
+    let agrees = (rw (← c.disk.view_is) at c.requires.agrees) (c.read_extending.ensures.obeys.trusted clean) in
     let in_range = rw (← c.disk.view_is) at c.requires.in_range in
     rw (← c.disk.view_is)
-    (c.in_default-read_extending.ensures.shown.bytes c.vouch.ensures ∙ ap (λ (bytes : List ℕ). c.args.into.now.items ++ bytes) (place_shown (g.D.Device.drive c.disk.inside.device) c.disk.inside.tables c.args.block c.in-At.address _ agrees in_range c.in-At.ensures refl))
+    (c.in_default-read_extending.ensures.shown.bytes clean ∙ ap (λ (bytes : List ℕ). c.args.into.now.items ++ bytes) (place_shown (g.D.Device.drive c.disk.inside.device) c.disk.inside.tables c.args.block c.in-At.address _ agrees in_range c.in-At.ensures refl))
 
 pub returns-clause-kept : goal.returns-clause-kept
-returns-clause-kept g c =
-    let agrees = rw (← c.disk.view_is) at c.requires.agrees in
+returns-clause-kept g c = λ clean.
+    let agrees = (rw (← c.disk.view_is) at c.requires.agrees) (c.read_extending.ensures.obeys.trusted clean) in
     rw (← c.disk.view_is) (place_kept _ _ c.disk.inside.tables agrees c.in_default-read_extending.ensures.kept.contents c.in_default-read_extending.ensures.kept.closing c.in_default-read_extending.ensures.obeys.lawful c.in_default-read_extending.ensures.obeys.durable c.in_default-read_extending.ensures.shown.counts)
+
+-- ---- whatever the Read returned
+
+pub returns-in_default-clause-shape : goal.returns-in_default-clause-shape
+returns-in_default-clause-shape g c = record { geometry = refl; trusted = λ t. t }
+
+pub returns-in-Err-clause-shape : goal.returns-in-Err-clause-shape
+returns-in-Err-clause-shape g c = rw (← c.disk.view_is) (record { geometry = c.in-Err.ensures.obeys.geometry; trusted = c.in-Err.ensures.obeys.trusted })
+
+pub returns-clause-shape : goal.returns-clause-shape
+returns-clause-shape g c = rw (← c.disk.view_is) (record { geometry = c.read_extending.ensures.obeys.geometry; trusted = c.read_extending.ensures.obeys.trusted })

@@ -1,8 +1,6 @@
-use Rattle.std.proofs.Common.{ℕ, List, sym, ap, refl, subst}
-use Rattle.std.specs.List.{AllByRecursion}
+use Rattle.std.proofs.Common.{sym, ap, refl}
 use Rattle.zone_states.specs.declared.geometry.Geometry.{Geometry}
 use Rattle.drive_survey.proofs.ReadLaws.{keeps-none}
-use Rattle.remount.specs.Moving.{IsReadableAt}
 use Rattle.remount.proofs.CallLaws.{on-ok}
 use Rattle.remount.proofs.MoveBuildLaws.{build-done, shape-done}
 use Rattle.remount.proofs.repair.moves.build_move.Goals as goal

@@ -1,4 +1,4 @@
-use Rattle.std.proofs.Common.{ℕ, ◌*◌, ◌+◌, ◌-◌, ◌++◌, ◌≡◌, ◌<◌, ◌≤◌, [], ap, refl, sym, ◌∙◌, append-nil, length, arith}
+use Rattle.std.proofs.Common.{◌*◌, ◌-◌, ◌++◌, ◌≡◌, [], ap, refl, sym, ◌∙◌, append-nil, length, arith}
 use Rattle.zone_states.specs.declared.geometry.Geometry.{Geometry}
 use Rattle.drive_survey.specs.Scan.{block_of, readable_at}
 use Rattle.remount.specs.Torn.{data_count_at}

@@ -1,4 +1,4 @@
-use Rattle.std.proofs.Common.{◌≡◌, ◌+◌, ◌∙◌, ℕ, List, ap, get_or, drop, refl, subst, sym, append-nil, arith}
+use Rattle.std.proofs.Common.{◌+◌, ℕ, List, get_or, drop, refl, subst, arith}
 use Rattle.std.specs.List.{AllByRecursion}
 use Rattle.remount.specs.Moving.{IsNamed}
 use Rattle.remount.proofs.MoveBuildLaws.{copied-all, copies-added, copying-begin, copying-step, turn}

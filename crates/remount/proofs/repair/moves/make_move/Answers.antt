@@ -1,9 +1,8 @@
-use Rattle.std.proofs.Common.{◌≡◌, ◌+◌, ◌≤◌, ◌<◌, ◌∙◌, ℕ, false, true, sym, ap, refl, subst, arith}
+use Rattle.std.proofs.Common.{◌≡◌, ◌∙◌, false, true, ap, subst}
 use Rattle.zone_states.specs.declared.geometry.Geometry.{Geometry}
-use Rattle.drive_port.specs.Drive.{DriveState}
 use Rattle.batch_log.specs.Log.{Batch, batch_size}
 use Rattle.drive_survey.specs.Heads.{with_heading}
-use Rattle.remount.specs.Moving.{CanCopy, CanTake, IsAtMove, IsTakeable, TakesFirst, TakesSome, source_of}
+use Rattle.remount.specs.Moving.{CanCopy, TakesFirst, TakesSome, source_of}
 use Rattle.remount.proofs.CallLaws.{mountable-both, on-either, on-ok, shut-mountable, zones-shut}
 use Rattle.drive_survey.proofs.NextLaws.{if-fault}
 use Rattle.remount.proofs.EmptyLaws.{stays-both}

@@ -1,4 +1,4 @@
-use Rattle.std.proofs.Common.{◌≡◌, ◌+◌, ◌≤◌, ◌∙◌, ℕ, sym, subst, refl, arith}
+use Rattle.std.proofs.Common.{◌≡◌, ℕ, sym, subst, arith}
 use Rattle.drive_survey.specs.Heads.{HeadsView}
 use Rattle.drive_survey.proofs.NextLaws.{if-fault}
 use Rattle.drive_array.proofs.ReserveLaws.{positive-most}

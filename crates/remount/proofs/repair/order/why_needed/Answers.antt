@@ -1,4 +1,4 @@
-use Rattle.std.proofs.Common.{ℕ, sym, ◌∙◌}
+use Rattle.std.proofs.Common.{sym, ◌∙◌}
 use Rattle.drive_array.specs.ZoneLogs.{drive_logs}
 use Rattle.drive_survey.proofs.ReadLaws.{keeps-none}
 use Rattle.remount.proofs.CallLaws.{if-each}

@@ -1,15 +1,13 @@
-use Rattle.std.proofs.Common.{◌≡◌, length, ◌<◌, ◌≤◌, ◌+◌, ◌++◌, ◌^◌, refl, ap, sym, subst, ◌∙◌, inl, rules, Some, Err, true, false, arith}
-use Rattle.std.specs.List.{concat, list_all}
-use Rattle.batch_log.specs.declared.header.Entry.{Entry}
+use Rattle.std.proofs.Common.{◌≡◌, length, ◌<◌, ◌≤◌, ◌+◌, ◌++◌, ◌^◌, refl, ap, sym, subst, ◌∙◌, rules, Some, Err, true, false, arith}
+use Rattle.std.specs.List.{concat}
 use Rattle.drive_array.proofs.AllLaws.{all-weaker}
 use Rattle.zone_choice.specs.Agreement.{MountedView, mounted}
 use Rattle.zone_choice.specs.Builder.{IsBuilt}
 use Rattle.zone_choice.specs.Changes.{BatchLeaves, CanPlace, Places, built_for, closes_before, fault_halt, sequence_end}
 use Rattle.zone_choice.specs.Tables.{size_of}
-use Rattle.zone_choice.specs.Sane.{IsSane, KeepsShape, MayPlace, TablesAfter}
-use Rattle.zone_cleaner.specs.Clean.{has_place}
+use Rattle.zone_choice.specs.Sane.{KeepsShape, MayPlace, TablesAfter}
 use Rattle.batch_log.specs.Header.{header_block}
-use Rattle.zone_cleaner.specs.LiveRecords.{LiveRecord, gathered_data, gathered_entries, gathered_move}
+use Rattle.zone_cleaner.specs.LiveRecords.{LiveRecord, gathered_data, gathered_move}
 use Rattle.zone_cleaner.specs.Turns.{IsAtStep}
 use Rattle.zone_cleaner.specs.declared.step.Step.TheVariants.{Move}
 use Rattle.zone_cleaner.proofs.BesideLaws.{few-closes}
@@ -162,7 +160,9 @@ returns-in-Ok-clause-stays g c =
     let same : mounted (g.D.Device.drive c.disk.inside.device) c.reserve_moves.new.self ≡ c.args.disk.now = ap (mounted (g.D.Device.drive c.disk.inside.device)) c.in_ok-reserve_moves.ensures.kept ∙ c.disk.view_is in
     let after = subst (λ (m : MountedView). TablesAfter m.drive.geometry m.tables f.zone (built_for m batch) c.append_batch.result c.append_batch.new.disk.tables) same c.append_batch.ensures.tables in
     let shape = subst (λ (m : MountedView). KeepsShape m.drive c.append_batch.new.disk.drive) same c.append_batch.ensures.stays in
-    stays-appended c.args.disk.now c.append_batch.new.disk f.zone (built_for c.args.disk.now batch) c.append_batch.result shape c.append_batch.ensures.sane after
+    let built = ap (λ b. b.heading.size) c.batch-batch.ensures ∙ ap (λ h. h.size) c.in_default-build.ensures.built.heading in
+    let says : batch.heading.size ≡ Some (size_of c.args.disk.now.tables) = built ∙ ap (λ n. Some n) (c.blocks-2.ensures ∙ ap (λ m. size_of m.tables) c.disk.view_is) in
+    stays-appended c.args.disk.now c.append_batch.new.disk f.zone (built_for c.args.disk.now batch) c.append_batch.result says shape c.append_batch.ensures.sane after
 
 pub returns-in-Err-append_batch-clause-stays : goal.returns-in-Err-append_batch-clause-stays
 returns-in-Err-append_batch-clause-stays g c =
@@ -171,7 +171,9 @@ returns-in-Err-append_batch-clause-stays g c =
     let same : mounted (g.D.Device.drive c.disk.inside.device) c.reserve_moves.new.self ≡ c.args.disk.now = ap (mounted (g.D.Device.drive c.disk.inside.device)) c.in_ok-reserve_moves.ensures.kept ∙ c.disk.view_is in
     let after = subst (λ (m : MountedView). TablesAfter m.drive.geometry m.tables f.zone (built_for m batch) c.append_batch.result c.append_batch.new.disk.tables) same c.append_batch.ensures.tables in
     let shape = subst (λ (m : MountedView). KeepsShape m.drive c.append_batch.new.disk.drive) same c.append_batch.ensures.stays in
-    stays-appended c.args.disk.now c.append_batch.new.disk f.zone (built_for c.args.disk.now batch) c.append_batch.result shape c.append_batch.ensures.sane after
+    let built = ap (λ b. b.heading.size) c.batch-batch.ensures ∙ ap (λ h. h.size) c.in_default-build.ensures.built.heading in
+    let says : batch.heading.size ≡ Some (size_of c.args.disk.now.tables) = built ∙ ap (λ n. Some n) (c.blocks-2.ensures ∙ ap (λ m. size_of m.tables) c.disk.view_is) in
+    stays-appended c.args.disk.now c.append_batch.new.disk f.zone (built_for c.args.disk.now batch) c.append_batch.result says shape c.append_batch.ensures.sane after
 
 pub returns-in-Ok-clause-completed : goal.returns-in-Ok-clause-completed
 returns-in-Ok-clause-completed g c =

@@ -19,6 +19,8 @@ pub returns-in-Err-clause-stays : goal.returns-in-Err-clause-stays
 returns-in-Err-clause-stays g c = record {
   shape = rw (← c.disk.view_is) (record { geometry = c.reset.ensures.obeys.geometry; trusted = c.reset.ensures.obeys.trusted });
   sane = sane-same (g.D.Device.drive c.disk.inside.device) _ c.disk.inside.tables c.reset.ensures.obeys.geometry (rw (← c.disk.view_is) at c.requires.sane);
+  size = rw (← c.disk.view_is) refl;
+  given = rw (← c.disk.view_is) refl;
   host = rw (← c.disk.view_is) (λ none. none);
 }
 
@@ -34,5 +36,7 @@ pub returns-clause-stays : goal.returns-clause-stays
 returns-clause-stays g c = record {
   shape = rw (← c.disk.view_is) (record { geometry = c.reset.ensures.obeys.geometry; trusted = c.reset.ensures.obeys.trusted });
   sane = rw c.end_clean.ensures (sane-ended (g.D.Device.drive c.disk.inside.device) _ c.disk.inside.tables _ c.reset.ensures.obeys.geometry (rw (← c.disk.view_is) at c.requires.sane));
+  size = rw (← c.disk.view_is, c.end_clean.ensures) refl;
+  given = rw (← c.disk.view_is, c.end_clean.ensures) refl;
   host = rw (← c.disk.view_is, c.end_clean.ensures) (λ none. none);
 }

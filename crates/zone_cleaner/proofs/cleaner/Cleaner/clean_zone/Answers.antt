@@ -3,7 +3,6 @@ use Rattle.std.specs.Prelude.{IsTrue}
 use Rattle.drive_port.specs.Drive.{DriveState}
 use Rattle.zone_cleaner.proofs.NeedLaws.{begins, left-few, next-zone}
 use Rattle.zone_cleaner.proofs.RunLaws.{cleans-running, cleans-started}
-use Rattle.zone_cleaner.proofs.SaneLaws.{stays-more, stays-started}
 use Rattle.zone_cleaner.proofs.TurnLaws.{keeps-more}
 use Rattle.zone_cleaner.proofs.cleaner.Cleaner.clean_zone.Goals as goal
 

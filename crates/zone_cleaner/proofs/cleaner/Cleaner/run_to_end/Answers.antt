@@ -1,4 +1,4 @@
-use Rattle.std.proofs.Common.{◌∙◌, ◌≡◌, ◌-◌, ◌+◌, ap, is_some, sym, subst, true, arith}
+use Rattle.std.proofs.Common.{◌∙◌, ◌≡◌, ◌-◌, ap, is_some, sym, subst, true, arith}
 use Rattle.zone_states.specs.declared.geometry.Geometry.{Geometry}
 use Rattle.zone_cleaner.proofs.SaneLaws.{stays-more, stays-same}
 use Rattle.zone_cleaner.proofs.SoFarLaws.{HasRun, run-ended, run-more, run-none, run-over, run-refused}

@@ -1,6 +1,0 @@
-use Rattle.std.proofs.Common.{sym, ◌∙◌}
-use Rattle.zone_translator.proofs.DiskLaws.{holds-agrees, none-spare}
-use Rattle.zone_translator.proofs.disk.Disk.is_cleaning.Goals as goal
-
-pub returns-clause-spare : goal.returns-clause-spare
-returns-clause-spare g c = rw (← c.self.view_is) (λ serves none. none-spare c.self.inside.mounted c.self.inside.cleaner (sym c.running.ensures ∙ none) (holds-agrees c.self.inside.mounted c.self.inside.cleaner c.self.inside.status serves c.self.invariant))
