@@ -9,7 +9,7 @@ use Rattle.drive_port.specs.declared.calls.PortFault.{PortFault}
 use Rattle.drive_port.specs.declared.calls.PortFault.TheVariants as port
 use Rattle.std.proofs.lemmas.Nat.{div-mul-add}
 use Rattle.tail_repair.specs.Repair.{BatchesEnd, Extends, IsMoved, KeepsDrive}
-use Rattle.tail_repair.proofs.KeepLaws.{append-extends, extends-same, finish-extends, keeps-same, reset-keeps}
+use Rattle.tail_repair.proofs.KeepLaws.{ResetLeaves, append-extends, extends-same, finish-extends, keeps-same, reset-keeps, reset-leaves-in, same-leaves-in}
 
 same-count : {V : Type 0} (old new : DriveState) (result : Result V PortFault) → Obeys old result new → length new.zones ≡ length old.zones
 same-count old new result obeys = obeys.lawful.count ∙ rw obeys.geometry (sym obeys.was_lawful.count)
@@ -83,8 +83,13 @@ block-small : (drive : DriveState) → (drive.geometry.block ≡ 512) ⊎ (drive
 block-small drive (inl is) = omega (arith, is)
 block-small drive (inr is) = omega (arith, is)
 
+-- What it leaves, whatever it answers.
+pub record LeavesZones (old new : DriveState) (zone : ℕ) (to : Option ℕ) : Type 0 where
+  pub kept : KeepsDrive old new
+  pub batches : IsTrue new.clean → ResetLeaves old new zone to
+
 pub reset-leaves : (old new : DriveState) (zone start blocks : ℕ) (to : Option ℕ) (result : Result (Unit {0}) PortFault) → IsInRange old.geometry → start ≡ zone * old.geometry.size
-    → (IsTrue old.clean → BatchesEnd old zone blocks) → (IsTrue old.clean → IsMoved old zone blocks to) → ResetAnswers old start result new → KeepsDrive old new
+    → (IsTrue old.clean → BatchesEnd old zone blocks) → (IsTrue old.clean → IsMoved old zone blocks to) → ResetAnswers old start result new → LeavesZones old new zone to
 reset-leaves old new zone start blocks to result range is ends moved answers = at result refl
   where
     number : start / old.geometry.size ≡ zone
@@ -93,25 +98,32 @@ reset-leaves old new zone start blocks to result range is ends moved answers = a
     obeys : Obeys old result new
     obeys = answers.obeys
 
-    same : contents new.zones ≡ contents old.zones → KeepsDrive old new
-    same c = record { geometry = obeys.geometry; lawful = obeys.lawful; trusted = obeys.trusted; batches = λ clean. keeps-same old new obeys.geometry c (same-count old new result obeys) }
+    small : old.geometry.block < 2 ^ 32
+    small = block-small old range.block
 
-    empty_now : Resets (contents old.zones) (contents new.zones) (start / old.geometry.size) → KeepsDrive old new
-    empty_now resets = record {
-      geometry = obeys.geometry;
-      lawful = obeys.lawful;
-      trusted = obeys.trusted;
-      batches = λ clean.
-          let was = obeys.trusted clean in
-          let now : Resets (contents old.zones) (contents new.zones) zone = subst (Resets (contents old.zones) (contents new.zones)) number resets in
-          reset-keeps old new zone blocks to (block-small old range.block) obeys.geometry (same-count old new result obeys) (ends was) (moved was) now;
+    same : contents new.zones ≡ contents old.zones → LeavesZones old new zone to
+    same c = record {
+      kept = record { geometry = obeys.geometry; lawful = obeys.lawful; trusted = obeys.trusted; batches = λ clean. keeps-same old new obeys.geometry c (same-count old new result obeys) };
+      batches = λ clean. let was = obeys.trusted clean in same-leaves-in old new zone blocks to small obeys.geometry (ends was) (moved was) c;
     }
 
-    kept : (SameContents old new ⊎ ResetContents old new start) → KeepsDrive old new
+    empty_now : Resets (contents old.zones) (contents new.zones) (start / old.geometry.size) → LeavesZones old new zone to
+    empty_now resets = record {
+      kept = record { geometry = obeys.geometry; lawful = obeys.lawful; trusted = obeys.trusted; batches = λ clean. reset-keeps old new zone blocks to (moved (obeys.trusted clean)) (same-count old new result obeys) (leaves clean) };
+      batches = leaves;
+    }
+      where
+        leaves : IsTrue new.clean → ResetLeaves old new zone to
+        leaves clean =
+            let was = obeys.trusted clean in
+            let now : Resets (contents old.zones) (contents new.zones) zone = subst (Resets (contents old.zones) (contents new.zones)) number resets in
+            reset-leaves-in old new zone blocks to small obeys.geometry (ends was) (moved was) now
+
+    kept : (SameContents old new ⊎ ResetContents old new start) → LeavesZones old new zone to
     kept (inl c) = same c.contents
     kept (inr done) = empty_now done.contents
 
-    at : (r : Result (Unit {0}) PortFault) → result ≡ r → KeepsDrive old new
+    at : (r : Result (Unit {0}) PortFault) → result ≡ r → LeavesZones old new zone to
     at (Ok u) e = let done : ResetZone old new start = rw e at answers.reset in empty_now done.contents
     at (Err port.Stopped) e = let left : ResetKeeps {V = Unit {0}} old start (Err port.Stopped) new = rw e at answers.kept in kept left
     at (Err port.Memory) e = let left : ResetKeeps {V = Unit {0}} old start (Err port.Memory) new = rw e at answers.kept in same left.contents

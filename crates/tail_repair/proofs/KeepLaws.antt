@@ -1,6 +1,7 @@
 -- What keeps the batches of a drive.
-use Rattle.std.proofs.Common.{◌≡◌, ◌≢◌, ◌⊎◌, inl, inr, ℕ, zero, suc, ◌-◌, ◌<◌, ◌≤◌, ◌^◌, Bool, true, false, cond, eqb, IsTrue, Option, Some, None, List, [], ◌∷◌, ◌++◌, length, take, drop, replicate, get_or, set, refl, sym, ap, subst, ◌∙◌, arith, append_assoc, append-nil}
+use Rattle.std.proofs.Common.{◌≡◌, ◌≢◌, ◌⊎◌, inl, inr, ℕ, zero, suc, ◌-◌, ◌<◌, ◌≤◌, ◌^◌, Bool, true, false, cond, eqb, IsTrue, Option, Some, None, List, [], ◌∷◌, ◌++◌, length, take, drop, replicate, get_or, set, Result, Ok, Err, refl, sym, ap, subst, ◌∙◌, arith, append_assoc, append-nil}
 use Rattle.std.specs.List.{flat_map, AllByRecursion}
+use Rattle.std.specs.Prelude.{OnOk, unwrap_or}
 use Rattle.std.proofs.lemmas.Bool.{cases_eq, eqb-true}
 use Rattle.std.proofs.lemmas.List.{drop_at, get_or-set_other, get_or-set_same, length-append, take_at, take-append-drop}
 use Rattle.zone_states.specs.declared.geometry.Geometry.{Geometry}
@@ -12,7 +13,7 @@ use Rattle.drive_array.proofs.ZoneLogLaws.{readable-not_full}
 use Rattle.drive_port.specs.Contents.{Appends, Content, Finishes, Resets, Usage, active, content_at, contents, empty, emptied, filled, finished, full, is_full, is_writable, unusable}
 use Rattle.drive_port.specs.Drive.{DriveState, IsLawful}
 use Rattle.drive_survey.specs.Scan.{readable_at}
-use Rattle.tail_repair.specs.Repair.{BatchesEnd, Begins, Extends, HasCopy, IsMoved, IsMovedTo, KeepsBatches, KeepsDrive}
+use Rattle.tail_repair.specs.Repair.{AreIn, BatchesEnd, Begins, Extends, HasCopy, IsMoved, IsMovedTo, KeepsBatches, KeepsBeside, KeepsDrive}
 
 -- ---- logs
 
@@ -113,19 +114,24 @@ drive-then a b c first next = record {
 
 -- ---- a zone that goes on
 
-pub extends-keeps : (old new : DriveState) (to : ℕ) → Extends old new to → KeepsBatches old new
-extends-keeps old new to extends zone log lt begins = at (cases_eq zone to)
+-- each zone begins with the batches with which it began
+pub extends-in : (old new : DriveState) (to zone : ℕ) → Extends old new to → AreIn old zone new zone
+extends-in old new to zone extends log begins = at (cases_eq zone to)
   where
-    count : length new.zones ≡ length old.zones
-    count = extends.count
-
-    at : (zone ≡ to) ⊎ (zone ≢ to) → (other : ℕ) × (other < length new.zones) × Begins new other log
+    at : (zone ≡ to) ⊎ (zone ≢ to) → Begins new zone log
     at (inl is) =
         let here : Begins old to log = rw is at begins in
         let more = longer old.geometry.block (readable_at old to) extends.more here.0 log here.1 in
         let there : BeginsWith old.geometry.block (readable_at new to) log (here.0 ++ extends.more) = subst (λ (blocks : List (List ℕ)). BeginsWith old.geometry.block blocks log (here.0 ++ extends.more)) (sym extends.own) more in
-        (to, omega (arith, lt, is, count), (here.0 ++ extends.more, subst (λ (x : Geometry). BeginsWith x.block (readable_at new to) log (here.0 ++ extends.more)) (sym extends.geometry) there))
-    at (inr not) = (zone, omega (arith, lt, count), begins-still old new zone log extends.geometry (extends.others zone not) begins)
+        let now : Begins new to log = (here.0 ++ extends.more, subst (λ (x : Geometry). BeginsWith x.block (readable_at new to) log (here.0 ++ extends.more)) (sym extends.geometry) there) in
+        rw is now
+    at (inr not) = begins-still old new zone log extends.geometry (extends.others zone not) begins
+
+pub extends-keeps : (old new : DriveState) (to : ℕ) → Extends old new to → KeepsBatches old new
+extends-keeps old new to extends zone log lt begins = (zone, omega (arith, lt, extends.count), extends-in old new to zone extends log begins)
+
+pub extends-beside : (old new : DriveState) (to zone : ℕ) → Extends old new to → KeepsBeside old new zone
+extends-beside old new to zone extends other not = extends-in old new to other extends
 
 pub extends-drive : (old new : DriveState) (to : ℕ) → Extends old new to → KeepsDrive old new
 extends-drive old new to extends = record { geometry = extends.geometry; lawful = extends.lawful; trusted = extends.trusted; batches = λ clean. extends-keeps old new to extends }
@@ -244,29 +250,75 @@ none-taken : (first more : List Batch) → log_size (first ++ more) ≡ 0 → fi
 none-taken [] more e = refl
 none-taken (b ∷ bs) more e = absurd (omega (arith, e))
 
--- a zone is empty whose batches are in another one, or that had none
-pub reset-keeps : (old new : DriveState) (zone blocks : ℕ) (to : Option ℕ) → old.geometry.block < 2 ^ 32 → new.geometry ≡ old.geometry → length new.zones ≡ length old.zones
-    → BatchesEnd old zone blocks → IsMoved old zone blocks to → Resets (contents old.zones) (contents new.zones) zone → KeepsBatches old new
-reset-keeps old new zone blocks to small g count ends moved resets other log lt begins = at (cases_eq other zone) to refl
-  where
-    Somewhere : Type 0
-    Somewhere = (place : ℕ) × (place < length new.zones) × Begins new place log
+-- What a Reset of a zone leaves, whose batches are in another one, or that had none.
+pub record ResetLeaves (old new : DriveState) (zone : ℕ) (to : Option ℕ) : Type 0 where
+  pub there : AreIn old zone new (unwrap_or to zone)
+  pub beside : KeepsBeside old new zone
 
+pub reset-leaves-in : (old new : DriveState) (zone blocks : ℕ) (to : Option ℕ) → old.geometry.block < 2 ^ 32 → new.geometry ≡ old.geometry
+    → BatchesEnd old zone blocks → IsMoved old zone blocks to → Resets (contents old.zones) (contents new.zones) zone → ResetLeaves old new zone to
+reset-leaves-in old new zone blocks to small g ends moved resets = record {
+  there = λ log begins. at log begins to refl;
+  beside = λ other not log begins. begins-still old new other log g (one.others other not) begins;
+}
+  where
     one : ChangesOne old new zone emptied
     one = changes-one old new zone emptied resets.in_range resets.zones
 
-    at : (other ≡ zone) ⊎ (other ≢ zone) → (t : Option ℕ) → to ≡ t → Somewhere
-    at (inr not) t is = (other, omega (arith, lt, count), begins-still old new other log g (one.others other not) begins)
-    at (inl same) None is =
+    at : (log : List Batch) → Begins old zone log → (t : Option ℕ) → to ≡ t → Begins new (unwrap_or t zone) log
+    at log here None is =
         let none : blocks ≡ 0 = rw is at moved in
-        let here : Begins old zone log = rw same at begins in
         let front = front-of old.geometry.block log ends.log here.0 ends.rest small here.1.batches ends.front.batches ends.no_more (sym here.1.encoded ∙ ends.front.encoded) in
         let empty_log : log ≡ [] = none-taken log front.0 (ap log_size (sym front.1) ∙ ends.size ∙ none) in
-        let nothing : Begins new other [] = (readable_at new other, record { encoded = refl; batches = tt }) in
-        (other, omega (arith, lt, count), rw empty_log nothing)
-    at (inl same) (Some t) is =
+        let nothing : Begins new zone [] = (readable_at new zone, record { encoded = refl; batches = tt }) in
+        rw empty_log nothing
+    at log here (Some t) is =
         let there : IsMovedTo old zone blocks t = rw is at moved in
-        let here : Begins old zone log = rw same at begins in
         let fronts : take (log_size ends.log) (readable_at old t) ≡ take (log_size ends.log) (readable_at old zone) = rw ends.size (copy-front old zone blocks t there.copy) in
         let found = begins-copy old.geometry.block (readable_at old zone) (readable_at old t) here.0 ends.rest log ends.log small ends.front ends.no_more here.1 fronts in
-        (t, omega (arith, there.copy.there, count), begins-still old new t log g (one.others t there.apart) found)
+        begins-still old new t log g (one.others t there.apart) found
+
+-- and where nothing changed
+pub same-leaves-in : (old new : DriveState) (zone blocks : ℕ) (to : Option ℕ) → old.geometry.block < 2 ^ 32 → new.geometry ≡ old.geometry
+    → BatchesEnd old zone blocks → IsMoved old zone blocks to → contents new.zones ≡ contents old.zones → ResetLeaves old new zone to
+same-leaves-in old new zone blocks to small g ends moved same = record {
+  there = λ log begins. at log begins to refl;
+  beside = λ other not log begins. begins-still old new other log g (rw same refl) begins;
+}
+  where
+    at : (log : List Batch) → Begins old zone log → (t : Option ℕ) → to ≡ t → Begins new (unwrap_or t zone) log
+    at log here None is = begins-still old new zone log g (rw same refl) here
+    at log here (Some t) is =
+        let there : IsMovedTo old zone blocks t = rw is at moved in
+        let fronts : take (log_size ends.log) (readable_at old t) ≡ take (log_size ends.log) (readable_at old zone) = rw ends.size (copy-front old zone blocks t there.copy) in
+        let found = begins-copy old.geometry.block (readable_at old zone) (readable_at old t) here.0 ends.rest log ends.log small ends.front ends.no_more here.1 fronts in
+        begins-still old new t log g (rw same refl) found
+
+-- no batch is lost then
+pub reset-keeps : (old new : DriveState) (zone blocks : ℕ) (to : Option ℕ) → IsMoved old zone blocks to → length new.zones ≡ length old.zones → ResetLeaves old new zone to → KeepsBatches old new
+reset-keeps old new zone blocks to moved count leaves other log lt begins = at (cases_eq other zone) to refl
+  where
+    at : (other ≡ zone) ⊎ (other ≢ zone) → (t : Option ℕ) → to ≡ t → (place : ℕ) × (place < length new.zones) × Begins new place log
+    at (inr not) t is = (other, omega (arith, lt, count), leaves.beside other not log begins)
+    at (inl same) None is =
+        let here : Begins old zone log = rw same at begins in
+        let there : Begins new zone log = rw is at (leaves.there log here) in
+        (zone, omega (arith, lt, same, count), there)
+    at (inl same) (Some t) is =
+        let to_is : IsMovedTo old zone blocks t = rw is at moved in
+        let here : Begins old zone log = rw same at begins in
+        let there : Begins new t log = rw is at (leaves.there log here) in
+        (t, omega (arith, to_is.copy.there, count), there)
+
+-- ---- where batches are
+
+pub in-then : (a b c : DriveState) (x y z : ℕ) → AreIn a x b y → AreIn b y c z → AreIn a x c z
+in-then a b c x y z first next log begins = next log (first log begins)
+
+pub beside-then : (a b c : DriveState) (zone : ℕ) → KeepsBeside a b zone → KeepsBeside b c zone → KeepsBeside a c zone
+beside-then a b c zone first next other not log begins = next other not log (first other not log begins)
+
+-- what holds of each answer, holds of one that is done
+pub on-ok : {V E : Type 0} (result : Result V E) {P : Type 0} → P → OnOk result P
+on-ok (Ok value) p = p
+on-ok (Err fault) p = tt

@@ -2,3 +2,4 @@ pub mod KeepLaws
 pub mod CommandLaws
 pub mod TailLaws
 pub mod MovedLaws
+pub mod CauseLaws

@@ -1,6 +1,6 @@
 -- Where the batches of zones end.
 use Rattle.std.proofs.Common.{◌≡◌, ◌⊎◌, inl, inr, ℕ, zero, suc, ◌+◌, ◌<◌, ◌≤◌, ◌^◌, Bool, true, false, List, [], ◌∷◌, ◌++◌, length, get_or, Option, Some, None, Result, Ok, Err, refl, sym, ap, subst, ◌∙◌, arith}
-use Rattle.std.specs.Prelude.{nat_le, slice_get, IfErr, IfOk}
+use Rattle.std.specs.Prelude.{nat_le, not, slice_get, IfErr, IfOk}
 use Rattle.std.proofs.lemmas.Bool.{cases_eq, cases_lt}
 use Rattle.std.specs.List.{list_any}
 use Rattle.std.specs.Ordering.{nat_cmp}
@@ -8,11 +8,12 @@ use Rattle.std.specs.Result.{is_ok}
 use Rattle.std.specs.BTreeSet.{insert_key}
 use Rattle.std.specs.BTreeMap.{is_at}
 use Rattle.batch_log.specs.Causes.{is_zero}
-use Rattle.batch_log.specs.Header.{Heading, IsNoHeader}
+use Rattle.batch_log.specs.Header.{Heading, IsNoHeader, head_size}
 use Rattle.batch_log.specs.Ending.{Ending, ended, torn, failed, ending_of}
 use Rattle.batch_log.specs.Log.{Batch, BeginsWithNoBatch, log_size}
+use Rattle.batch_log.proofs.EndingLaws.{never_fails, one_front, tail_none}
 use Rattle.batch_log.specs.declared.fault.LogFault.{LogFault}
-use Rattle.drive_array.specs.ZoneLogs.{HasLog}
+use Rattle.drive_array.specs.ZoneLogs.{HasLog, zone_log}
 use Rattle.drive_port.specs.Contents.{SameContents, content_at, contents, is_full}
 use Rattle.drive_port.specs.Drive.{DriveState, IsLawful}
 use Rattle.zone_states.specs.Geometry.{IsInRange}
@@ -23,10 +24,12 @@ use Rattle.drive_survey.specs.declared.fault.MountFault.TheVariants as faults
 use Rattle.drive_survey.specs.declared.reported.ReportedZone.{ReportedZone}
 use Rattle.drive_survey.specs.declared.scan.ReadableZone.{ReadableZone}
 use Rattle.drive_survey.specs.Reported.{AreReported, IsKnown, KeepsZones, ReportsZones}
-use Rattle.drive_survey.specs.Scan.{AreKnown, FailsBy, FailsIn, block_of, ending_fault, heading_fault, log_fault, readable_at}
+use Rattle.drive_survey.specs.Heads.{HeadsView}
+use Rattle.drive_survey.specs.Scan.{AreKnown, FailsBy, FailsIn, Scans, block_of, ending_fault, heading_fault, log_fault, readable_at}
 use Rattle.drive_survey.proofs.ReadLaws.{kept-contents, kept-known}
+use Rattle.drive_survey.proofs.TakeLaws.{blocks-are}
 use Rattle.drive_port.proofs.ClosingLaws.{length-closing}
-use Rattle.tail_repair.specs.Repair.{Agrees, AreNoted, AreTails, BatchesEnd, Extends, HasCopy, HaveLogs, HeadersEnd, IsCopy, KeepsDrive, LogEnds, NotesTail, TailIs, at_first, may_change, noted, one_more, tail_at}
+use Rattle.tail_repair.specs.Repair.{Agrees, AreIn, AreNoted, AreTails, BatchesEnd, EndsAt, Extends, HasCopy, HaveLogs, HeadersEnd, HoldsNoLog, IsCopy, KeepsBeside, KeepsDrive, LogEnds, NotesTail, TailIs, at_first, may_change, noted, one_more, tail_at}
 use Rattle.tail_repair.specs.declared.fault.RepairFault.{RepairFault}
 use Rattle.tail_repair.specs.declared.tails.ForeignTail.{ForeignTail}
 use Rattle.tail_repair.proofs.KeepLaws.{keeps-same}
@@ -55,21 +58,67 @@ ends-there zone size z o cause ended is = absurd (cc)
 ends-there zone size z o cause torn is = absurd (cc)
 ends-there zone size z o cause (failed other) is = cc
 
--- a scan that fails at a block has found where the batches end
-pub scan-ends : (old new : DriveState) (zone z o : ℕ) (seen : List ℕ) (cause : LogFault) → FailsBy (FailsIn old.geometry (content_at (contents old.zones) zone) zone seen) new (faults.Log z o cause) → BatchesEnd old zone o
-scan-ends old new zone z o seen cause (inl memory) = absurd (cc)
-scan-ends old new zone z o seen cause (inr (inl halted)) = let no = halted.0 in absurd (cc)
-scan-ends old new zone z o seen cause (inr (inr fails)) = at fails.first
+ends-failed : (zone size z o : ℕ) (cause : LogFault) (ending : Ending) → ending_fault zone size ending ≡ Some (faults.Log z o cause) → ending ≡ failed cause
+ends-failed zone size z o cause ended is = absurd (cc)
+ends-failed zone size z o cause torn is = absurd (cc)
+ends-failed zone size z o cause (failed other) is = cc
+
+-- a geometry in range has blocks of 512 or 4096 bytes
+pub block-long : (geometry : Geometry) → IsInRange geometry → head_size ≤ geometry.block
+block-long geometry range = at range.block
   where
-    at : ((log_fault seen fails.log ≡ Some (faults.Log z o cause)) ⊎ ((log_fault seen fails.log ≡ None) × BeginsWithNoBatch old.geometry.block fails.rest × (ending_fault zone (log_size fails.log) (ending_of (is_full (content_at (contents old.zones) zone).usage) fails.rest) ≡ Some (faults.Log z o cause)))) → BatchesEnd old zone o
+    at : (geometry.block ≡ 512) ⊎ (geometry.block ≡ 4096) → head_size ≤ geometry.block
+    at (inl is) = omega (arith, is)
+    at (inr is) = omega (arith, is)
+
+pub block-small : (geometry : Geometry) → IsInRange geometry → geometry.block < 2 ^ 32
+block-small geometry range = at range.block
+  where
+    at : (geometry.block ≡ 512) ⊎ (geometry.block ≡ 4096) → geometry.block < 2 ^ 32
+    at (inl is) = omega (arith, is)
+    at (inr is) = omega (arith, is)
+
+-- a scan that fails at a block has found where the batches end, and that something foreign follows
+pub scan-ends : (old new : DriveState) (zone z o : ℕ) (seen : List ℕ) (cause : LogFault) → IsInRange old.geometry → FailsBy (FailsIn old.geometry (content_at (contents old.zones) zone) zone seen) new (faults.Log z o cause) → EndsAt old zone o true
+scan-ends old new zone z o seen cause range (inl memory) = absurd (cc)
+scan-ends old new zone z o seen cause range (inr (inl halted)) = let no = halted.0 in absurd (cc)
+scan-ends old new zone z o seen cause range (inr (inr fails)) = at fails.first
+  where
+    full : Bool
+    full = is_full (content_at (contents old.zones) zone).usage
+
+    small : old.geometry.block < 2 ^ 32
+    small = block-small old.geometry range
+
+    no-log : BeginsWithNoBatch old.geometry.block fails.rest → ending_of full fails.rest ≡ failed cause → HoldsNoLog old zone
+    no-log none is log has =
+        let same = one_front old.geometry.block fails.log log fails.rest has.tail small fails.front.batches has.front.batches none (tail_none old.geometry.block full has.tail small has.end) (sym fails.front.encoded ∙ has.front.encoded) in
+        never_fails old.geometry.block full has.tail cause (block-long old.geometry range) small has.end (ap (ending_of full) same.tail_is ∙ is)
+
+    at : ((log_fault seen fails.log ≡ Some (faults.Log z o cause)) ⊎ ((log_fault seen fails.log ≡ None) × BeginsWithNoBatch old.geometry.block fails.rest × (ending_fault zone (log_size fails.log) (ending_of full fails.rest) ≡ Some (faults.Log z o cause)))) → EndsAt old zone o true
     at (inl first) = absurd (log-other seen fails.log z o cause first)
-    at (inr after) = record {
-      log = fails.log;
-      rest = fails.rest;
-      front = fails.front;
-      no_more = after.1;
-      size = ends-there zone (log_size fails.log) z o cause (ending_of (is_full (content_at (contents old.zones) zone).usage) fails.rest) after.2;
-    }
+    at (inr after) =
+        let ends : BatchesEnd old zone o = record {
+          log = fails.log;
+          rest = fails.rest;
+          front = fails.front;
+          no_more = after.1;
+          size = ends-there zone (log_size fails.log) z o cause (ending_of full fails.rest) after.2;
+        } in
+        record { ends = ends; log = (no-log after.1 (ends-failed zone (log_size fails.log) z o cause (ending_of full fails.rest) after.2), ends) }
+
+-- a scan that is done has found a log
+pub scan-log : (old : DriveState) (zone : ℕ) (seen after : List ℕ) (heads : HeadsView) (is_torn : Bool) → IsInRange old.geometry → Scans old.geometry (content_at (contents old.zones) zone) seen heads is_torn after → EndsAt old zone heads.blocks false
+scan-log old zone seen after heads is_torn range scans = record {
+  ends = record {
+    log = zone_log old.geometry (content_at (contents old.zones) zone);
+    rest = scans.has.tail;
+    front = scans.has.front;
+    no_more = tail_none old.geometry.block (is_full (content_at (contents old.zones) zone).usage) scans.has.tail (block-small old.geometry range) scans.has.end;
+    size = sym (ap (λ (v : HeadsView). v.blocks) scans.heads_are ∙ blocks-are (zone_log old.geometry (content_at (contents old.zones) zone)));
+  };
+  log = scans.has;
+}
 
 -- ---- looks
 
@@ -80,6 +129,13 @@ look-keeps old new kept = record {
   trusted = kept.trusted;
   batches = λ clean. keeps-same old new kept.geometry (kept-contents old new kept) (length-closing old.zones new.zones kept.closing);
 }
+
+-- a look leaves the batches of each zone where they are
+pub look-in : (old new : DriveState) (zone : ℕ) → KeepsZones old new → AreIn old zone new zone
+look-in old new zone kept log begins = (begins.0, rw (kept.geometry, kept-contents old new kept) begins.1)
+
+pub look-beside : (old new : DriveState) (zone : ℕ) → KeepsZones old new → KeepsBeside old new zone
+look-beside old new zone kept other not = look-in old new other kept
 
 same-blocks : (old new : DriveState) (zone : ℕ) → KeepsZones old new → readable_at new zone ≡ readable_at old zone
 same-blocks old new zone kept = rw (kept.geometry, kept-contents old new kept) refl
@@ -109,14 +165,21 @@ headers-before old new zone blocks kept headers offset lt within =
     let there = headers offset lt (omega (arith, within, ap length same)) in
     subst IsNoHeader (ap (λ (blocks : List (List ℕ)). get_or blocks offset []) same) there
 
--- what is found of a zone
-pub tail-kept : (old new : DriveState) (zone : ℕ) (found : Option ℕ) → KeepsZones old new → TailIs new zone found → TailIs old zone found
-tail-kept old new zone None kept is = rw (kept.geometry, kept-contents old new kept) at is
-tail-kept old new zone (Some blocks) kept is = (ends-before old new zone blocks kept is.0, headers-before old new zone blocks kept is.1)
+no-log-before : (old new : DriveState) (zone : ℕ) → KeepsZones old new → HoldsNoLog new zone → HoldsNoLog old zone
+no-log-before old new zone kept none = rw (kept.geometry, kept-contents old new kept) at none
 
-pub log-kept : (old new : DriveState) (zone : ℕ) (found : Option ℕ) → KeepsZones old new → LogEnds new zone found → LogEnds old zone found
-log-kept old new zone None kept is = rw (kept.geometry, kept-contents old new kept) at is
-log-kept old new zone (Some blocks) kept is = ends-before old new zone blocks kept is
+-- what is found of a zone
+pub log-before : (old new : DriveState) (zone : ℕ) (found : Option ℕ) → KeepsZones old new → LogEnds new zone found → LogEnds old zone found
+log-before old new zone None kept is = rw (kept.geometry, kept-contents old new kept) at is
+log-before old new zone (Some blocks) kept is = (no-log-before old new zone kept is.0, ends-before old new zone blocks kept is.1)
+
+pub tail-kept : (old new : DriveState) (zone : ℕ) (found : Option ℕ) → KeepsZones old new → TailIs new zone found → TailIs old zone found
+tail-kept old new zone None kept is = log-before old new zone None kept is
+tail-kept old new zone (Some blocks) kept is = (log-before old new zone (Some blocks) kept is.0, headers-before old new zone blocks kept is.1)
+
+-- after looks too
+pub log-after : (old new : DriveState) (zone blocks : ℕ) → KeepsZones old new → LogEnds old zone (Some blocks) → LogEnds new zone (Some blocks)
+log-after old new zone blocks kept is = (rw (kept.geometry, kept-contents old new kept) is.0, ends-kept old new zone blocks kept is.1)
 
 -- ---- all zones
 
@@ -299,3 +362,13 @@ no-items (x ∷ xs) none = absurd (omega (arith, none))
 pub found-before : {A : Type 0} (old new : DriveState) (items : A → List ForeignTail) (result : Result A RepairFault) → KeepsZones old new → IfOk result (λ found. AreTails new (items found)) → IfOk result (λ found. AreTails old (items found))
 found-before old new items (Ok found) kept are = tails-before old new (items found) kept are
 found-before old new items (Err fault) kept are = are
+
+-- ---- what a scan ends by
+
+-- something foreign follows
+pub foreign-ends : (drive : DriveState) (zone blocks : ℕ) (is_foreign : Bool) → not is_foreign ≡ false → EndsAt drive zone blocks is_foreign → LogEnds drive zone (Some blocks)
+foreign-ends drive zone blocks true is ends = ends.log
+foreign-ends drive zone blocks false is ends = absurd (cc)
+
+pub ends-same : (drive : DriveState) (zone n blocks : ℕ) (is_foreign : Bool) → n ≡ blocks → EndsAt drive zone n is_foreign → BatchesEnd drive zone blocks
+ends-same drive zone n blocks is_foreign same ends = subst (BatchesEnd drive zone) same ends.ends

@@ -1,15 +1,24 @@
 -- What a repair of zones that end in something foreign finds, keeps and leaves.
-use Rattle.std.specs.Prelude.{◌≡◌, ◌≢◌, ℕ, suc, ◌<◌, ◌≤◌, Bool, true, false, IsTrue, List, [], ◌∷◌, ◌++◌, length, map, Option, Some, None, IfSome}
+use Rattle.std.specs.Prelude.{◌≡◌, ◌≢◌, ℕ, suc, ◌<◌, ◌≤◌, Bool, true, false, IsTrue, List, [], ◌∷◌, ◌++◌, length, map, Option, Some, None, IfSome, Result, Ok, Err, slice_get, unwrap_or}
 use Rattle.batch_log.specs.Causes.{is_zero}
-use Rattle.batch_log.specs.Header.{IsNoHeader}
-use Rattle.batch_log.specs.Log.{Batch, BeginsWith, BeginsWithNoBatch, log_size}
+use Rattle.batch_log.specs.Header.{Heading, IsHeaderBlock, IsNoHeader}
+use Rattle.batch_log.specs.Log.{Batch, BeginsWith, BeginsWithNoBatch, HaveNoLog, log_size}
 use Rattle.drive_array.specs.ZoneLogs.{HasLog}
-use Rattle.drive_port.specs.Contents.{content_at, contents}
+use Rattle.drive_port.specs.Contents.{Usage, content_at, contents, empty, is_full, usage_of}
 use Rattle.drive_port.specs.Drive.{DriveState, IsLawful}
-use Rattle.drive_survey.specs.Scan.{block_of, readable_at}
+use Rattle.drive_port.specs.declared.calls.PortFault.{PortFault}
+use Rattle.drive_port.specs.declared.calls.PortFault.TheVariants as port
+use Rattle.drive_port.specs.declared.device.Halt.TheVariants as halts
+use Rattle.drive_survey.specs.Scan.{block_of, log_fault, readable_at}
+use Rattle.drive_survey.specs.Survey.{IsLowestUnusable}
+use Rattle.drive_survey.specs.declared.fault.MountFault.{MountFault}
+use Rattle.drive_survey.specs.declared.reported.ReportedZone.{ReportedZone}
+use Rattle.drive_survey.specs.declared.fault.MountFault.TheVariants as mounts
+use Rattle.zone_states.specs.Geometry.{IsInRange}
 use Rattle.tail_repair.specs.declared.fault.RepairFault.{RepairFault}
-use Rattle.tail_repair.specs.declared.fault.RepairFault.TheVariants.{Halted, Unfinished}
+use Rattle.tail_repair.specs.declared.fault.RepairFault.TheVariants.{Limits, Unusable, Unsound, Behind, NoEmptyZone, Halted, Unfinished}
 use Rattle.tail_repair.specs.declared.repair.MovedZone.{MovedZone}
+use Rattle.tail_repair.specs.declared.tails.BatchEnd.{BatchEnd}
 use Rattle.tail_repair.specs.declared.tails.ForeignTail.{ForeignTail}
 
 -- ---- what is kept
@@ -31,6 +40,14 @@ pub record KeepsDrive (old new : DriveState) : Type 0 where
   pub trusted : IsTrue new.clean → IsTrue old.clean
   pub batches : IsTrue new.clean → KeepsBatches old new
 
+-- the batches with which a zone began, this zone begins with now
+abbrev pub AreIn : DriveState → ℕ → DriveState → ℕ → Type 0
+AreIn old zone new other = (log : List Batch) → Begins old zone log → Begins new other log
+
+-- each zone but one begins with the batches with which it began
+abbrev pub KeepsBeside : DriveState → DriveState → ℕ → Type 0
+KeepsBeside old new zone = (other : ℕ) → other ≢ zone → AreIn old other new other
+
 -- faults that come after a zone may have changed
 abbrev pub may_change : RepairFault → Bool
 may_change (Halted halt) = true
@@ -47,17 +64,44 @@ pub record BatchesEnd (drive : DriveState) (zone blocks : ℕ) : Type 0 where
   pub no_more : BeginsWithNoBatch drive.geometry.block rest
   pub size : log_size log ≡ blocks
 
--- a zone holds a log, or its batches end after so many blocks
+-- a zone holds no log
+abbrev pub HoldsNoLog : DriveState → ℕ → Type 0
+HoldsNoLog drive zone = HaveNoLog drive.geometry.block (is_full (content_at (contents drive.zones) zone).usage) (readable_at drive zone)
+
+-- A zone holds a log. Or it holds none, and its batches end after so many blocks.
 abbrev pub LogEnds : DriveState → ℕ → Option ℕ → Type 0
 LogEnds drive zone None = HasLog drive.geometry (content_at (contents drive.zones) zone)
-LogEnds drive zone (Some blocks) = BatchesEnd drive zone blocks
+LogEnds drive zone (Some blocks) = HoldsNoLog drive zone × BatchesEnd drive zone blocks
+
+-- after how many blocks something foreign follows, if it does
+abbrev pub foreign_from : Bool → ℕ → Option ℕ
+foreign_from true blocks = Some blocks
+foreign_from false blocks = None
+
+-- what a fault of a look at a zone is to a repair
+abbrev pub look_fault : MountFault → RepairFault
+look_fault mounts.OutOfMemory = Halted halts.Memory
+look_fault mounts.Halted = Halted halts.Stopped
+look_fault fault = Unfinished
+
+-- where the batches of a zone end whose scan failed
+abbrev pub foreign_end : ℕ → MountFault → Result BatchEnd RepairFault
+foreign_end zone (mounts.Log number blocks cause) = Ok (record { blocks = blocks; is_foreign = true })
+foreign_end zone mounts.SequenceRepeated = Err (Unsound zone)
+foreign_end zone mounts.Spent = Err (Unsound zone)
+foreign_end zone fault = Err (look_fault fault)
+
+-- The batches of a zone take so many blocks, and whether something foreign follows is known.
+pub record EndsAt (drive : DriveState) (zone blocks : ℕ) (is_foreign : Bool) : Type 0 where
+  pub ends : BatchesEnd drive zone blocks
+  pub log : LogEnds drive zone (foreign_from is_foreign blocks)
 
 -- no header is behind the first foreign block
 abbrev pub HeadersEnd : DriveState → ℕ → ℕ → Type 0
 HeadersEnd drive zone blocks =
     (offset : ℕ) → blocks < offset → offset < length (readable_at drive zone) → IsNoHeader (block_of drive zone offset)
 
--- A zone holds a log. Or its batches end after so many blocks, and no header is behind the first foreign one.
+-- A zone holds a log. Or it holds none, its batches end after so many blocks, and no header is behind the first foreign one.
 abbrev pub TailIs : DriveState → ℕ → Option ℕ → Type 0
 TailIs drive zone None = LogEnds drive zone None
 TailIs drive zone (Some blocks) = LogEnds drive zone (Some blocks) × HeadersEnd drive zone blocks
@@ -86,21 +130,24 @@ AreTails drive tails = AreNoted drive (length drive.zones) tails
 
 -- ---- what is answered
 
-abbrev pub found_zones : List ForeignTail → List ℕ
-found_zones tails = map (λ (tail : ForeignTail). tail.zone) tails
+-- the zone that was repaired, and how many blocks its batches take
+abbrev pub tail_of : MovedZone → ForeignTail
+tail_of moved = tail_at moved.zone moved.blocks
 
-abbrev pub moved_zones : List MovedZone → List ℕ
-moved_zones moved = map (λ (one : MovedZone). one.zone) moved
+abbrev pub moved_tails : List MovedZone → List ForeignTail
+moved_tails moved = map tail_of moved
 
--- These are just the zones that end in something foreign, in their order.
-pub record AreRepaired (drive : DriveState) (moved : List MovedZone) : Type 0 where
-  pub tails : List ForeignTail
-  pub found : AreTails drive tails
-  pub zones : moved_zones moved ≡ found_zones tails
+-- These are just the zones that end in something foreign, in their order, and how many blocks their batches take.
+abbrev pub AreRepaired : DriveState → List MovedZone → Type 0
+AreRepaired drive moved = AreTails drive (moved_tails moved)
 
 -- what was moved is in another zone
 abbrev pub IsElsewhere : MovedZone → Type 0
 IsElsewhere moved = IfSome moved.into (λ to. to ≢ moved.zone)
+
+-- The batches with which the zone began are in the zone that the answer names, and where they were if it names none.
+abbrev pub AreWhereTold : DriveState → DriveState → MovedZone → Type 0
+AreWhereTold old new moved = AreIn old moved.zone new (unwrap_or moved.into moved.zone)
 
 -- each zone holds a log
 abbrev pub HaveLogs : DriveState → Type 0
@@ -142,3 +189,62 @@ pub record Extends (old new : DriveState) (to : ℕ) : Type 0 where
   pub others : (zone : ℕ) → zone ≢ to → content_at (contents new.zones) zone ≡ content_at (contents old.zones) zone
   pub more : List (List ℕ)
   pub own : readable_at new to ≡ readable_at old to ++ more
+
+-- ---- why it fails
+
+-- what a fault of a command is to a repair
+abbrev pub call_fault : PortFault → RepairFault
+call_fault port.Memory = Halted halts.Memory
+call_fault port.Stopped = Halted halts.Stopped
+call_fault fault = Unfinished
+
+-- Batches with which a zone begins have a sequence twice, or one that is too great.
+pub record IsUnsound (drive : DriveState) (zone : ℕ) : Type 0 where
+  pub log : List Batch
+  pub begins : Begins drive zone log
+  pub fault : MountFault
+  pub first : log_fault [] log ≡ Some fault
+
+-- A zone holds no log, and at this block behind the first foreign one is a header.
+pub record HasHeaderBehind (drive : DriveState) (zone block : ℕ) : Type 0 where
+  pub blocks : ℕ
+  pub ends : LogEnds drive zone (Some blocks)
+  pub behind : blocks < block
+  pub in_range : block < length (readable_at drive zone)
+  pub heading : Heading
+  pub is : IsHeaderBlock drive.geometry.block (block_of drive zone block) heading
+
+abbrev pub is_empty : Usage → Bool
+is_empty empty = true
+is_empty usage = false
+
+abbrev pub NoneIsEmpty : DriveState → Type 0
+NoneIsEmpty drive = (zone : ℕ) → zone < length drive.zones → is_empty (content_at (contents drive.zones) zone).usage ≡ false
+
+-- no zone but one is reported Empty
+abbrev pub NoOtherEmpty : List ReportedZone → ℕ → Type 0
+NoOtherEmpty zones beside = (zone : ℕ) (reported : ReportedZone) → zone ≢ beside → slice_get zones zone ≡ Some reported → is_empty (usage_of reported.state) ≡ false
+
+-- If a fault says that the drive has stopped, it has.
+abbrev pub IsTold : DriveState → RepairFault → Type 0
+IsTold drive (Halted halts.Stopped) = drive.stopped ≡ true
+IsTold drive fault = Unit {0}
+
+-- A look at a drive fails only if the drive stops or memory runs out.
+abbrev pub LookFails : DriveState → RepairFault → Type 0
+LookFails drive (Halted halt) = IsTold drive (Halted halt)
+LookFails drive fault = ⊥
+
+-- Why the zones are not found that end in something foreign.
+abbrev pub FindFails : DriveState → DriveState → RepairFault → Type 0
+FindFails old new Limits = IsInRange old.geometry → ⊥
+FindFails old new (Unusable zone) = IsLowestUnusable (contents old.zones) zone
+FindFails old new (Unsound zone) = IsUnsound old zone
+FindFails old new (Behind zone block) = HasHeaderBehind old zone block
+FindFails old new fault = LookFails new fault
+
+-- Why they are not repaired. Of `Unfinished` nothing is said.
+abbrev pub RepairFails : DriveState → DriveState → RepairFault → Type 0
+RepairFails old new NoEmptyZone = NoneIsEmpty old
+RepairFails old new Unfinished = Unit {0}
+RepairFails old new fault = FindFails old new fault

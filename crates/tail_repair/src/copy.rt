@@ -1,8 +1,8 @@
-ghost use Rattle.std.specs.Prelude.{◌≡◌, ◌<◌, ◌≤◌, length, slice_get, Some, IfOk, IfSome, IsTrue, OnOk};
+ghost use Rattle.std.specs.Prelude.{◌≡◌, ◌<◌, ◌≤◌, length, slice_get, Some, IfErr, IfOk, IfSome, IsTrue, OnOk};
 ghost use Rattle.batch_log.specs.Causes.{is_zero};
 ghost use Rattle.drive_port.specs.Drive.{IsLawful};
 ghost use Rattle.drive_survey.specs.Reported.{IsKnown, KeepsZones};
-ghost use Rattle.tail_repair.specs.Repair.{Agrees, Extends, HasCopy, IsCopy};
+ghost use Rattle.tail_repair.specs.Repair.{Agrees, Extends, HasCopy, IsCopy, IsTold, LookFails};
 ghost use Rattle.zone_states.specs.Geometry.{IsInRange};
 
 use crate::fault::RepairFault;
@@ -46,6 +46,7 @@ fn agrees<D: Device>(
     requires there { offset < to.reported.blocks }
     ensures ok { IsTrue (D.drive device.new).clean → IfOk result (λ agrees. IsTrue agrees
         → Agrees (D.drive device.old) front.zone.number front.blocks to.number offset) }
+    ensures err { IfErr result (LookFails (D.drive device.new)) }
     ensures kept { KeepsZones (D.drive device.old) (D.drive device.new) }
 {
     read_block(device, to, offset, &mut pair.one)?;
@@ -68,6 +69,7 @@ pub(crate) fn is_copy<D: Device>(
     requires within { front.blocks ≤ front.zone.reported.blocks }
     ensures ok { IsTrue (D.drive device.new).clean → IfOk result (λ is. IsTrue is
         → IsCopy (D.drive device.old) front.zone.number front.blocks to.number) }
+    ensures err { IfErr result (LookFails (D.drive device.new)) }
     ensures kept { KeepsZones (D.drive device.old) (D.drive device.new) }
 {
     for offset in 0..to.reported.blocks {
@@ -91,6 +93,7 @@ fn copy_some<D: Device>(
     requires there { to < length (D.drive device.old).zones }
     requires left { next < front.blocks }
     ensures ok { IfOk result (λ then. (next < then) × (then ≤ front.blocks)) }
+    ensures told { IfErr result (IsTold (D.drive device.new)) }
     ensures kept { Extends (D.drive device.old) (D.drive device.new) to }
 {
     let geometry = device.geometry();
@@ -113,6 +116,7 @@ fn copy_blocks<D: Device>(
     requires range { IsInRange (D.drive device.old).geometry }
     requires lawful { IsLawful (D.drive device.old) }
     requires there { to < length (D.drive device.old).zones }
+    ensures told { IfErr result (IsTold (D.drive device.new)) }
     ensures kept { Extends (D.drive device.old) (D.drive device.new) to }
 {
     let mut next = first;
@@ -131,6 +135,7 @@ pub(crate) fn finish_zone<D: Device>(
     requires range { IsInRange (D.drive device.old).geometry }
     requires lawful { IsLawful (D.drive device.old) }
     requires there { zone < length (D.drive device.old).zones }
+    ensures told { IfErr result (IsTold (D.drive device.new)) }
     ensures kept { Extends (D.drive device.old) (D.drive device.new) zone }
 {
     let start = device.geometry().start_of(zone);
@@ -149,6 +154,7 @@ pub(crate) fn copy_front<D: Device>(
     requires range { IsInRange (D.drive device.old).geometry }
     requires lawful { IsLawful (D.drive device.old) }
     requires there { to < length (D.drive device.old).zones }
+    ensures told { IfErr result (IsTold (D.drive device.new)) }
     ensures kept { Extends (D.drive device.old) (D.drive device.new) to }
 {
     copy_blocks(alloc, device, front, to, first)?;
@@ -165,6 +171,7 @@ pub(crate) fn compare<D: Device>(
 ) -> Result<(), RepairFault>
     ensures ok { IsTrue (D.drive device.new).clean
         → OnOk result (HasCopy (D.drive device.old) zone blocks to) }
+    ensures told { IfErr result (IsTold (D.drive device.new)) }
     ensures kept { KeepsZones (D.drive device.old) (D.drive device.new) }
 {
     let zones = known_zones(alloc, device)?;

@@ -1,6 +1,7 @@
 ghost use Rattle.std.specs.Prelude.{◌≡◌, IsTrue};
+ghost use Rattle.drive_port.specs.Drive.{DriveState};
 ghost use Rattle.drive_port.specs.declared.device.Halt.TheVariants.{Memory};
-ghost use Rattle.tail_repair.specs.Repair.{may_change};
+ghost use Rattle.tail_repair.specs.Repair.{IsTold, call_fault, look_fault, may_change};
 ghost use Rattle.tail_repair.specs.declared.fault.RepairFault.TheVariants.{Halted};
 
 use drive_port::{Halt, PortFault};
@@ -36,7 +37,8 @@ pub enum RepairFault {
 
 /// What a fault that comes after the first change is: nothing promises any more that no zone changed.
 pub(crate) fn unfinished(fault: RepairFault) -> RepairFault
-    ensures { IsTrue (may_change result) }
+    ensures late { IsTrue (may_change result) }
+    ensures told { (drive : DriveState) → IsTold drive fault → IsTold drive result }
 {
     match fault {
         RepairFault::Halted(halt) => RepairFault::Halted(halt),
@@ -53,7 +55,7 @@ impl From<AllocError> for RepairFault {
 }
 
 impl From<PortFault> for RepairFault {
-    ghost from_gives = { λ _ fault. IsTrue (may_change fault) };
+    ghost from_gives = { λ given fault. fault ≡ call_fault given };
 
     fn from(fault: PortFault) -> RepairFault {
         match fault {
@@ -65,7 +67,7 @@ impl From<PortFault> for RepairFault {
 }
 
 impl From<MountFault> for RepairFault {
-    ghost from_gives = { λ _ fault. IsTrue (may_change fault) };
+    ghost from_gives = { λ given fault. fault ≡ look_fault given };
 
     fn from(fault: MountFault) -> RepairFault {
         match fault {

@@ -26,20 +26,25 @@
 //! * While the drive is clean, at every moment that a stop may leave: the batches with which a zone began, some zone
 //!   begins with (`KeepsBatches` in specs/Repair). So no batch is lost before the first foreign block of its zone.
 //! * Done, each zone holds a log, as a mount asks it (`HaveLogs`). Whether the drive can be mounted a mount tells.
-//! * While the drive is clean, the answer names just the zones that [`find_tails`] finds, in their order
-//!   (`AreRepaired`). With a header after the first foreign block of a zone there is no such answer.
+//! * While the drive is clean, the answer names just the zones that held no log, in their order, and how many blocks the
+//!   batches of each take (`AreRepaired`). With a header after the first foreign block of a zone there is no such answer.
 //! * If the answer names no zone, none is changed. What was moved is in another zone (`IsElsewhere`).
 //! * A refusal changes no zone: all faults but `Halted` and `Unfinished` (`may_change`).
-//! * [`find_tails`] only reads. It finds just the zones whose log ends in something foreign (`AreTails`). It fails if a
-//!   later block of such a zone is a header (`HeadersEnd`), since a repair would lose the batch there.
+//! * While the drive is clean, a fault has its cause (`FindFails`, `RepairFails`). The drive has stopped. Its geometry is
+//!   out of range. No zone below that one is Read Only or Offline, and that one is. Batches of that zone have a sequence
+//!   twice, or one that is too great. At that block, behind the first foreign one of its zone, is a header. No zone is
+//!   Empty.
+//! * [`find_tails`] only reads. It finds just the zones that hold no log (`AreTails`). It fails if a later block of such
+//!   a zone is a header (`HeadersEnd`), since a repair would lose the batch there. It never says `Unfinished`.
 //!
 //! A torn tail is not foreign: a mount repairs it.
 //!
 //! # What is not proved
 //!
-//! * That a fault has a cause: a body that always halts meets the contract.
-//! * What else the answer of [`repair_tails`] says of a zone: how many blocks its batches take, and in which other zone
-//!   they are.
+//! * That memory ran out where a fault says so, and that `Unfinished` of a repair has a cause: a body that always answers
+//!   one of these meets the contract.
+//! * That the zone which the answer names begins with the batches after all repairs. It is proved of each repair alone
+//!   (`AreWhereTold` at `repair_tail`), and no batch is lost in the others.
 //! * That only the foreign zones and their destinations change, and that Empty zones are used from the lowest on. The
 //!   rows of `tool_rows` and tests show it.
 //!

@@ -1,11 +1,14 @@
 ghost use Rattle.std.specs.List.{All};
-ghost use Rattle.std.specs.Prelude.{◌≡◌, ◌≢◌, ◌<◌, ◌≤◌, ◌^◌, [], false, length, IfErr, IfOk, IfSome, IsTrue, OnOk};
-ghost use Rattle.drive_port.specs.Contents.{SameContents};
+ghost use Rattle.std.specs.Prelude.{◌≡◌, ◌≢◌, ◌<◌, ◌≤◌, ◌^◌, [], false, length, IfErr, IfNone, IfOk, IfSome, IsTrue, OnOk};
+ghost use Rattle.std.specs.Prelude.{unwrap_or};
+ghost use Rattle.drive_port.specs.Contents.{SameContents, usage_of};
 ghost use Rattle.drive_port.specs.Drive.{IsLawful};
 ghost use Rattle.drive_survey.specs.Reported.{IsKnown, KeepsZones};
 ghost use Rattle.drive_survey.specs.Scan.{AreKnown};
-ghost use Rattle.tail_repair.specs.Repair.{AreRepaired, BatchesEnd, HaveLogs, IsElsewhere, IsMoved, KeepsDrive};
-ghost use Rattle.tail_repair.specs.Repair.{found_zones, may_change, moved_zones};
+ghost use Rattle.tail_repair.specs.Repair.{AreIn, AreRepaired, AreWhereTold, BatchesEnd, HaveLogs, IsElsewhere};
+ghost use Rattle.tail_repair.specs.Repair.{IsMoved, IsTold, KeepsBeside, KeepsDrive, LookFails, NoOtherEmpty};
+ghost use Rattle.tail_repair.specs.Repair.{RepairFails, is_empty, may_change, moved_tails};
+ghost use Rattle.tail_repair.specs.Repair.{tail_at, tail_of};
 ghost use Rattle.zone_states.specs.Geometry.{IsInRange};
 
 use crate::copy::{Front, Pair, compare, copy_front, finish_zone, is_copy, zone_in};
@@ -28,7 +31,9 @@ pub struct MovedZone {
     pub into: Option<u32>,
 }
 
-fn is_empty(state: ZoneState) -> bool {
+fn is_empty(state: ZoneState) -> bool
+    ensures { result ≡ is_empty (usage_of state) }
+{
     match state {
         ZoneState::Empty => true,
         _ => false,
@@ -54,6 +59,7 @@ fn is_part<D: Device>(
     requires from { IsKnown (D.drive device.old) front.zone.number front.zone.reported }
     requires to { IsKnown (D.drive device.old) to.number to.reported }
     requires within { front.blocks ≤ front.zone.reported.blocks }
+    ensures err { IfErr result (LookFails (D.drive device.new)) }
     ensures ok { IfOk result (λ is. IsTrue is → to.number ≢ front.zone.number) }
     ensures kept { KeepsZones (D.drive device.old) (D.drive device.new) }
 {
@@ -76,6 +82,7 @@ fn copy_of<D: Device>(
     requires within { front.blocks ≤ front.zone.reported.blocks }
     ensures ok { IfOk result (λ found. IfSome found (λ to.
         (to < length zones.now) × (to ≢ front.zone.number))) }
+    ensures err { IfErr result (LookFails (D.drive device.new)) }
     ensures kept { KeepsZones (D.drive device.old) (D.drive device.new) }
 {
     for (number, reported) in zones.iter().enumerate() {
@@ -93,7 +100,8 @@ fn copy_of<D: Device>(
 /// The lowest Empty zone beside one.
 fn lowest_empty(zones: &[ReportedZone], beside: u32) -> Option<u32>
     requires { length zones.now < 2 ^ 32 }
-    ensures { IfSome result (λ to. (to < length zones.now) × (to ≢ beside)) }
+    ensures some { IfSome result (λ to. (to < length zones.now) × (to ≢ beside)) }
+    ensures none { IfNone result (NoOtherEmpty zones.now beside) }
 {
     for (number, zone) in zones.iter().enumerate() {
         if is_empty(zone.state) && number as u32 != beside {
@@ -114,7 +122,9 @@ fn destination<D: Device>(
     requires few { length zones.now ≤ 65536 }
     requires from { IsKnown (D.drive device.old) front.zone.number front.zone.reported }
     requires within { front.blocks ≤ front.zone.reported.blocks }
+    requires some { 0 < front.blocks }
     ensures ok { IfOk result (λ to. (to < length zones.now) × (to ≢ front.zone.number)) }
+    ensures err { IfErr result (RepairFails (D.drive device.old) (D.drive device.new)) }
     ensures kept { KeepsZones (D.drive device.old) (D.drive device.new) }
 {
     if let Some(to) = copy_of(device, front, zones, &mut Pair::new(alloc))? {
@@ -138,6 +148,11 @@ fn reset_moved<D: Device>(
     requires there { zone < length (D.drive device.old).zones }
     requires ends { IsTrue (D.drive device.old).clean → BatchesEnd (D.drive device.old) zone blocks }
     requires moved { IsTrue (D.drive device.old).clean → IsMoved (D.drive device.old) zone blocks to }
+    ensures there { IsTrue (D.drive device.new).clean
+        → AreIn (D.drive device.old) zone (D.drive device.new) (unwrap_or to zone) }
+    ensures beside { IsTrue (D.drive device.new).clean
+        → KeepsBeside (D.drive device.old) (D.drive device.new) zone }
+    ensures told { IfErr result (IsTold (D.drive device.new)) }
     ensures kept { KeepsDrive (D.drive device.old) (D.drive device.new) }
 {
     let start = device.geometry().start_of(zone);
@@ -160,6 +175,11 @@ fn move_zone<D: Device>(
     requires apart { to ≢ front.zone.number }
     requires ends { IsTrue (D.drive device.old).clean
         → BatchesEnd (D.drive device.old) front.zone.number front.blocks }
+    ensures there { IsTrue (D.drive device.new).clean
+        → OnOk result (AreIn (D.drive device.old) front.zone.number (D.drive device.new) to) }
+    ensures beside { IsTrue (D.drive device.new).clean
+        → KeepsBeside (D.drive device.old) (D.drive device.new) front.zone.number }
+    ensures told { IfErr result (IsTold (D.drive device.new)) }
     ensures kept { KeepsDrive (D.drive device.old) (D.drive device.new) }
 {
     copy_front(alloc, device, front, to, first)?;
@@ -167,47 +187,52 @@ fn move_zone<D: Device>(
     reset_moved(alloc, device, front.zone.number, front.blocks, Some(to))
 }
 
-/// Mends a zone that is Full now: its batches go elsewhere, unless only zeros follow them.
+/// Mends a zone that is Full now: its batches, which take so many blocks, go elsewhere, unless only zeros follow them.
 fn mend_zone<D: Device>(
     alloc: Global,
     device: &mut D,
-    zone: ReadableZone,
+    front: Front,
     zones: &[ReportedZone],
 ) -> Result<MovedZone, RepairFault>
     requires known { AreKnown (D.drive device.old) zones.now }
     requires few { length zones.now ≤ 65536 }
-    requires zone { IsKnown (D.drive device.old) zone.number zone.reported }
-    ensures zone { IfOk result (λ moved. moved.zone ≡ zone.number) }
+    requires zone { IsKnown (D.drive device.old) front.zone.number front.zone.reported }
+    ensures tail { IfOk result (λ moved. tail_of moved ≡ tail_at front.zone.number front.blocks) }
     ensures elsewhere { IfOk result IsElsewhere }
+    ensures there { IsTrue (D.drive device.new).clean
+        → IfOk result (AreWhereTold (D.drive device.old) (D.drive device.new)) }
+    ensures beside { IsTrue (D.drive device.new).clean
+        → KeepsBeside (D.drive device.old) (D.drive device.new) front.zone.number }
+    ensures told { IsTrue (D.drive device.new).clean → IfErr result (IsTold (D.drive device.new)) }
     ensures kept { KeepsDrive (D.drive device.old) (D.drive device.new) }
 {
-    let number = zone.number;
-    let Some(blocks) = batches_end(alloc, device, zone, &mut Vec::new(alloc))? else {
-        return Ok(MovedZone {
-            zone: number,
-            blocks: zone.reported.blocks,
-            into: None,
-        });
+    let zone = front.zone.number;
+    let blocks = front.blocks;
+    let moved = MovedZone {
+        zone,
+        blocks,
+        into: None,
     };
-    if blocks == 0 {
-        reset_moved(alloc, device, number, blocks, None)?;
-        return Ok(MovedZone {
-            zone: number,
-            blocks,
-            into: None,
-        });
-    }
-    if blocks > zone.reported.blocks {
+    let end = batches_end(alloc, device, front.zone, &mut Vec::new(alloc))?;
+    if end.blocks != blocks {
         return Err(RepairFault::Unfinished);
     }
-    let front = Front { zone, blocks };
+    if blocks == 0 {
+        reset_moved(alloc, device, zone, blocks, None)?;
+        return Ok(moved);
+    }
+    if !end.is_foreign {
+        return Ok(moved);
+    }
+    if blocks > front.zone.reported.blocks {
+        return Err(RepairFault::Unfinished);
+    }
     let to = destination(alloc, device, front, zones)?;
     let first = zones[to as usize].blocks.min(blocks);
     move_zone(alloc, device, front, to, first)?;
     Ok(MovedZone {
-        zone: number,
-        blocks,
         into: Some(to),
+        ..moved
     })
 }
 
@@ -215,21 +240,30 @@ fn mend_zone<D: Device>(
 fn repair_tail<D: Device>(
     alloc: Global,
     device: &mut D,
-    number: u32,
+    tail: ForeignTail,
 ) -> Result<MovedZone, RepairFault>
     requires range { IsInRange (D.drive device.old).geometry }
     requires lawful { IsLawful (D.drive device.old) }
-    requires there { number < length (D.drive device.old).zones }
-    ensures zone { IfOk result (λ moved. moved.zone ≡ number) }
+    requires there { tail.zone < length (D.drive device.old).zones }
+    ensures tail { IfOk result (λ moved. tail_of moved ≡ tail) }
     ensures elsewhere { IfOk result IsElsewhere }
+    ensures there { IsTrue (D.drive device.new).clean
+        → IfOk result (AreWhereTold (D.drive device.old) (D.drive device.new)) }
+    ensures beside { IsTrue (D.drive device.new).clean
+        → KeepsBeside (D.drive device.old) (D.drive device.new) tail.zone }
+    ensures told { IsTrue (D.drive device.new).clean → IfErr result (IsTold (D.drive device.new)) }
     ensures kept { KeepsDrive (D.drive device.old) (D.drive device.new) }
 {
-    finish_zone(alloc, device, number)?;
+    finish_zone(alloc, device, tail.zone)?;
     let zones = known_zones(alloc, device)?;
-    let Some(zone) = zone_in(&zones, number) else {
+    let Some(zone) = zone_in(&zones, tail.zone) else {
         return Err(RepairFault::Unfinished);
     };
-    mend_zone(alloc, device, zone, &zones)
+    let front = Front {
+        zone,
+        blocks: tail.blocks,
+    };
+    mend_zone(alloc, device, front, &zones)
 }
 
 /// Refuses a drive that has no room for the batches of a foreign zone. One zone is enough for all: each one that is
@@ -239,6 +273,7 @@ fn check_room<D: Device>(
     device: &mut D,
     tail: ForeignTail,
 ) -> Result<(), RepairFault>
+    ensures err { IfErr result (RepairFails (D.drive device.old) (D.drive device.new)) }
     ensures kept { KeepsZones (D.drive device.old) (D.drive device.new) }
 {
     let zones = known_zones(alloc, device)?;
@@ -267,8 +302,9 @@ fn repair_each<D: Device>(
 ) -> Result<Vec<MovedZone>, RepairFault>
     requires range { IsInRange (D.drive device.old).geometry }
     requires lawful { IsLawful (D.drive device.old) }
-    ensures zones { IfOk result (λ moved. moved_zones moved.items ≡ found_zones tails.now) }
+    ensures tails { IfOk result (λ moved. moved_tails moved.items ≡ tails.now) }
     ensures elsewhere { IfOk result (λ moved. All IsElsewhere moved.items) }
+    ensures told { IsTrue (D.drive device.new).clean → IfErr result (IsTold (D.drive device.new)) }
     ensures kept { KeepsDrive (D.drive device.old) (D.drive device.new) }
 {
     let mut moved = Vec::new(alloc);
@@ -276,7 +312,7 @@ fn repair_each<D: Device>(
         if tail.zone >= device.geometry().zones {
             return Err(RepairFault::Unfinished);
         }
-        let one = repair_tail(alloc, device, tail.zone)?;
+        let one = repair_tail(alloc, device, *tail)?;
         if moved.push(one).is_err() {
             return Err(RepairFault::Halted(Halt::Memory));
         }
@@ -293,8 +329,9 @@ fn repair_all<D: Device>(
     requires range { IsInRange (D.drive device.old).geometry }
     requires lawful { IsLawful (D.drive device.old) }
     ensures ok { IsTrue (D.drive device.new).clean → OnOk result (HaveLogs (D.drive device.new)) }
-    ensures zones { IfOk result (λ moved. moved_zones moved.items ≡ found_zones tails.now) }
+    ensures tails { IfOk result (λ moved. moved_tails moved.items ≡ tails.now) }
     ensures elsewhere { IfOk result (λ moved. All IsElsewhere moved.items) }
+    ensures told { IsTrue (D.drive device.new).clean → IfErr result (IsTold (D.drive device.new)) }
     ensures kept { KeepsDrive (D.drive device.old) (D.drive device.new) }
 {
     let moved = repair_each(alloc, device, tails)?;
@@ -309,7 +346,7 @@ fn repair_all<D: Device>(
 pub fn repair_tails<D: Device>(alloc: Global, device: &mut D) -> Result<Vec<MovedZone>, RepairFault>
     // Done, each zone holds a log.
     ensures ok { IsTrue (D.drive device.new).clean → OnOk result (HaveLogs (D.drive device.new)) }
-    // The answer names just the zones that ended in something foreign, in their order.
+    // The answer names just the zones that held no log, in their order, and how many blocks their batches take.
     ensures found { IsTrue (D.drive device.new).clean
         → IfOk result (λ moved. AreRepaired (D.drive device.old) moved.items) }
     // Where it names none, no zone is changed.
@@ -317,6 +354,9 @@ pub fn repair_tails<D: Device>(alloc: Global, device: &mut D) -> Result<Vec<Move
         → SameContents (D.drive device.old) (D.drive device.new)) }
     // What was moved is in another zone.
     ensures elsewhere { IfOk result (λ moved. All IsElsewhere moved.items) }
+    // A fault has its cause.
+    ensures err { IsTrue (D.drive device.new).clean
+        → IfErr result (RepairFails (D.drive device.old) (D.drive device.new)) }
     // A refusal changes no zone.
     ensures refused { IfErr result (λ fault. may_change fault ≡ false
         → SameContents (D.drive device.old) (D.drive device.new)) }

@@ -1,9 +1,9 @@
-ghost use Rattle.std.specs.Prelude.{◌≡◌, ◌<◌, ◌≤◌, ◌^◌, length, IfOk, IsTrue, OnOk};
+ghost use Rattle.std.specs.Prelude.{◌≡◌, ◌<◌, ◌≤◌, ◌^◌, length, IfErr, IfNone, IfOk, IfSome, IsTrue, OnOk, Some};
 ghost use Rattle.drive_port.specs.Contents.{is_usable, usage_of};
 ghost use Rattle.drive_survey.specs.Reported.{IsKnown, KeepsZones};
 ghost use Rattle.drive_survey.specs.Scan.{AreKnown};
-ghost use Rattle.drive_survey.specs.Survey.{AreReportedUsable};
-ghost use Rattle.tail_repair.specs.Repair.{AreTails, HeadersEnd, LogEnds, NotesTail, TailIs};
+ghost use Rattle.drive_survey.specs.Survey.{AreReportedUsable, IsLowestReported};
+ghost use Rattle.tail_repair.specs.Repair.{AreTails, EndsAt, FindFails, HeadersEnd, LogEnds, NotesTail, TailIs, foreign_end};
 ghost use Rattle.zone_states.specs.Geometry.{IsInRange};
 
 use crate::fault::RepairFault;
@@ -32,17 +32,18 @@ fn is_usable(zone: ReportedZone) -> bool
     }
 }
 
-/// Refuses zones of which one is Read Only or Offline, by the lowest such.
-fn all_usable(zones: &[ReportedZone]) -> Result<(), RepairFault>
+/// The lowest zone that is Read Only or Offline.
+fn lowest_unusable(zones: &[ReportedZone]) -> Option<u32>
     requires { length zones.now < 2 ^ 32 }
-    ensures { OnOk result (AreReportedUsable zones.now) }
+    ensures some { IfSome result (IsLowestReported zones.now) }
+    ensures none { IfNone result (AreReportedUsable zones.now) }
 {
     for (number, zone) in zones.iter().enumerate() {
         if !is_usable(*zone) {
-            return Err(RepairFault::Unusable(number as u32));
+            return Some(number as u32);
         }
     }
-    Ok(())
+    None
 }
 
 /// A report of all zones, none of which is Read Only or Offline.
@@ -52,35 +53,65 @@ pub(crate) fn known_zones<D: Device>(
 ) -> Result<Vec<ReportedZone>, RepairFault>
     ensures ok { IfOk result (λ zones. AreKnown (D.drive device.new) zones.items) }
     ensures few { IfOk result (λ zones. length zones.items ≤ 65536) }
+    ensures err { IfErr result (FindFails (D.drive device.old) (D.drive device.new)) }
     ensures kept { KeepsZones (D.drive device.old) (D.drive device.new) }
 {
     let Ok(()) = device.geometry().check() else {
         return Err(RepairFault::Limits);
     };
     let zones = report_zones(alloc, device)?;
-    all_usable(&zones)?;
+    if let Some(zone) = lowest_unusable(&zones) {
+        return Err(RepairFault::Unusable(zone));
+    }
     Ok(zones)
 }
 
-/// After how many blocks the batches of a zone end, if something foreign follows.
+/// Where the batches of a zone end.
+#[derive(Clone, Copy)]
+pub(crate) struct BatchEnd {
+    /// How many blocks they take.
+    pub(crate) blocks: u32,
+    /// Whether something foreign follows. Else the zone holds a log.
+    pub(crate) is_foreign: bool,
+}
+
+/// Where the batches of a zone end whose scan failed.
+fn foreign_end(zone: u32, fault: MountFault) -> Result<BatchEnd, RepairFault>
+    ensures { result ≡ foreign_end zone fault }
+{
+    match fault {
+        MountFault::Log(_, blocks, _) => Ok(BatchEnd {
+            blocks,
+            is_foreign: true,
+        }),
+        MountFault::SequenceRepeated | MountFault::Spent => Err(RepairFault::Unsound(zone)),
+        MountFault::OutOfMemory => Err(RepairFault::Halted(Halt::Memory)),
+        MountFault::Halted => Err(RepairFault::Halted(Halt::Stopped)),
+        _ => Err(RepairFault::Unfinished),
+    }
+}
+
+/// Where the batches of a zone end, and whether something foreign follows.
 pub(crate) fn batches_end<D: Device>(
     alloc: Global,
     device: &mut D,
     zone: ReadableZone,
     block: &mut Vec<u8>,
-) -> Result<Option<u32>, RepairFault>
+) -> Result<BatchEnd, RepairFault>
     requires zone { IsKnown (D.drive device.old) zone.number zone.reported }
-    ensures ok { IsTrue (D.drive device.new).clean → IfOk result (LogEnds (D.drive device.old) zone.number) }
+    ensures ok { IsTrue (D.drive device.new).clean
+        → IfOk result (λ end. EndsAt (D.drive device.old) zone.number end.blocks end.is_foreign) }
+    ensures err { IsTrue (D.drive device.new).clean
+        → IfErr result (FindFails (D.drive device.old) (D.drive device.new)) }
     ensures kept { KeepsZones (D.drive device.old) (D.drive device.new) }
 {
     let mut seen = BTreeSet::new(alloc);
     match scan_zone(alloc, device, zone, &mut seen, block) {
-        Ok(_) => Ok(None),
-        Err(MountFault::Log(_, offset, _)) => Ok(Some(offset)),
-        Err(MountFault::SequenceRepeated | MountFault::Spent) => {
-            Err(RepairFault::Unsound(zone.number))
-        }
-        Err(fault) => Err(fault.into()),
+        Ok(scanned) => Ok(BatchEnd {
+            blocks: scanned.heads.blocks(),
+            is_foreign: false,
+        }),
+        Err(fault) => foreign_end(zone.number, fault),
     }
 }
 
@@ -92,8 +123,12 @@ fn refuse_headers<D: Device>(
     block: &mut Vec<u8>,
 ) -> Result<(), RepairFault>
     requires zone { IsKnown (D.drive device.old) zone.number zone.reported }
+    requires ends { IsTrue (D.drive device.old).clean
+        → LogEnds (D.drive device.old) zone.number (Some blocks) }
     ensures ok { IsTrue (D.drive device.new).clean
         → OnOk result (HeadersEnd (D.drive device.old) zone.number blocks) }
+    ensures err { IsTrue (D.drive device.new).clean
+        → IfErr result (FindFails (D.drive device.old) (D.drive device.new)) }
     ensures kept { KeepsZones (D.drive device.old) (D.drive device.new) }
 {
     for offset in blocks.saturating_add(1)..zone.reported.blocks {
@@ -114,13 +149,16 @@ fn find_tail<D: Device>(
 ) -> Result<Option<u32>, RepairFault>
     requires zone { IsKnown (D.drive device.old) zone.number zone.reported }
     ensures ok { IsTrue (D.drive device.new).clean → IfOk result (TailIs (D.drive device.old) zone.number) }
+    ensures err { IsTrue (D.drive device.new).clean
+        → IfErr result (FindFails (D.drive device.old) (D.drive device.new)) }
     ensures kept { KeepsZones (D.drive device.old) (D.drive device.new) }
 {
-    let Some(blocks) = batches_end(alloc, device, zone, block)? else {
+    let end = batches_end(alloc, device, zone, block)?;
+    if !end.is_foreign {
         return Ok(None);
-    };
-    refuse_headers(device, zone, blocks, block)?;
-    Ok(Some(blocks))
+    }
+    refuse_headers(device, zone, end.blocks, block)?;
+    Ok(Some(end.blocks))
 }
 
 /// Looks at one zone, and notes it if its batches are followed by something foreign.
@@ -134,6 +172,8 @@ fn note_tail<D: Device>(
     requires zone { IsKnown (D.drive device.old) zone.number zone.reported }
     ensures ok { IsTrue (D.drive device.new).clean → OnOk result (NotesTail (D.drive device.old) zone.number
         tails.old.items tails.new.items) }
+    ensures err { IsTrue (D.drive device.new).clean
+        → IfErr result (FindFails (D.drive device.old) (D.drive device.new)) }
     ensures kept { KeepsZones (D.drive device.old) (D.drive device.new) }
 {
     if let Some(blocks) = find_tail(alloc, device, zone, block)? {
@@ -158,6 +198,8 @@ fn note_tails<D: Device>(
     requires few { length zones.now ≤ 65536 }
     ensures ok { IsTrue (D.drive device.new).clean
         → IfOk result (λ tails. AreTails (D.drive device.old) tails.items) }
+    ensures err { IsTrue (D.drive device.new).clean
+        → IfErr result (FindFails (D.drive device.old) (D.drive device.new)) }
     ensures kept { KeepsZones (D.drive device.old) (D.drive device.new) }
 {
     let mut block = Vec::new(alloc);
@@ -176,8 +218,12 @@ fn note_tails<D: Device>(
 /// the header of each batch, and the foreign blocks.
 pub fn find_tails<D: Device>(alloc: Global, device: &mut D) -> Result<Vec<ForeignTail>, RepairFault>
     ensures range { OnOk result (IsInRange (D.drive device.new).geometry) }
+    // Done, these are just the zones that hold no log, in their order.
     ensures ok { IsTrue (D.drive device.new).clean
         → IfOk result (λ tails. AreTails (D.drive device.old) tails.items) }
+    // A fault has its cause.
+    ensures err { IsTrue (D.drive device.new).clean
+        → IfErr result (FindFails (D.drive device.old) (D.drive device.new)) }
     ensures kept { KeepsZones (D.drive device.old) (D.drive device.new) }
 {
     let zones = known_zones(alloc, device)?;

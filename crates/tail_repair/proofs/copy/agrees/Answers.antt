@@ -3,6 +3,7 @@ use Rattle.std.proofs.lemmas.Bool.Decides.{Decides-eqb}
 use Rattle.std.proofs.lemmas.Slice.Eq.{slice_eq-Decides}
 use Rattle.drive_survey.proofs.ReadLaws.{keeps-both, kept-known}
 use Rattle.drive_survey.specs.Scan.{block_of}
+use Rattle.tail_repair.proofs.CauseLaws.{if-fault, look-halts}
 use Rattle.tail_repair.proofs.TailLaws.{block-kept}
 use Rattle.tail_repair.proofs.copy.agrees.Goals as goal
 
@@ -25,3 +26,9 @@ returns-clause-ok g c clean agree =
 
 pub returns-clause-kept : goal.returns-clause-kept
 returns-clause-kept g c = keeps-both _ _ _ c.read_block.ensures.kept c.read_block-2.ensures.kept
+
+pub returns-in_err-read_block-clause-err : goal.returns-in_err-read_block-clause-err
+returns-in_err-read_block-clause-err g c = if-fault c.from_residual.result _ _ c.from_residual.ensures.1 (look-halts (g.D.Device.drive c.read_block.new.device) _ c.in_err-read_block.ensures.err)
+
+pub returns-in_err-read_block-2-clause-err : goal.returns-in_err-read_block-2-clause-err
+returns-in_err-read_block-2-clause-err g c = if-fault c.from_residual-in_err-read_block-2.result _ _ c.from_residual-in_err-read_block-2.ensures.1 (look-halts (g.D.Device.drive c.read_block-2.new.device) _ c.in_err-read_block-2.ensures.err)

@@ -1,4 +1,5 @@
 use Rattle.drive_survey.proofs.ReadLaws.{keeps-both}
+use Rattle.tail_repair.proofs.CauseLaws.{find-told, if-fault, look-told}
 use Rattle.tail_repair.proofs.TailLaws.{copy-found, known-in}
 use Rattle.tail_repair.proofs.copy.compare.Goals as goal
 
@@ -22,3 +23,9 @@ returns-clause-ok g c clean =
 
 pub returns-clause-kept : goal.returns-clause-kept
 returns-clause-kept g c = keeps-both _ _ _ c.known_zones.ensures.kept c.is_copy.ensures.kept
+
+pub returns-in_err-zones-clause-told : goal.returns-in_err-zones-clause-told
+returns-in_err-zones-clause-told g c = if-fault c.from_residual.result c.in_err-zones.field-0.0 _ c.from_residual.ensures.1 (find-told (g.D.Device.drive c.args.device.now) (g.D.Device.drive c.known_zones.new.device) c.in_err-zones.field-0.0 c.in_err-zones.ensures.err)
+
+pub returns-in_err-is_copy-clause-told : goal.returns-in_err-is_copy-clause-told
+returns-in_err-is_copy-clause-told g c = if-fault c.from_residual-in_err-is_copy.result c.in_err-is_copy.field-0.0 _ c.from_residual-in_err-is_copy.ensures.1 (look-told (g.D.Device.drive c.is_copy.new.device) c.in_err-is_copy.field-0.0 c.in_err-is_copy.ensures.err)

@@ -1,5 +1,6 @@
 use Rattle.std.proofs.Common.{◌≡◌, [], arith, sym}
 use Rattle.std.proofs.lemmas.Bool.{eqb-true}
+use Rattle.tail_repair.proofs.CauseLaws.{find-told, if-fault}
 use Rattle.tail_repair.proofs.KeepLaws.{drive-then}
 use Rattle.tail_repair.proofs.TailLaws.{logs-kept, look-keeps, no-items, no-tails}
 use Rattle.tail_repair.proofs.repair.repair_all.Goals as goal
@@ -17,3 +18,7 @@ returns-clause-ok g c clean =
 
 pub returns-clause-kept : goal.returns-clause-kept
 returns-clause-kept g c = drive-then _ _ _ c.repair_each.ensures.kept (look-keeps _ _ c.find_tails.ensures.kept)
+
+pub returns-in_err-find_tails-clause-told : goal.returns-in_err-find_tails-clause-told
+returns-in_err-find_tails-clause-told g c clean =
+    if-fault c.from_residual-in_err-find_tails.result c.in_err-find_tails.field-0.0 _ c.from_residual-in_err-find_tails.ensures.1 (find-told (g.D.Device.drive c.repair_each.new.device) (g.D.Device.drive c.find_tails.new.device) c.in_err-find_tails.field-0.0 (c.in_err-find_tails.ensures.err clean))

@@ -15,9 +15,9 @@ loop-tail-preserved g c =
     let before = c.loop-tail.moved.items in
     let pushed : c.push.new.self.items ≡ before ++ one ∷ [] = rw c.if-is_err.ensures.negation at c.push.ensures.items in (
       drive-then _ _ _ c.loop-tail.invariant.0 c.repair_tail.ensures.kept,
-      rw pushed (moved-more before one c.args.tails.now c.loop-tail.tail-index _ c.loop-tail-test.true c.in_ok-one.ensures.zone c.loop-tail.invariant.1),
+      rw pushed (moved-more before one c.args.tails.now c.loop-tail.tail-index _ c.loop-tail-test.true c.in_ok-one.ensures.tail c.loop-tail.invariant.1),
       rw pushed (elsewhere-more before one c.loop-tail.invariant.2 c.in_ok-one.ensures.elsewhere),
     )
 
-pub returns-clause-zones : goal.returns-clause-zones
-returns-clause-zones g c = moved-all c.loop-tail.moved.items c.args.tails.now c.loop-tail.tail-index c.loop-tail-test.false c.loop-tail.invariant.1
+pub returns-clause-tails : goal.returns-clause-tails
+returns-clause-tails g c = moved-all c.loop-tail.moved.items c.args.tails.now c.loop-tail.tail-index c.loop-tail-test.false c.loop-tail.invariant.1

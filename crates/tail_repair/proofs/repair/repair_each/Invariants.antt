@@ -1,10 +1,10 @@
 use Rattle.std.proofs.Common.{◌≡◌, ◌++◌, drop}
 use Rattle.std.specs.List.{All}
-use Rattle.tail_repair.specs.Repair.{IsElsewhere, KeepsDrive, found_zones, moved_zones}
+use Rattle.tail_repair.specs.Repair.{IsElsewhere, KeepsDrive, moved_tails}
 use Rattle.tail_repair.proofs.repair.repair_each.Given as goal
 
 abbrev pub invariant-loop-tail : goal.invariant-loop-tail
 invariant-loop-tail g l =
     KeepsDrive (g.D.Device.drive l.fn.device) (g.D.Device.drive l.device)
-    × (moved_zones l.moved.items ++ found_zones (drop l.tail-index l.tails) ≡ found_zones l.tails)
+    × (moved_tails l.moved.items ++ drop l.tail-index l.tails ≡ l.tails)
     × All IsElsewhere l.moved.items

@@ -1,6 +1,8 @@
-use Rattle.std.proofs.Common.{◌≡◌, true, false, eqb, [], arith, refl, sym}
+use Rattle.std.proofs.Common.{◌≡◌, true, false, eqb, [], arith, subst, sym}
 use Rattle.std.proofs.lemmas.Bool.{eqb-true}
 use Rattle.drive_survey.proofs.ReadLaws.{keeps-both}
+use Rattle.tail_repair.specs.Repair.{AreTails}
+use Rattle.tail_repair.proofs.CauseLaws.{find-repair, if-fault, late-repair, repair-before}
 use Rattle.tail_repair.proofs.KeepLaws.{drive-then}
 use Rattle.tail_repair.proofs.MovedLaws.{none-found}
 use Rattle.tail_repair.proofs.TailLaws.{logs-kept, look-keeps, no-items, no-tails, refused-same, same-contents}
@@ -20,7 +22,7 @@ returns-then-is_empty-clause-ok g c clean =
 pub returns-then-is_empty-clause-found : goal.returns-then-is_empty-clause-found
 returns-then-is_empty-clause-found g c clean =
     let none : c.in_ok-tails.tails.items ≡ [] = no-items c.in_ok-tails.tails.items (omega (arith, c.in_ok-tails.tails.ok, eqb-true c.in_ok-tails.tails.len 0 (sym c.if-is_empty.ensures))) in
-    record { tails = c.in_ok-tails.tails.items; found = c.in_ok-tails.ensures.ok clean; zones = rw (c.new.ensures.items, none) refl }
+    rw c.new.ensures.items (subst (AreTails (g.D.Device.drive c.args.device.now)) none (c.in_ok-tails.ensures.ok clean))
 
 pub returns-then-is_empty-clause-idle : goal.returns-then-is_empty-clause-idle
 returns-then-is_empty-clause-idle g c none = same-contents _ _ c.find_tails.ensures.kept
@@ -40,11 +42,11 @@ repair_all-requires-clause-range g c = rw c.check_room.ensures.kept.geometry c.i
 pub returns-in-Ok-clause-found : goal.returns-in-Ok-clause-found
 returns-in-Ok-clause-found g c clean =
     let before = c.check_room.ensures.kept.trusted (c.repair_all.ensures.kept.trusted clean) in
-    record { tails = c.in_ok-tails.tails.items; found = c.in_ok-tails.ensures.ok before; zones = rw c.deref.ensures.value at c.in-Ok.ensures.zones }
+    subst (AreTails (g.D.Device.drive c.args.device.now)) (sym (rw c.deref.ensures.value at c.in-Ok.ensures.tails)) (c.in_ok-tails.ensures.ok before)
 
 pub returns-in-Ok-clause-idle : goal.returns-in-Ok-clause-idle
 returns-in-Ok-clause-idle g c none =
-    let empty = none-found c.in-Ok.moved.items c.in_ok-tails.tails.items (rw c.deref.ensures.value at c.in-Ok.ensures.zones) none in
+    let empty = none-found c.in-Ok.moved.items c.in_ok-tails.tails.items (rw c.deref.ensures.value at c.in-Ok.ensures.tails) none in
     let len : c.in_ok-tails.tails.len ≡ 0 = omega (arith, empty, c.in_ok-tails.tails.ok) in
     let not : false ≡ eqb c.in_ok-tails.tails.len 0 = c.if-is_empty.ensures in
     let bad : false ≡ true = rw len at not in
@@ -55,3 +57,14 @@ returns-in-Ok-clause-kept g c = drive-then _ _ _ (look-keeps _ _ (keeps-both _ _
 
 pub returns-clause-kept : goal.returns-clause-kept
 returns-clause-kept g c = drive-then _ _ _ (look-keeps _ _ (keeps-both _ _ _ c.find_tails.ensures.kept c.check_room.ensures.kept)) c.repair_all.ensures.kept
+
+pub returns-in_err-tails-clause-err : goal.returns-in_err-tails-clause-err
+returns-in_err-tails-clause-err g c clean = if-fault c.from_residual.result c.in_err-tails.field-0.0 _ c.from_residual.ensures.1 (find-repair (g.D.Device.drive c.args.device.now) (g.D.Device.drive c.find_tails.new.device) c.in_err-tails.field-0.0 (c.in_err-tails.ensures.err clean))
+
+pub returns-in_err-check_room-clause-err : goal.returns-in_err-check_room-clause-err
+returns-in_err-check_room-clause-err g c clean =
+    if-fault c.from_residual-in_err-check_room.result c.in_err-check_room.field-0.0 _ c.from_residual-in_err-check_room.ensures.1 (repair-before (g.D.Device.drive c.args.device.now) (g.D.Device.drive c.find_tails.new.device) (g.D.Device.drive c.check_room.new.device) c.in_err-check_room.field-0.0 c.find_tails.ensures.kept c.in_err-check_room.ensures.err)
+
+pub returns-clause-err : goal.returns-clause-err
+returns-clause-err g c clean =
+    late-repair (g.D.Device.drive c.args.device.now) (g.D.Device.drive c.repair_all.new.device) _ c.unfinished.ensures.late (c.unfinished.ensures.told (g.D.Device.drive c.repair_all.new.device) (c.in-Err.ensures.told clean))

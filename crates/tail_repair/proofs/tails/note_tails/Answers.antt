@@ -2,6 +2,7 @@ use Rattle.std.proofs.Common.{arith}
 use Rattle.drive_survey.proofs.AllScanLaws.{all-known, there-is}
 use Rattle.drive_survey.proofs.ReadLaws.{keeps-both, keeps-none}
 use Rattle.tail_repair.specs.Repair.{at_first}
+use Rattle.tail_repair.proofs.CauseLaws.{find-before, if-fault}
 use Rattle.tail_repair.proofs.TailLaws.{all-noted, note-more, notes-kept}
 use Rattle.tail_repair.proofs.tails.note_tails.Goals as goal
 
@@ -25,3 +26,7 @@ returns-clause-ok g c clean = all-noted _ c.loop-number.number _ (omega (arith, 
 
 pub returns-clause-kept : goal.returns-clause-kept
 returns-clause-kept g c = c.loop-number.invariant.0
+
+pub returns-in_err-note_tail-clause-err : goal.returns-in_err-note_tail-clause-err
+returns-in_err-note_tail-clause-err g c clean =
+    if-fault c.from_residual.result c.in_err-note_tail.field-0.0 _ c.from_residual.ensures.1 (find-before (g.D.Device.drive c.args.device.now) (g.D.Device.drive c.loop-number.device) (g.D.Device.drive c.note_tail.new.device) c.in_err-note_tail.field-0.0 c.loop-number.invariant.0 (c.in_err-note_tail.ensures.err clean))
