@@ -1,6 +1,7 @@
 # Files of a drive that fails. File N has lines of N, a dot and a number.
-text() { seq 1 2000 | sed "s/^/$1./"; }
-write() { text $1 > /tmp/files/$1 && sync /tmp/files/$1 && echo $1 >> /share/synced; }
+mkdir -p /tmp/texts
+for number in $(seq 1 100); do seq 1 2000 | sed "s/^/$number./" > /tmp/texts/$number; done
+write() { cp /tmp/texts/$1 /tmp/files/$1 && sync /tmp/files/$1 && echo $1 >> /share/synced; }
 
 # Files on a new file system of a new drive.
 begin() {
@@ -29,7 +30,7 @@ read_all() {
 
 # Writes the whole blocks of a file where they are.
 write_over() {
-    text $1 > /tmp/text && dd if=/tmp/text of=/tmp/files/$1 bs=4096 count=3 conv=notrunc,fsync
+    dd if=/tmp/texts/$1 of=/tmp/files/$1 bs=4096 count=3 conv=notrunc,fsync
 }
 
 # Ends a session.
@@ -51,7 +52,7 @@ look_for_files() {
     [ -z "$MENDS" ] || e2fsck -fy $node > /share/mended 2>&1
     mount -t ext4 -o ro $node /tmp/files || return
     for number in $(cat /share/synced); do
-        text $number | cmp -s - /tmp/files/$number || echo $number >> /share/gone
+        cmp -s /tmp/texts/$number /tmp/files/$number || echo $number >> /share/gone
     done
     umount /tmp/files
     e2fsck -fn $node > /share/fsck 2>&1

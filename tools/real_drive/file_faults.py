@@ -19,6 +19,7 @@ RESCUE = """rm -f /tmp/new /tmp/lists
 zonedisk rescue --device /dev/ng0n1 --to /tmp/new --json /tmp/lists 2> /share/said; echo $? > /share/rescued
 cp /tmp/lists /share/lists"""
 RESCUED = "--image /tmp/new"
+UNWORN = "unset WORN; rm -f /tmp/worn"
 MOUNTABLE = ["the drive can be mounted", "status 0"]
 # A line of a file, and what no block is that has one.
 LINE, NO_FILE = re.compile(rb"\n(\d+)\.\d+\n"), ""
@@ -62,8 +63,8 @@ class Files:
         """Ends the session. If a command failed, the server has to say which, and that its drive stopped."""
         self.guest.ask("abandon")
         status, said = read_file(self.guest.share, "ended_by").strip(), read_file(self.guest.share, "served")
-        told = re.search(rf"the drive answered {command} .*", said)
-        is_right = status == "1" and told and "stopped" in said if command else (status, said) == ("0", "")
+        is_told = "stopped" in said and re.search(rf"the drive answered {command}", said)
+        is_right = status == "1" and is_told if command else status == "0" and "stopped" not in said
         look(is_right, f"{self.name}: the server ended by {status}: {said}")
 
     def is_refused(self, why):
@@ -221,10 +222,8 @@ def wear(files, kind, state):
     size, at = files.guest.shape.size, files.chance.randrange(1, 10) if kind == "partly written" else 0
     zone = start // size
     files.guest.ask(f"export WORN='{start} {size} {state} {at}'")
-    if at:
-        files.serve_again()
-        look(files.write_more(), f"{files.name}: all files could be written")
-        files.end("an Append ")
+    if at and not wear_while_written(files):
+        return
     files.is_refused(f"zone {zone} is {NAMES[state]}")
     count(f"zones under ext4 that are {NAMES[state]}")
     files.check(f"refused: zone {zone} is ")
@@ -232,8 +231,19 @@ def wear(files, kind, state):
     wanted, places, (lost, older) = files.blocks(), newest(files.batches()), files.rescue()
     hidden = {block for block, place in places.items() if state == OFFLINE and place // size == zone}
     look(not lost and older >= hidden, f"{files.name}: lost are {lost}, and older {older}")
-    files.guest.ask("unset WORN; rm -f /tmp/worn")
+    files.guest.ask(UNWORN)
     files.judge(wanted, hidden)
+
+
+def wear_while_written(files):
+    """Writes files until the zone wears out. Whether it did."""
+    files.serve_again()
+    is_worn = files.write_more()
+    files.end("an Append " if is_worn else None)
+    if not is_worn:
+        count("zones under ext4 that were not written again")
+        files.guest.ask(UNWORN)
+    return is_worn
 
 
 WORN = [(kind, state) for state in (READ_ONLY, OFFLINE) for kind in ZONES]
