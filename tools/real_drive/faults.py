@@ -29,7 +29,7 @@ def a_zone(disk, *states):
 
 
 def fail_write(disk, name):
-    """A write fails once: the run stops, and what it had answered is there."""
+    """A write fails once: the run stops, and what it had answered is there. Whether a write came to the place."""
     disk.begin()
     _, pointer = a_zone(disk, OPENED, CLOSED)
     disk.guest.fail("write", pointer + disk.chance.randrange(10))
@@ -37,7 +37,7 @@ def fail_write(disk, name):
     disk.guest.mend()
     if ended == (0, "ok"):
         count("writes that did not come to the place")
-        return
+        return False
     count("failed writes")
     look(ended == (1, STOPPED), f"{name}: the run ended by {ended}")
     saved = Saved(disk.guest, name, disk.chance.choice(KINDS))
@@ -53,6 +53,7 @@ def fail_write(disk, name):
         look(saved.is_refused("zone "), f"{name}: check says {saved.check}")
         look(saved.reply.startswith("fault mount 4 Log "), f"{name}: the mount says {saved.reply}")
         repair(disk, name, MOUNTABLE)
+    return True
 
 
 def fail_data(disk, name, once):
@@ -189,10 +190,11 @@ def look_at_all(disk, name):
 
 
 def try_places(disk, places):
-    """Writes that fail, and then data and headers that cannot be read, each at so many places."""
+    """Writes that fail, and then data and headers that cannot be read, each at so many places. If no write comes to a
+    place, another one is taken."""
     shape = disk.shape
     for turn in range(places):
-        fail_write(disk, f"{shape}: write {turn}")
+        any(fail_write(disk, f"{shape}: write {turn}") for _ in range(9))
     disk.begin()
     for turn in range(places):
         fail_data(disk, f"{shape}: data {turn}", once=turn % 6 == 5)

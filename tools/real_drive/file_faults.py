@@ -21,6 +21,8 @@ cp /tmp/lists /share/lists"""
 RESCUED = "--image /tmp/new"
 UNWORN = "unset WORN; rm -f /tmp/worn"
 MOUNTABLE = ["the drive can be mounted", "status 0"]
+# How many places are taken until a fault comes to one.
+MOST = 9
 # A line of a file, and what no block is that has one.
 LINE, NO_FILE = re.compile(rb"\n(\d+)\.\d+\n"), ""
 
@@ -48,7 +50,7 @@ class Files:
     def begin(self):
         """Synced files on a new file system of a new drive."""
         status, said = self.guest.ask("begin")
-        look(status == 0, f"{self.name}: no files are written: {said}")
+        return look(status == 0, f"{self.name}: no files are written: {said}")
 
     def serve_again(self):
         """Serves the disk of the drive once more."""
@@ -135,13 +137,16 @@ def file_of(data):
 
 
 def fail_write(files):
-    """A write fails once, while files are written. Then the disk is rescued, and the drive is repaired."""
+    """A write fails once, while files are written. Then the disk is rescued, and the drive is repaired. Whether a write
+    came to the place."""
     shape, at = files.guest.shape, end_of_newest(files.batches()) + files.chance.randrange(100)
     files.guest.fail("write", min(at, at // shape.size * shape.size + shape.capacity - 1))
     failed = files.write_more()
     files.end("an Append .*Write Fault" if failed else None)
     files.guest.mend()
     count("failed writes under ext4" if failed else "writes under ext4 that did not come to the place")
+    if not failed:
+        return False
     files.check("refused: zone ", MOUNTABLE[0])
     wanted, (lost, _) = files.blocks(), files.rescue()
     look(not lost, f"{files.name}: blocks {lost} are lost")
@@ -153,6 +158,7 @@ def fail_write(files):
     count("drives under ext4 with nothing to repair" if has_nothing else "repaired drives under ext4")
     files.look_at_blocks(wanted, DEVICE)
     files.look_for_files(drive=DEVICE)
+    return True
 
 
 def fail_data(files):
@@ -175,6 +181,7 @@ def fail_data(files):
     files.look_for_files(drive=DEVICE)
     count("unreadable data blocks under ext4 that were written anew")
     files.guest.mend()
+    return True
 
 
 def fail_header(files):
@@ -198,6 +205,7 @@ def fail_header(files):
     count("unreadable headers under ext4")
     look(not lost and older >= hidden_by[batch], f"{files.name}: lost are {lost}, and older {older}")
     files.judge(wanted, hidden_by[batch])
+    return True
 
 
 def fail_flush(files):
@@ -212,10 +220,11 @@ def fail_flush(files):
     look(found == (set(), set()), f"{files.name}: lost and older are {found}")
     files.judge(wanted, set())
     files.look_for_files(drive=DEVICE)
+    return True
 
 
 def wear(files, kind, state):
-    """A zone wears out: it is partly written and refuses an Append, or it is full or empty."""
+    """A zone wears out: it is partly written and refuses an Append, or it is full or empty. Whether that came."""
     files.end()
     files.guest.ask(f"{SEE_ZONES} > /share/report")
     start, _ = files.chance.choice(zones_that_are(files.guest, *ZONES[kind]))
@@ -223,8 +232,8 @@ def wear(files, kind, state):
     zone = start // size
     files.guest.ask(f"export WORN='{start} {size} {state} {at}'")
     if at and not wear_while_written(files):
-        return
-    files.is_refused(f"zone {zone} is {NAMES[state]}")
+        return False
+    files.is_refused(f"zone {zone} is Read Only or Offline")
     count(f"zones under ext4 that are {NAMES[state]}")
     files.check(f"refused: zone {zone} is ")
     refuse_repair(files, files.name, f"fault repair 2 Unusable {zone}")
@@ -233,6 +242,7 @@ def wear(files, kind, state):
     look(not lost and older >= hidden, f"{files.name}: lost are {lost}, and older {older}")
     files.guest.ask(UNWORN)
     files.judge(wanted, hidden)
+    return True
 
 
 def wear_while_written(files):
@@ -257,7 +267,8 @@ def faults_of(turn):
 
 
 def some_turns(machine, library, turns):
-    """Some turns in a guest. Each fault is one of a new drive with a new file system."""
+    """Some turns in a guest. Each fault is one of a new drive with a new file system. If it does not come to its place,
+    another one is taken."""
     scripts = [script_of(name) for name in ("asked.sh", "serving.sh", "faulty.sh")]
     options = [*modules_of(["nbd", "ext4"]), *files_of([*install(PROGRAMS), *scripts, library])]
     with AskedGuest(machine, OF_FILE_FAULTS, options, seconds=300 + 1800 * len(turns)) as guest:
@@ -266,8 +277,7 @@ def some_turns(machine, library, turns):
             for fault, *words in faults_of(turn):
                 name = " ".join(["ext4, turn", str(turn), fault.__name__, *map(str, words)])
                 files = Files(guest, random.Random(f"{machine.seed} {name}"), name)
-                files.begin()
-                fault(files, *words)
+                any(files.begin() and fault(files, *words) for _ in range(MOST))
 
 
 def try_files(machine, number):
