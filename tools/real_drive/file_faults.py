@@ -76,9 +76,9 @@ class Files:
         look(status == "1" and why in said, f"{self.name}: a start ended by {status}: {said}")
 
     def check(self, *wanted):
-        """Looks whether `check` says one of these first."""
+        """Looks whether `check` says one of these."""
         _, said = self.guest.ask(f"zonedisk check {DEVICE} 2>&1")
-        look(said.startswith(wanted), f"{self.name}: check says {said}")
+        look(any(words in said for words in wanted), f"{self.name}: check says {said}")
 
     def rescue(self):
         """Rescues the disk to a new drive: the lost blocks, and those that may be older."""
@@ -198,7 +198,7 @@ def fail_header(files):
     batch = files.chance.choice(files.chance.choice([batches, with_files]))
     files.guest.fail("read", batch.header, once=False)
     files.is_refused("Unrecovered Read Error")
-    files.check("")
+    files.check("has stopped")
     refuse_repair(files, files.name, "fault repair 6 Halted")
     lost, older = files.rescue()
     files.guest.mend()
@@ -267,8 +267,8 @@ def faults_of(turn):
 
 
 def some_turns(machine, library, turns):
-    """Some turns in a guest. Each fault is one of a new drive with a new file system. If it does not come to its place,
-    another one is taken."""
+    """Some turns in a guest. Each fault is one of a new drive with a new file system. It says whether it came to its
+    place: if not, another one is taken."""
     scripts = [script_of(name) for name in ("asked.sh", "serving.sh", "faulty.sh")]
     options = [*modules_of(["nbd", "ext4"]), *files_of([*install(PROGRAMS), *scripts, library])]
     with AskedGuest(machine, OF_FILE_FAULTS, options, seconds=300 + 1800 * len(turns)) as guest:
