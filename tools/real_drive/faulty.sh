@@ -41,6 +41,14 @@ abandon() {
     echo $? > /share/ended_by
 }
 
+# Ends a session by a kill. Requests that have no answer fail once the client is gone, and not before.
+kill_session() {
+    kill -9 $server
+    nbd-client -d $node > /dev/null
+    umount -l /tmp/files
+    wait $server
+}
+
 # A start on a drive that is refused.
 start_refused() {
     zonedisk nbd --device /dev/ng0n1 --blocks $BLOCKS < /dev/null > /dev/null 2> /share/served

@@ -12,7 +12,7 @@ from mended import Repaired, refuse_repair
 from places import batches_of, end_of_newest, newest
 from saved import DEVICE, listed
 from shapes import OF_FILE_FAULTS
-from worn import NAMES, OFFLINE, READ_ONLY, ZONES, make_library
+from worn import NAMES, OFFLINE, ZONES, make_library
 from written import SEE_ZONES, zones_that_are
 
 RESCUE = """rm -f /tmp/new /tmp/lists
@@ -21,6 +21,8 @@ cp /tmp/lists /share/lists"""
 RESCUED = "--image /tmp/new"
 UNWORN = "unset WORN; rm -f /tmp/worn"
 MOUNTABLE = ["the drive can be mounted", "status 0"]
+# The kinds of worn zones.
+WORN = [(kind, state) for state in NAMES for kind in ZONES]
 # How many places are taken until a fault comes to one.
 MOST = 9
 # A line of a file, and what no block is that has one.
@@ -187,7 +189,7 @@ def fail_data(files):
 def fail_header(files):
     """A header cannot be read, every second time of a batch with a file. Half of the sessions were killed before."""
     if files.chance.random() < 0.5:
-        files.guest.ask("kill -9 $server; abandon")
+        files.guest.ask("kill_session")
     else:
         files.end()
     wanted, batches = files.blocks(), files.batches()
@@ -254,9 +256,6 @@ def wear_while_written(files):
         count("zones under ext4 that were not written again")
         files.guest.ask(UNWORN)
     return is_worn
-
-
-WORN = [(kind, state) for state in (READ_ONLY, OFFLINE) for kind in ZONES]
 
 
 def faults_of(turn):
