@@ -248,9 +248,8 @@ def wear(files, kind, state):
 
 
 def wear_while_written(files):
-    """Writes files until the zone wears out. Whether it did."""
-    files.serve_again()
-    is_worn = files.write_more()
+    """Serves the disk again, and writes to it until the zone wears out: a mount, and files. Whether it did."""
+    is_worn = files.guest.ask("again && write_more")[0] != 0
     files.end("an Append " if is_worn else None)
     if not is_worn:
         count("zones under ext4 that were not written again")
