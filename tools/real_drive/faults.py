@@ -1,29 +1,22 @@
 """Drives that fail in part: single writes, reads and flushes, and zones that wear out. Then the disk is rescued."""
 
 import itertools
-import os
 import random
-import subprocess
 
-import file_faults
 from asked import AskedGuest
 from fake_guest import FakeGuest
 from looks import count, look
-from machine import files_of, install, script_of
+from machine import files_of, script_of
 from mended import refuse_repair, repair, repair_nothing
 from places import batches_of, newest
 from saved import Saved
 from shapes import OF_FAULTS
 from traces import Line
+from worn import CLOSED, EMPTY, NAMES, OFFLINE, OPENED, READ_ONLY, ZONES, make_library
 from written import Written
 
 STOPPED, AT_END, HALTED = "fault disk 3 Stopped", "fault device", "fault mount 10 Halted"
 MOUNTABLE = ["the drive can be mounted", "status 0"]
-READ_ONLY, OFFLINE = 13, 15
-NAMES = {READ_ONLY: "Read Only", OFFLINE: "Offline"}
-EMPTY, OPENED, CLOSED, FULL = 1, 2, 4, 14
-# The zones that may wear out, by what they hold.
-ZONES = {"partly written": (OPENED, CLOSED), "full": (FULL,), "empty": (EMPTY,)}
 KINDS = "new", "flat"
 UNWORN = "unset LD_PRELOAD WORN; rm -f /tmp/worn"
 # In how many guests the places are tried.
@@ -36,7 +29,7 @@ def a_zone(disk, *states):
 
 
 def fail_write(disk, name):
-    """A write fails once: the run stops, and what it had answered is there."""
+    """A write fails once: the run stops, and what it had answered is there. Whether a write came to the place."""
     disk.begin()
     _, pointer = a_zone(disk, OPENED, CLOSED)
     disk.guest.fail("write", pointer + disk.chance.randrange(10))
@@ -44,7 +37,7 @@ def fail_write(disk, name):
     disk.guest.mend()
     if ended == (0, "ok"):
         count("writes that did not come to the place")
-        return
+        return False
     count("failed writes")
     look(ended == (1, STOPPED), f"{name}: the run ended by {ended}")
     saved = Saved(disk.guest, name, disk.chance.choice(KINDS))
@@ -60,6 +53,7 @@ def fail_write(disk, name):
         look(saved.is_refused("zone "), f"{name}: check says {saved.check}")
         look(saved.reply.startswith("fault mount 4 Log "), f"{name}: the mount says {saved.reply}")
         repair(disk, name, MOUNTABLE)
+    return True
 
 
 def fail_data(disk, name, once):
@@ -196,10 +190,11 @@ def look_at_all(disk, name):
 
 
 def try_places(disk, places):
-    """Writes that fail, and then data and headers that cannot be read, each at so many places."""
+    """Writes that fail, and then data and headers that cannot be read, each at so many places. If no write comes to a
+    place, another one is taken."""
     shape = disk.shape
     for turn in range(places):
-        fail_write(disk, f"{shape}: write {turn}")
+        any(fail_write(disk, f"{shape}: write {turn}") for _ in range(9))
     disk.begin()
     for turn in range(places):
         fail_data(disk, f"{shape}: data {turn}", once=turn % 6 == 5)
@@ -222,21 +217,10 @@ def one_guest(machine, library, which, job, *words):
         job(Written(guest, random.Random(f"{machine.seed} faults {which}")), *words)
 
 
-def make_library(machine):
-    """Compiles what lets zones wear out and Flushes fail."""
-    library = os.path.join(machine.work, "worn.so")
-    words = [os.environ.get("CC", "cc"), "-shared", "-fPIC", "-O1", "-o", library, script_of("worn.c")]
-    subprocess.run(words, check=True)
-    return library
-
-
 def try_faults(machine, number):
-    """Faults on drives of two shapes, and under ext4."""
+    """Faults on drives of two shapes."""
     library = make_library(machine)
     shares = [number // GUESTS + (share < number % GUESTS) for share in range(GUESTS)]
     jobs = [(one_guest, library, which, try_places, places) for which, places in enumerate(shares) if places]
     jobs += [(one_guest, library, GUESTS + which, try_zones) for which in range(len(OF_FAULTS))]
-    if not machine.fakes:
-        install(file_faults.PROGRAMS)
-        jobs += [(file_faults.try_files, fault, library) for fault in file_faults.FAULTS]
     machine.side_by_side(lambda item: item[0](machine, *item[1:]), jobs)

@@ -63,5 +63,10 @@ class Written:
 
     def zones_that_are(self, *states):
         """The zones that were in some states after the last run: the start and the pointer of each."""
-        found = re.findall(r"SLBA: (\w+) +WP: (\w+) .* State: (\w+)", read_file(self.guest.share, "report"))
-        return [(int(start, 16), int(pointer, 16)) for start, pointer, state in found if int(state, 16) >> 4 in states]
+        return zones_that_are(self.guest, *states)
+
+
+def zones_that_are(guest, *states):
+    """The zones in some states, of the report that a guest left: the start and the pointer of each."""
+    found = re.findall(r"SLBA: (\w+) +WP: (\w+) .* State: (\w+)", read_file(guest.share, "report"))
+    return [(int(start, 16), int(pointer, 16)) for start, pointer, state in found if int(state, 16) >> 4 in states]
