@@ -14,7 +14,7 @@ use Rattle.disk_files.proofs.OutputLaws.{front_second}
 use Rattle.zone_translator.specs.Flat.{Answer, Begun, FlatCall, FlatDisk, blocks_from, may_refuse, read, with_nothing}
 use Rattle.zone_translator.specs.View.{DiskCause, DiskView, disk_array, disk_size, flat_of}
 use Rattle.zone_translator.specs.declared.fault.DiskFault.{DiskFault}
-use Rattle.zone_translator.specs.declared.fault.DiskFault.TheVariants.{OutOfRange, OutOfMemory, Stopped, Spent, Unmounted, Smaller, Reserve}
+use Rattle.zone_translator.specs.declared.fault.DiskFault.TheVariants.{OutOfRange, OutOfMemory, Stopped, Spent, Unmounted, Smaller, Reserve, Damaged}
 use Rattle.zone_translator.specs.declared.status.DiskStatus.{DiskStatus}
 use Rattle.zone_translator.specs.declared.status.DiskStatus.TheVariants as statuses
 use Rattle.disk_copies.specs.declared.stream_fault.ExportFault.{ExportFault}
@@ -107,6 +107,7 @@ same-refusal a b c d Stopped = refl
 same-refusal a b c d Spent = refl
 same-refusal a b c d Smaller = refl
 same-refusal a b c d Reserve = refl
+same-refusal a b c d Damaged = refl
 same-refusal a b c d Unmounted = refl
 
 -- a read is refused as one of other blocks within the disk is

@@ -6,7 +6,7 @@ use Rattle.std.proofs.lemmas.Bool.Decides.{nat_tests}
 use Rattle.std.proofs.lemmas.List.{length-append, take-append-le}
 use Rattle.zone_translator.specs.Flat.{Answer, FlatCall, FlatDisk, IsFront, answer_while, known_range, may_refuse, replaced, status_after, with_nothing, write}
 use Rattle.zone_translator.specs.declared.fault.DiskFault.{DiskFault}
-use Rattle.zone_translator.specs.declared.fault.DiskFault.TheVariants.{OutOfRange, OutOfMemory, Stopped, Spent, Unmounted, Smaller, Reserve}
+use Rattle.zone_translator.specs.declared.fault.DiskFault.TheVariants.{OutOfRange, OutOfMemory, Stopped, Spent, Unmounted, Smaller, Reserve, Damaged}
 use Rattle.zone_translator.specs.declared.status.DiskStatus.{DiskStatus}
 use Rattle.zone_translator.specs.declared.status.DiskStatus.TheVariants as statuses
 use Rattle.zone_translator.proofs.FlatLaws.{replaced-append, replaced-none}
@@ -119,6 +119,7 @@ same-refusal a b xs ys Stopped = refl
 same-refusal a b xs ys Spent = refl
 same-refusal a b xs ys Smaller = refl
 same-refusal a b xs ys Reserve = refl
+same-refusal a b xs ys Damaged = refl
 same-refusal a b xs ys Unmounted = refl
 
 -- what a refusal of a write within the disk leaves

@@ -8,7 +8,7 @@ use Rattle.disk_files.specs.Reply.{block_line, block_lines, ok_text, out_of_rang
 use Rattle.zone_translator.specs.Calls.{Reads}
 use Rattle.zone_translator.specs.Flat.{Answer, FlatCall, FlatDisk, answer_while, blocks_from, known_answer, may_refuse, read, with_nothing}
 use Rattle.zone_translator.specs.declared.fault.DiskFault.{DiskFault}
-use Rattle.zone_translator.specs.declared.fault.DiskFault.TheVariants.{OutOfRange, OutOfMemory, Stopped, Spent, Unmounted, Smaller, Reserve}
+use Rattle.zone_translator.specs.declared.fault.DiskFault.TheVariants.{OutOfRange, OutOfMemory, Stopped, Spent, Unmounted, Smaller, Reserve, Damaged}
 use Rattle.zone_translator.specs.declared.status.DiskStatus.{DiskStatus}
 use Rattle.zone_translator.specs.declared.status.DiskStatus.TheVariants as statuses
 use Rattle.zone_translator.specs.View.{CompletesAtMost, DiskCause, DiskView, disk_turns}
@@ -66,6 +66,7 @@ same_refusal a b c d Stopped = refl
 same_refusal a b c d Spent = refl
 same_refusal a b c d Smaller = refl
 same_refusal a b c d Reserve = refl
+same_refusal a b c d Damaged = refl
 same_refusal a b c d Unmounted = refl
 
 -- no refusal of a read on its way has a reply
@@ -76,6 +77,7 @@ no_reply first n Stopped may = refl
 no_reply first n Spent may = refl
 no_reply first n Smaller may = absurd (cc)
 no_reply first n Reserve may = absurd (cc)
+no_reply first n Damaged may = absurd (cc)
 no_reply first n Unmounted may = refl
 
 -- one block more is asked for once
@@ -142,6 +144,7 @@ cause_of disk Stopped none cause = cause
 cause_of disk Spent none cause = cause
 cause_of disk Smaller none cause = absurd (cc)
 cause_of disk Reserve none cause = absurd (cc)
+cause_of disk Damaged none cause = cause
 cause_of disk Unmounted none cause = cause
 
 -- ---- replies

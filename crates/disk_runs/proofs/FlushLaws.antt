@@ -4,7 +4,7 @@ use Rattle.std.specs.Prelude.{MatchOption, Option, Result}
 use Rattle.zone_translator.specs.Flat.{Answer, Begun, FlatCall, FlatDisk, answer_while, flush, known_answer, may_refuse, with_nothing}
 use Rattle.zone_translator.specs.View.{DiskView, disk_array, flat_of}
 use Rattle.zone_translator.specs.declared.fault.DiskFault.{DiskFault}
-use Rattle.zone_translator.specs.declared.fault.DiskFault.TheVariants.{OutOfRange, OutOfMemory, Stopped, Spent, Unmounted, Smaller, Reserve}
+use Rattle.zone_translator.specs.declared.fault.DiskFault.TheVariants.{OutOfRange, OutOfMemory, Stopped, Spent, Unmounted, Smaller, Reserve, Damaged}
 use Rattle.zone_translator.specs.declared.status.DiskStatus.{DiskStatus}
 use Rattle.zone_translator.specs.declared.status.DiskStatus.TheVariants as statuses
 use Rattle.disk_runs.specs.FlatLines.{refusal_reply}
@@ -42,6 +42,7 @@ flush_untold old new fault answered = by old.status refl
     may Unmounted m = refl
     may Smaller m = absurd (cc)
     may Reserve m = absurd (cc)
+    may Damaged m = absurd (cc)
 
     by : (status : DiskStatus) → old.status ≡ status → refusal_reply fault ≡ None
     by statuses.Serving e =

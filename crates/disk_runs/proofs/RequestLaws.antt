@@ -124,6 +124,7 @@ idle_untold old new fault answered = by old.status refl
     may faults.Unmounted m = refl
     may faults.Smaller m = absurd (cc)
     may faults.Reserve m = absurd (cc)
+    may faults.Damaged m = absurd (cc)
 
     by : (status : DiskStatus) → old.status ≡ status → refusal_reply fault ≡ None
     by Serving e =
@@ -183,6 +184,7 @@ untold call faults.Spent may = refl
 untold call faults.Unmounted may = refl
 untold call faults.OutOfRange may = absurd (cc)
 untold call faults.Smaller may = absurd (cc)
+untold call faults.Damaged may = absurd (cc)
 untold call faults.Reserve may = absurd (cc)
 
 -- so a refusal that has one was known beforehand

@@ -217,6 +217,7 @@ call_cause faults.Stopped old new kept serves cause = cause
 call_cause faults.Spent old new kept serves cause = cause
 call_cause faults.Smaller old new kept serves cause = cause
 call_cause faults.Reserve old new kept serves cause = cause
+call_cause faults.Damaged old new kept serves cause = cause
 call_cause faults.Unmounted old new kept serves cause = absurd (serves (kept.unmounted cause))
 
 -- why a line was refused, or its flush

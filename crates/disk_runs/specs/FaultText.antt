@@ -29,6 +29,7 @@ disk_refusal disk.Spent = record { number = 4; name = codes "Spent" }
 disk_refusal disk.Unmounted = record { number = 5; name = codes "Unmounted" }
 disk_refusal disk.Smaller = record { number = 7; name = codes "Smaller" }
 disk_refusal disk.Reserve = record { number = 8; name = codes "Reserve" }
+disk_refusal disk.Damaged = record { number = 9; name = codes "Damaged" }
 
 abbrev pub mount_refusal : MountFault → Refusal
 mount_refusal mount.Reserve = record { number = 1; name = codes "Reserve" }

@@ -25,6 +25,7 @@ fn disk_refusal(fault: DiskFault) -> (u8, &'static str)
         DiskFault::Unmounted => (5, "Unmounted"),
         DiskFault::Smaller => (7, "Smaller"),
         DiskFault::Reserve => (8, "Reserve"),
+        DiskFault::Damaged => (9, "Damaged"),
     }
 }
 

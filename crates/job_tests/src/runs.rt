@@ -132,7 +132,7 @@ fn ends_where_the_writer_fails(rt: HostRuntime) -> Result<(), Fail> {
 }
 
 /// Faults and their lines. `worked_runs` shows the others.
-const FAULT_LINES: [(RunFault, &str); 7] = [
+const FAULT_LINES: [(RunFault, &str); 8] = [
     (
         RunFault::Long(u64::MAX),
         "fault long 18446744073709551615\n",
@@ -140,6 +140,10 @@ const FAULT_LINES: [(RunFault, &str); 7] = [
     (
         RunFault::Disk(DiskFault::Unmounted),
         "fault disk 5 Unmounted\n",
+    ),
+    (
+        RunFault::Disk(DiskFault::Damaged),
+        "fault disk 9 Damaged\n",
     ),
     (
         RunFault::Mount(MountFault::Limits),

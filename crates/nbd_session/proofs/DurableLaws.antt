@@ -36,6 +36,7 @@ refused wanted disk.Spent none = omega (arith, none)
 refused wanted disk.Unmounted none = omega (arith, none)
 refused wanted disk.Smaller none = omega (arith, none)
 refused wanted disk.Reserve none = omega (arith, none)
+refused wanted disk.Damaged none = omega (arith, none)
 
 -- ---- what a loss of power leaves
 

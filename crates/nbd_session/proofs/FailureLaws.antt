@@ -38,6 +38,7 @@ told wanted disk.Spent io = omega (arith, io)
 told wanted disk.Unmounted io = omega (arith, io)
 told wanted disk.Smaller io = omega (arith, io)
 told wanted disk.Reserve io = omega (arith, io)
+told wanted disk.Damaged io = omega (arith, io)
 
 undone : (old middle : StoreView) (wanted : Asked) (bytes : List ℕ) (done : Result (Unit {0}) StoreFault) (blocks : List (List ℕ)) (count cookie : ℕ) (result : Result (Unit {0}) StoreFault) (new : StoreView) (shown : List ℕ)
     → DoesOrFails old wanted bytes done blocks middle → Forces false wanted count middle done result new

@@ -162,7 +162,8 @@ error_past_end (Write first) = errors.NoSpace
 error_past_end (WriteZeroes first n hole) = errors.NoSpace
 error_past_end wanted = errors.Invalid
 
--- the error of a refusal; a disk that has stopped, or is not mounted, answers ESHUTDOWN to each request that needs it
+-- the error of a refusal; a disk that has stopped, or is not mounted, answers ESHUTDOWN to each request that needs it; so
+-- does one whose drive does not fit what it returned
 abbrev pub error_of : Asked → DiskFault → ErrorCode
 error_of wanted disk.OutOfRange = error_past_end wanted
 error_of wanted disk.OutOfMemory = errors.NoMemory
@@ -171,6 +172,7 @@ error_of wanted disk.Unmounted = errors.Shutdown
 error_of wanted disk.Spent = errors.NoSpace
 error_of wanted disk.Smaller = errors.Invalid
 error_of wanted disk.Reserve = errors.Invalid
+error_of wanted disk.Damaged = errors.Shutdown
 
 -- the error of a reply; where the medium fails, in a sync or before, it is EIO
 abbrev pub code_of : Asked → Result (Unit {0}) StoreFault → ErrorCode

@@ -117,6 +117,7 @@ fn error_of(wanted: Asked, fault: DiskFault) -> ErrorCode
         (DiskFault::Spent, _) => ErrorCode::NoSpace,
         (DiskFault::Smaller, _) => ErrorCode::Invalid,
         (DiskFault::Reserve, _) => ErrorCode::Invalid,
+        (DiskFault::Damaged, _) => ErrorCode::Shutdown,
     }
 }
 

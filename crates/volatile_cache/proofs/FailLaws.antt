@@ -5,7 +5,7 @@ use Rattle.std.specs.Prelude.{◌⊎◌, Bool, MatchOption, Option, Result, if�
 use Rattle.zone_translator.specs.Flat.{Answer, Begun, Call, FlatDisk, answer_while, known_answer, known_range, may_refuse, with_nothing, write}
 use Rattle.zone_translator.specs.View.{disk_size}
 use Rattle.zone_translator.specs.declared.fault.DiskFault.{DiskFault}
-use Rattle.zone_translator.specs.declared.fault.DiskFault.TheVariants.{OutOfMemory, OutOfRange, Reserve, Smaller, Spent, Stopped, Unmounted}
+use Rattle.zone_translator.specs.declared.fault.DiskFault.TheVariants.{OutOfMemory, OutOfRange, Reserve, Smaller, Spent, Stopped, Unmounted, Damaged}
 use Rattle.nbd_session.specs.Pending.{Pending}
 use Rattle.nbd_session.specs.Store.{StoreView, Syncs, may_fail, store_flat}
 use Rattle.nbd_session.specs.declared.fault.StoreFault.{StoreFault}
@@ -21,6 +21,7 @@ by-write place block OutOfRange may = may
 by-write place block Unmounted may = may
 by-write place block Smaller may = may
 by-write place block Reserve may = may
+by-write place block Damaged may = may
 
 by-sync : (ws : List Pending) (fault : DiskFault) → may_fail ws fault ≡ true → may_refuse (write 0 []) fault ≡ true
 by-sync (w ∷ ws) fault may = by-write w.place w.block fault may
@@ -31,6 +32,7 @@ by-sync [] OutOfRange may = may
 by-sync [] Unmounted may = may
 by-sync [] Smaller may = may
 by-sync [] Reserve may = may
+by-sync [] Damaged may = may
 
 -- a sync failed
 pub sync-fails : (old new : StoreView) (fault : StoreFault) → Syncs old (Err fault) new → FailsCut new.disk fault

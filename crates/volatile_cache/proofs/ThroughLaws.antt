@@ -13,7 +13,7 @@ use Rattle.zone_translator.specs.Changes.{batch_commands}
 use Rattle.zone_translator.specs.Flat.{Answer, Begun, Call, FlatDisk, blocks_from, known_answer, may_refuse, read, status_after, with_nothing, write}
 use Rattle.zone_translator.specs.View.{disk_turns}
 use Rattle.zone_translator.specs.declared.fault.DiskFault.{DiskFault}
-use Rattle.zone_translator.specs.declared.fault.DiskFault.TheVariants.{OutOfRange, OutOfMemory, Stopped, Spent, Unmounted, Smaller, Reserve}
+use Rattle.zone_translator.specs.declared.fault.DiskFault.TheVariants.{OutOfRange, OutOfMemory, Stopped, Spent, Unmounted, Smaller, Reserve, Damaged}
 use Rattle.nbd_session.specs.Pending.{AreApart, Pending, overlay}
 use Rattle.nbd_session.specs.Store.{Calls, ComesFrom, FailsSync, ReadsBlocks, StoreView, Writes, commands_due, may_fail, store_array, store_flat}
 use Rattle.volatile_cache.specs.Outcomes.{Settles, cached, deferring, outcomes}
@@ -198,6 +198,7 @@ may-write (x ∷ ws) w OutOfRange some may = may
 may-write (x ∷ ws) w Unmounted some may = may
 may-write (x ∷ ws) w Smaller some may = may
 may-write (x ∷ ws) w Reserve some may = may
+may-write (x ∷ ws) w Damaged some may = may
 
 long-pulled : (xs ys : List Pending) (w : Pending) → 1 ≤ length (xs ++ w ∷ ys)
 long-pulled xs ys w = omega (arith, length-append xs (w ∷ ys))

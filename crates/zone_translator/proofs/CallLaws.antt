@@ -17,7 +17,7 @@ use Rattle.drive_array.specs.Reserve.{batch_most, most_size}
 use Rattle.drive_array.specs.Sizes.{extended}
 use Rattle.drive_array.proofs.ReserveLaws.{div_ceil-add, div_ceil-none, div_ceil-positive, positive-most}
 use Rattle.zone_translator.specs.declared.fault.DiskFault.{DiskFault}
-use Rattle.zone_translator.specs.declared.fault.DiskFault.TheVariants.{OutOfRange, OutOfMemory, Stopped, Spent, Unmounted, Smaller, Reserve}
+use Rattle.zone_translator.specs.declared.fault.DiskFault.TheVariants.{OutOfRange, OutOfMemory, Stopped, Spent, Unmounted, Smaller, Reserve, Damaged}
 use Rattle.zone_translator.specs.declared.status.DiskStatus.{DiskStatus}
 use Rattle.zone_translator.specs.declared.status.DiskStatus.TheVariants as statuses
 use Rattle.zone_translator.specs.Batches.{IsBatchCount}
@@ -83,6 +83,7 @@ status-refused Spent = refl
 status-refused Smaller = refl
 status-refused Reserve = refl
 status-refused Unmounted = refl
+status-refused Damaged = refl
 
 -- what is left of a disk by a refusal
 pub flat-refused : (old new : DiskView) (fault : DiskFault) → disk_size new ≡ disk_size old → new.status ≡ status_left fault → new.drive.geometry ≡ old.drive.geometry → flat_of new ≡ record (flat_of old) { array = disk_array new; status = status_after (Err fault) }
@@ -99,6 +100,7 @@ cause-of disk Spent cause = cause
 cause-of disk Smaller cause = tt
 cause-of disk Reserve cause = tt
 cause-of disk Unmounted cause = absurd cause
+cause-of disk Damaged cause = absurd cause
 
 -- and that of a read
 pub read-cause : (disk : DiskView) (fault : DiskFault) → IsReadFault disk.drive fault → DiskCause disk fault
@@ -109,6 +111,7 @@ read-cause disk Spent cause = absurd cause
 read-cause disk Smaller cause = tt
 read-cause disk Reserve cause = tt
 read-cause disk Unmounted cause = absurd cause
+read-cause disk Damaged cause = absurd cause
 
 -- ---- the answers of a write
 
@@ -146,6 +149,7 @@ may-refuse disk first blocks Spent cause = refl
 may-refuse disk first blocks Smaller cause = absurd cause
 may-refuse disk first blocks Reserve cause = absurd cause
 may-refuse disk first blocks Unmounted cause = absurd cause
+may-refuse disk first blocks Damaged cause = absurd cause
 
 -- and one that was refused midway
 pub write-refused : (old new : DiskView) (first n : ℕ) (blocks : List (List ℕ)) (fault : DiskFault) → length blocks ≡ n → known_range (flat_of old) first n ≡ None → IsFront (disk_array old) first blocks (disk_array new) → disk_size new ≡ disk_size old → new.status ≡ status_left fault
@@ -219,6 +223,7 @@ growth-refuse disk blocks Spent cause = refl
 growth-refuse disk blocks Smaller cause = absurd cause
 growth-refuse disk blocks Reserve cause = absurd cause
 growth-refuse disk blocks Unmounted cause = absurd cause
+growth-refuse disk blocks Damaged cause = absurd cause
 
 -- and one that was refused
 pub growth-refused : (old new : DiskView) (blocks : ℕ) (fault : DiskFault) → known_growth (flat_of old) blocks ≡ None → IsAfterFront (flat_of old) (grow blocks) fault (disk_array new) → disk_size new ≡ disk_size old → new.status ≡ status_left fault
@@ -236,6 +241,7 @@ read-refuse drive first n Spent cause = absurd cause
 read-refuse drive first n Smaller cause = absurd cause
 read-refuse drive first n Reserve cause = absurd cause
 read-refuse drive first n Unmounted cause = absurd cause
+read-refuse drive first n Damaged cause = absurd cause
 
 -- a read that is done is a flat disk's
 pub read-done : (old new : DiskView) (first n : ℕ) (bytes : List ℕ) → known_range (flat_of old) first n ≡ None → old.status ≡ statuses.Serving → bytes ≡ concat (blocks_from (disk_array old) first n) → disk_array new ≡ disk_array old → disk_size new ≡ disk_size old
@@ -310,6 +316,7 @@ idle-refuse disk Spent cause = refl
 idle-refuse disk Smaller cause = absurd cause
 idle-refuse disk Reserve cause = absurd cause
 idle-refuse disk Unmounted cause = absurd cause
+idle-refuse disk Damaged cause = absurd cause
 
 -- one that was refused
 pub idle-refused : (old new : DiskView) (fault : DiskFault) → old.status ≡ statuses.Serving → disk_array new ≡ disk_array old → disk_size new ≡ disk_size old → new.status ≡ status_left fault → new.drive.geometry ≡ old.drive.geometry → IsCause new.drive (next_sequence new) fault
@@ -338,6 +345,7 @@ report-refuse drive Spent cause = absurd cause
 report-refuse drive Smaller cause = absurd cause
 report-refuse drive Reserve cause = absurd cause
 report-refuse drive Unmounted cause = absurd cause
+report-refuse drive Damaged cause = absurd cause
 
 -- one that was refused
 pub report-refused : (old new : DiskView) (fault : DiskFault) → old.status ≡ statuses.Serving → disk_array new ≡ disk_array old → disk_size new ≡ disk_size old → new.status ≡ status_left fault → new.drive.geometry ≡ old.drive.geometry → IsReadFault new.drive fault

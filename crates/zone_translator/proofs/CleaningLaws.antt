@@ -30,7 +30,7 @@ use Rattle.zone_cleaner.proofs.CloseLaws.{close-turns, stops-close}
 use Rattle.zone_cleaner.proofs.BesideLaws.{kept_turns}
 use Rattle.zone_cleaner.proofs.TurnLaws.{refused-turns, turn_gives, turns_fewer}
 use Rattle.zone_translator.specs.declared.fault.DiskFault.{DiskFault}
-use Rattle.zone_translator.specs.declared.fault.DiskFault.TheVariants.{OutOfRange, OutOfMemory, Stopped, Spent, Unmounted, Smaller, Reserve}
+use Rattle.zone_translator.specs.declared.fault.DiskFault.TheVariants.{OutOfRange, OutOfMemory, Stopped, Spent, Unmounted, Smaller, Reserve, Damaged}
 use Rattle.zone_translator.specs.Changes.{NoMoreTurns, cleaning_fault}
 use Rattle.zone_translator.specs.Cleaning.{AddsNewer, AreNewer, GoesOnOrEnds, KeepsCleaning, OnlyNewer, log_in_zone}
 
@@ -178,6 +178,7 @@ adds-any a b (Err Spent) newer = newer
 adds-any a b (Err Smaller) newer = newer
 adds-any a b (Err Reserve) newer = newer
 adds-any a b (Err Unmounted) newer = newer
+adds-any a b (Err Damaged) newer = newer
 
 on-any : {V P : Type 0} (result : Result V DiskFault) → P → OnOk result P
 on-any (Ok done) is = is
@@ -201,6 +202,7 @@ newer-after a b c (Err Spent) le p q = newer-join a.tables.next b.tables.next (d
 newer-after a b c (Err Smaller) le p q = newer-join a.tables.next b.tables.next (drive_logs a.drive) (drive_logs b.drive) (drive_logs c.drive) le p q
 newer-after a b c (Err Reserve) le p q = newer-join a.tables.next b.tables.next (drive_logs a.drive) (drive_logs b.drive) (drive_logs c.drive) le p q
 newer-after a b c (Err Unmounted) le p q = newer-join a.tables.next b.tables.next (drive_logs a.drive) (drive_logs b.drive) (drive_logs c.drive) le p q
+newer-after a b c (Err Damaged) le p q = newer-join a.tables.next b.tables.next (drive_logs a.drive) (drive_logs b.drive) (drive_logs c.drive) le p q
 
 on-then : {V P Q : Type 0} (result : Result V DiskFault) → (P → Q) → OnOk result P → OnOk result Q
 on-then (Ok done) f is = f is

@@ -20,7 +20,7 @@ use Rattle.zone_cleaner.proofs.NextLaws.{cleaning_kept, cleaned_kept}
 use Rattle.zone_cleaner.proofs.SaneLaws.{sane-same}
 use Rattle.zone_cleaner.proofs.TurnLaws.{cleans_mountable}
 use Rattle.zone_translator.specs.declared.fault.DiskFault.{DiskFault}
-use Rattle.zone_translator.specs.declared.fault.DiskFault.TheVariants.{OutOfRange, OutOfMemory, Stopped, Spent, Unmounted, Smaller, Reserve}
+use Rattle.zone_translator.specs.declared.fault.DiskFault.TheVariants.{OutOfRange, OutOfMemory, Stopped, Spent, Unmounted, Smaller, Reserve, Damaged}
 use Rattle.zone_translator.specs.declared.status.DiskStatus.{DiskStatus}
 use Rattle.zone_translator.specs.declared.status.DiskStatus.TheVariants as statuses
 use Rattle.zone_translator.specs.Calls.{HoldsClean, status_left}
@@ -73,6 +73,7 @@ refused-status OutOfMemory was e = absurd (cc)
 refused-status Stopped was e = absurd (cc)
 refused-status Spent was e = absurd (cc)
 refused-status Unmounted was e = absurd (cc)
+refused-status Damaged was e = absurd (cc)
 refused-status Smaller was e = absurd (cc)
 refused-status Reserve was e = absurd (cc)
 
@@ -201,6 +202,7 @@ holds-read a b clean Spent fits serves kept cause = absurd cause
 holds-read a b clean Smaller fits serves kept cause = absurd cause
 holds-read a b clean Reserve fits serves kept cause = absurd cause
 holds-read a b clean Unmounted fits serves kept cause = absurd cause
+holds-read a b clean Damaged fits serves kept cause = absurd cause
 
 -- ---- a part of a call that was refused
 
@@ -253,6 +255,7 @@ refused-write a b clean clean' trim first blocks fault was fits serves leaves = 
     by Smaller leaves = same Smaller refl leaves
     by Reserve leaves = same Reserve refl leaves
     by Unmounted leaves = same Unmounted refl leaves
+    by Damaged leaves = absurd leaves
 
 -- with the array of a growth, which is the old one but where the drive stopped
 pub record RefusedGrowth (a b : MountedView) (clean clean' : Option CleanView) (size : ℕ) (fault : DiskFault) (was : DiskStatus) : Type 0 where
@@ -269,6 +272,7 @@ refused-growth a b clean clean' size Spent was fits serves leaves = record { ref
 refused-growth a b clean clean' size Smaller was fits serves leaves = record { refused = refused-serving a b clean clean' Smaller was fits refl leaves; front = leaves.0.array }
 refused-growth a b clean clean' size Reserve was fits serves leaves = record { refused = refused-serving a b clean clean' Reserve was fits refl leaves; front = leaves.0.array }
 refused-growth a b clean clean' size Unmounted was fits serves leaves = record { refused = refused-serving a b clean clean' Unmounted was fits refl leaves; front = leaves.0.array }
+refused-growth a b clean clean' size Damaged was fits serves leaves = absurd leaves
 
 -- while it serves, its tables agree with its drive
 pub holds-agrees : (disk : MountedView) (clean : Option CleanView) (status : DiskStatus) → status ≡ statuses.Serving → HoldsClean disk clean status → AgreesWithClean disk clean
@@ -337,6 +341,7 @@ newer-unless b c Spent serves newer = newer
 newer-unless b c Smaller serves newer = newer
 newer-unless b c Reserve serves newer = newer
 newer-unless b c Unmounted serves newer = newer
+newer-unless b c Damaged serves newer = newer
 
 goes-turns : (b c : MountedView) (v : CleanView) (z : Option CleanView) → GoesOnOrEnds b (Some v) c z → NoMoreTurns b (Some v) c z
 goes-turns b c v None goes = omega arith

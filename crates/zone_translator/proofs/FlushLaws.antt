@@ -17,7 +17,7 @@ use Rattle.zone_choice.proofs.OpenLaws.{closing-opens}
 use Rattle.zone_cleaner.specs.Clean.{CleanView}
 use Rattle.zone_cleaner.specs.Start.{AgreesWithClean}
 use Rattle.zone_translator.specs.declared.fault.DiskFault.{DiskFault}
-use Rattle.zone_translator.specs.declared.fault.DiskFault.TheVariants.{OutOfRange, OutOfMemory, Stopped, Spent, Unmounted, Smaller, Reserve}
+use Rattle.zone_translator.specs.declared.fault.DiskFault.TheVariants.{OutOfRange, OutOfMemory, Stopped, Spent, Unmounted, Smaller, Reserve, Damaged}
 use Rattle.zone_translator.specs.declared.status.DiskStatus.{DiskStatus}
 use Rattle.zone_translator.specs.declared.status.DiskStatus.TheVariants as statuses
 use Rattle.zone_translator.specs.Calls.{is_known, status_left}
@@ -125,6 +125,7 @@ refuses drive Spent cause = absurd cause
 refuses drive Smaller cause = absurd cause
 refuses drive Reserve cause = absurd cause
 refuses drive Unmounted cause = absurd cause
+refuses drive Damaged cause = absurd cause
 
 -- one that was refused
 pub flush-refused : (old new : DiskView) (fault : DiskFault) → old.status ≡ statuses.Serving → disk_array new ≡ disk_array old → disk_size new ≡ disk_size old → new.status ≡ status_left fault → new.drive.geometry ≡ old.drive.geometry → IsReadFault new.drive fault

@@ -21,7 +21,7 @@ use Rattle.zone_cleaner.specs.Host.{HostLeaves}
 use Rattle.zone_cleaner.specs.Start.{AgreesWithClean, KeepsByCleaning}
 use Rattle.zone_translator.specs.Batches.{IsRoom, host_heading}
 use Rattle.zone_translator.specs.declared.fault.DiskFault.{DiskFault}
-use Rattle.zone_translator.specs.declared.fault.DiskFault.TheVariants.{OutOfRange, OutOfMemory, Stopped, Spent, Unmounted, Smaller, Reserve}
+use Rattle.zone_translator.specs.declared.fault.DiskFault.TheVariants.{OutOfRange, OutOfMemory, Stopped, Spent, Unmounted, Smaller, Reserve, Damaged}
 use Rattle.zone_translator.specs.Changes.{GrowLeaves, Grows, IsCause, RoomLeaves, disk_fault}
 use Rattle.zone_translator.proofs.RoomLaws.{room-stops}
 use Rattle.zone_translator.proofs.WriteLaws.{append_stops, appended-size, built-batch, can_place, keeps-placed, memory-left}
@@ -98,6 +98,7 @@ growth-without a b clean size Spent leaves cause = leaves
 growth-without a b clean size Smaller leaves cause = leaves
 growth-without a b clean size Reserve leaves cause = leaves
 growth-without a b clean size Unmounted leaves cause = leaves
+growth-without a b clean size Damaged leaves cause = absurd leaves
 
 -- there was no room for it
 pub growth-no_room : (a b : MountedView) (clean : Option CleanView) (size : ℕ) (fault : DiskFault) (result : Result (Unit {0}) DiskFault) → result ≡ Err fault → RoomLeaves {V = Filling} a b clean (Err fault) → IsCause b.drive b.tables.next fault → GrowLeaves a b clean size result

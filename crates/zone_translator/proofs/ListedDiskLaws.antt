@@ -31,7 +31,7 @@ use Rattle.logical_map.specs.declared.place.Place.{Place}
 use Rattle.zone_translator.specs.declared.list.ListRest.{ListRest}
 use Rattle.zone_translator.specs.declared.list.Taken.{Taken}
 use Rattle.zone_translator.specs.declared.fault.DiskFault.{DiskFault}
-use Rattle.zone_translator.specs.declared.fault.DiskFault.TheVariants.{OutOfRange, OutOfMemory, Stopped, Spent, Unmounted, Smaller, Reserve}
+use Rattle.zone_translator.specs.declared.fault.DiskFault.TheVariants.{OutOfRange, OutOfMemory, Stopped, Spent, Unmounted, Smaller, Reserve, Damaged}
 use Rattle.zone_translator.specs.declared.status.DiskStatus.{DiskStatus}
 use Rattle.zone_translator.specs.declared.status.DiskStatus.TheVariants as statuses
 use Rattle.zone_translator.specs.Calls.{answer_before, is_known, status_left}
@@ -62,6 +62,7 @@ refused-list a b clean clean' left fault was fits serves leaves = by fault leave
     by Smaller leaves = same Smaller refl leaves
     by Reserve leaves = same Reserve refl leaves
     by Unmounted leaves = same Unmounted refl leaves
+    by Damaged leaves = absurd leaves
 
 -- a batch of a list is a part of it
 pub put-some : (a b : MountedView) (clean clean' : Option CleanView) (was is : DiskStatus) (left : ListRest) (taken : Taken) → is ≡ statuses.Serving → AgreesWithClean a clean → IsFrontOf left.entries.now taken → ListedLeaves a left (Ok taken) b clean'
@@ -273,6 +274,7 @@ list-may-refuse disk puts Spent cause = refl
 list-may-refuse disk puts Smaller cause = absurd cause
 list-may-refuse disk puts Reserve cause = absurd cause
 list-may-refuse disk puts Unmounted cause = absurd cause
+list-may-refuse disk puts Damaged cause = absurd cause
 
 -- and one that was refused midway
 pub list-refused : (old new : DiskView) (es : List Entry) (bodies : List ℕ) (fault : DiskFault) → known_blocks (flat_of old) (blocks_named es) ≡ None → IsListFront (disk_array old) (list_puts old es bodies) (disk_array new) → disk_size new ≡ disk_size old
@@ -295,3 +297,4 @@ refused-list-clean a b c x y z was is fault same stays keeps serves = refused-cl
     by Smaller newer = newer
     by Reserve newer = newer
     by Unmounted newer = newer
+    by Damaged newer = newer

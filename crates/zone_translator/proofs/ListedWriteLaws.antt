@@ -42,7 +42,7 @@ use Rattle.zone_translator.specs.Batches.{IsCut, IsRoom, KeepsCutTo, names}
 use Rattle.zone_translator.specs.Flat.{IsListFront, Put, put_all}
 use Rattle.zone_translator.specs.Listed.{CanPutAll, IsNextListed, ListedLeaves, NamesAll, PutsAll, TakesMost, last_block, left_puts, listed_heading, puts_of}
 use Rattle.zone_translator.specs.declared.fault.DiskFault.{DiskFault}
-use Rattle.zone_translator.specs.declared.fault.DiskFault.TheVariants.{OutOfRange, OutOfMemory, Stopped, Spent, Unmounted, Smaller, Reserve}
+use Rattle.zone_translator.specs.declared.fault.DiskFault.TheVariants.{OutOfRange, OutOfMemory, Stopped, Spent, Unmounted, Smaller, Reserve, Damaged}
 use Rattle.zone_translator.specs.Changes.{IsCause, RoomLeaves, StopKeeps, disk_fault}
 use Rattle.zone_translator.proofs.ListedLaws.{all-front, distinct-front, few-data, length-puts, names-all-placed, names-last_block, over-puts, puts-front}
 use Rattle.zone_translator.proofs.RoomLaws.{filling-host, host-filled, room-stops}
@@ -247,6 +247,7 @@ listed_without a b clean left Spent leaves cause = leaves
 listed_without a b clean left Smaller leaves cause = leaves
 listed_without a b clean left Reserve leaves cause = leaves
 listed_without a b clean left Unmounted leaves cause = leaves
+listed_without a b clean left Damaged leaves cause = absurd leaves
 
 -- there was no room for it
 pub listed_no_room : (a b : MountedView) (clean : Option CleanView) (left : ListRest) (fault : DiskFault) (result : Result Taken DiskFault) → result ≡ Err fault → RoomLeaves {V = Filling} a b clean (Err fault) → IsCause b.drive b.tables.next fault → ListedLeaves a left result b clean

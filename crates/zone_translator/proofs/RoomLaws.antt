@@ -29,7 +29,7 @@ use Rattle.zone_cleaner.proofs.TurnLaws.{keeps-more}
 use Rattle.zone_translator.proofs.CleaningLaws.{StaysClean, array-stays, goes-same, newer-same, stays-cleaning}
 use Rattle.zone_translator.specs.Cleaning.{KeepsCleaning}
 use Rattle.zone_translator.specs.declared.fault.DiskFault.{DiskFault}
-use Rattle.zone_translator.specs.declared.fault.DiskFault.TheVariants.{OutOfRange, OutOfMemory, Stopped, Spent, Unmounted, Smaller, Reserve}
+use Rattle.zone_translator.specs.declared.fault.DiskFault.TheVariants.{OutOfRange, OutOfMemory, Stopped, Spent, Unmounted, Smaller, Reserve, Damaged}
 use Rattle.zone_translator.specs.Changes.{IsCause, IsHost, NoMoreTurns, RetireLeaves, RoomLeaves, StopKeeps, TakesHost, cleaning_fault, disk_fault}
 
 -- ---- parts of a call that write nothing for the host
@@ -48,6 +48,7 @@ room-join a b c clean (Err Spent) kept leaves = (keeps-more a b c kept leaves.0,
 room-join a b c clean (Err Smaller) kept leaves = (keeps-more a b c kept leaves.0, leaves.1)
 room-join a b c clean (Err Reserve) kept leaves = (keeps-more a b c kept leaves.0, leaves.1)
 room-join a b c clean (Err Unmounted) kept leaves = (keeps-more a b c kept leaves.0, leaves.1)
+room-join a b c clean (Err Damaged) kept leaves = absurd leaves
 
 -- whatever the answer
 pub room-keeps : (V : Type 0) (a b : MountedView) (clean : Option CleanView) (fault : DiskFault) → RoomLeaves {V = V} a b clean (Err fault) → KeepsByCleaning a b
@@ -58,6 +59,7 @@ room-keeps V a b clean Spent leaves = leaves.0
 room-keeps V a b clean Smaller leaves = leaves.0
 room-keeps V a b clean Reserve leaves = leaves.0
 room-keeps V a b clean Unmounted leaves = leaves.0
+room-keeps V a b clean Damaged leaves = absurd leaves
 
 -- the drive stopped, while some tables agreed with it
 retire-stops : (a b : MountedView) (clean : Option CleanView) → AgreesWithClean a clean → RetireLeaves a b (Err Stopped) → KeepsByCleaning a b
@@ -88,6 +90,7 @@ retire_room V a b clean Spent is leaves = keeps-serving a b clean is leaves
 retire_room V a b clean Smaller is leaves = keeps-serving a b clean is leaves
 retire_room V a b clean Reserve is leaves = keeps-serving a b clean is leaves
 retire_room V a b clean Unmounted is leaves = keeps-serving a b clean is leaves
+retire_room V a b clean Damaged is leaves = absurd leaves
 
 -- and the clean continues
 pub retire_clean : (V : Type 0) (a b : MountedView) (clean : Option CleanView) (fault : DiskFault) → AgreesWithClean a clean → RetireLeaves a b (Err fault) → KeepsCleaning {V = V} a clean (Err fault) b clean
@@ -100,6 +103,7 @@ retire_clean V a b clean Spent is leaves = stays-cleaning {V = V} a b clean clea
 retire_clean V a b clean Smaller is leaves = stays-cleaning {V = V} a b clean clean (Err Smaller) (array-stays a b clean is leaves)
 retire_clean V a b clean Reserve is leaves = stays-cleaning {V = V} a b clean clean (Err Reserve) (array-stays a b clean is leaves)
 retire_clean V a b clean Unmounted is leaves = stays-cleaning {V = V} a b clean clean (Err Unmounted) (array-stays a b clean is leaves)
+retire_clean V a b clean Damaged is leaves = absurd leaves
 
 -- the drive stopped, and the array is kept
 pub room-stops : (a b : MountedView) → KeepsByCleaning a b → b.drive.stopped ≡ true → StopKeeps a b

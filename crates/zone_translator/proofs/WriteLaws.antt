@@ -42,7 +42,7 @@ use Rattle.zone_cleaner.proofs.TurnLaws.{cleans_mountable, keeps-more}
 use Rattle.zone_translator.specs.declared.write.Rest.{Rest}
 use Rattle.zone_translator.specs.Batches.{CanWrite, IsBatchCount, IsCut, IsNextBatch, IsRoom, KeepsCut, KeepsCutTo, LogsAreCut, WritesRest, batch_count, bytes_of, next_heading, host_heading, is_trim, rest_blocks}
 use Rattle.zone_translator.specs.declared.fault.DiskFault.{DiskFault}
-use Rattle.zone_translator.specs.declared.fault.DiskFault.TheVariants.{OutOfRange, OutOfMemory, Stopped, Spent, Unmounted, Smaller, Reserve}
+use Rattle.zone_translator.specs.declared.fault.DiskFault.TheVariants.{OutOfRange, OutOfMemory, Stopped, Spent, Unmounted, Smaller, Reserve, Damaged}
 use Rattle.zone_translator.specs.Changes.{IsCause, Keeps, Names, RoomLeaves, StopKeeps, WriteLeaves, WritesBlocks, disk_fault}
 use Rattle.zone_translator.specs.Flat.{IsFront, replaced}
 use Rattle.zone_translator.specs.Cleaning.{KeepsCleaning}
@@ -334,6 +334,7 @@ write_without trim a b clean first blocks Spent leaves cause = leaves
 write_without trim a b clean first blocks Smaller leaves cause = leaves
 write_without trim a b clean first blocks Reserve leaves cause = leaves
 write_without trim a b clean first blocks Unmounted leaves cause = leaves
+write_without trim a b clean first blocks Damaged leaves cause = absurd leaves
 
 -- there was no room for it
 pub write_no_room : (a b : MountedView) (clean : Option CleanView) (rest : Rest) (fault : DiskFault) (result : Result ℕ DiskFault) → result ≡ Err fault → RoomLeaves {V = Filling} a b clean (Err fault) → IsCause b.drive b.tables.next fault → WritesRest a rest result b clean

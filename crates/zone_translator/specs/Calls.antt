@@ -52,6 +52,7 @@ pub record IsSound (disk : DiskView) : Type 0 where
 -- what a refusal on its way leaves a disk in
 abbrev pub status_left : DiskFault → DiskStatus
 status_left faults.Stopped = Stopped
+status_left faults.Damaged = Stopped
 status_left fault = Serving
 
 -- the answer that a test made beforehand stands for: that the call is done, that it continues, or a refusal

@@ -22,14 +22,16 @@ use Rattle.zone_cleaner.specs.Clean.{CleanView, turns_left}
 use Rattle.zone_cleaner.specs.Start.{AgreesWithClean, KeepsByCleaning, trims}
 use Rattle.zone_translator.specs.Flat.{IsFront, replaced}
 use Rattle.zone_translator.specs.declared.fault.DiskFault.{DiskFault}
-use Rattle.zone_translator.specs.declared.fault.DiskFault.TheVariants.{OutOfRange, OutOfMemory, Stopped, Spent, Unmounted, Smaller, Reserve}
+use Rattle.zone_translator.specs.declared.fault.DiskFault.TheVariants.{OutOfRange, OutOfMemory, Stopped, Spent, Unmounted, Smaller, Reserve, Damaged}
 
--- why a refusal came: the drive has stopped, or no sequence is left that a batch may have; of memory nothing can be said
+-- why a refusal came: the drive has stopped, or no sequence is left that a batch may have; of memory nothing can be said. A
+-- drive that is clean gives no cause for `Damaged`.
 abbrev pub IsCause : DriveState → ℕ → DiskFault → Type 0
 IsCause drive next OutOfRange = ⊥
 IsCause drive next Unmounted = ⊥
 IsCause drive next Smaller = ⊥
 IsCause drive next Reserve = ⊥
+IsCause drive next Damaged = ⊥
 IsCause drive next OutOfMemory = Unit {0}
 IsCause drive next Stopped = drive.stopped ≡ true
 IsCause drive next Spent = sequence_end drive.geometry ≤ next
@@ -44,7 +46,7 @@ abbrev pub cleaning_fault : CleanFault → DiskFault
 cleaning_fault faults.OutOfMemory = OutOfMemory
 cleaning_fault faults.Stopped = Stopped
 cleaning_fault faults.Spent = Spent
-cleaning_fault faults.Damaged = Stopped
+cleaning_fault faults.Damaged = Damaged
 
 -- at most how many commands a batch takes: the turns of a clean, a Finish, a Close, and the Append
 abbrev pub batch_commands : Geometry → ℕ
@@ -120,17 +122,20 @@ pub record StopKeeps (before after : MountedView) : Type 0 where
 -- tables did not change; but some agree with the drive that keep the array, too.
 abbrev pub RetireLeaves : MountedView → MountedView → Result (Unit {0}) DiskFault → Type 0
 RetireLeaves before after (Err Stopped) = (after.tables ≡ before.tables) × ((tables : TablesView) × KeepsArray before (mounted after.drive tables))
+RetireLeaves before after (Err Damaged) = ⊥
 RetireLeaves before after result = KeepsArray before after
 
 -- what a part of a call leaves that writes nothing for the host: the array is the same, and the disk continues unless its drive stopped
 abbrev pub RoomLeaves : {V : Type 0} → MountedView → MountedView → Option CleanView → Result V DiskFault → Type 0
 RoomLeaves before after clean (Err Stopped) = KeepsByCleaning before after
+RoomLeaves before after clean (Err Damaged) = ⊥
 RoomLeaves before after clean result = KeepsByCleaning before after × AgreesWithClean after clean
 
 -- what the next batch of a write of these blocks leaves: as many of them as it took are written; where the drive stopped, a front of them may be
 abbrev pub WriteLeaves : Bool → MountedView → MountedView → Option CleanView → ℕ → List (List ℕ) → Result ℕ DiskFault → Type 0
 WriteLeaves trim before after clean first blocks (Ok count) = WritesBlocks trim before after clean first (take count blocks)
 WriteLeaves trim before after clean first blocks (Err Stopped) = StopKeeps before after × IsFront (mounted_array before) first blocks (mounted_array after)
+WriteLeaves trim before after clean first blocks (Err Damaged) = ⊥
 WriteLeaves trim before after clean first blocks (Err fault) = KeepsByCleaning before after × AgreesWithClean after clean
 
 -- what a growth to a size leaves: the disk has it; where the drive stopped, the array may have grown
@@ -139,4 +144,5 @@ GrowLeaves before after clean size (Ok done) = Grows before after clean size
 GrowLeaves before after clean size (Err Stopped) =
     StopKeeps before after × ((mounted_array after ≡ mounted_array before)
     ⊎ (mounted_array after ≡ extended (zero_block before.drive.geometry.block) size (mounted_array before)))
+GrowLeaves before after clean size (Err Damaged) = ⊥
 GrowLeaves before after clean size (Err fault) = KeepsByCleaning before after × AgreesWithClean after clean

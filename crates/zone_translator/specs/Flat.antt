@@ -7,7 +7,7 @@ use Rattle.drive_array.specs.Sizes.{extended}
 use Rattle.drive_survey.specs.declared.fault.MountFault.{MountFault}
 use Rattle.drive_survey.specs.declared.fault.MountFault.TheVariants as mount
 use Rattle.zone_translator.specs.declared.fault.DiskFault.{DiskFault}
-use Rattle.zone_translator.specs.declared.fault.DiskFault.TheVariants.{OutOfRange, OutOfMemory, Stopped, Spent, Unmounted, Smaller, Reserve}
+use Rattle.zone_translator.specs.declared.fault.DiskFault.TheVariants.{OutOfRange, OutOfMemory, Stopped, Spent, Unmounted, Smaller, Reserve, Damaged}
 use Rattle.zone_translator.specs.declared.status.DiskStatus.{DiskStatus}
 use Rattle.zone_translator.specs.declared.status.DiskStatus.TheVariants as statuses
 
@@ -158,9 +158,10 @@ known_answer disk (write_list puts) = known_blocks disk (map (λ (p : Put). p.bl
 known_answer disk (grow size) = known_growth disk size
 known_answer disk call = answer_while disk.status
 
--- a disk that answers `Stopped` serves no more
+-- a disk that answers `Stopped` or `Damaged` serves no more
 abbrev pub status_after : Result (Unit {0}) DiskFault → DiskStatus
 status_after (Err Stopped) = statuses.Stopped
+status_after (Err Damaged) = statuses.Stopped
 status_after result = statuses.Serving
 
 -- A call that was begun on a disk that serves: done, it shows its blocks, and the disk is that after it; refused, it shows nothing, and a front of it is done.

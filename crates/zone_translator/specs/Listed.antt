@@ -22,7 +22,7 @@ use Rattle.zone_cleaner.specs.Start.{AgreesWithClean, KeepsByCleaning, trims}
 use Rattle.zone_translator.specs.declared.list.ListRest.{ListRest}
 use Rattle.zone_translator.specs.declared.list.Taken.{Taken}
 use Rattle.zone_translator.specs.declared.fault.DiskFault.{DiskFault}
-use Rattle.zone_translator.specs.declared.fault.DiskFault.TheVariants.{Stopped}
+use Rattle.zone_translator.specs.declared.fault.DiskFault.TheVariants.{Stopped, Damaged}
 use Rattle.zone_translator.specs.declared.status.DiskStatus.TheVariants as statuses
 use Rattle.zone_translator.specs.Calls.{status_left}
 use Rattle.zone_translator.specs.Changes.{IsCause, Keeps, StopKeeps}
@@ -123,6 +123,7 @@ ListedLeaves before left (Ok taken) after clean =
     PutsAll (take taken.entries left.entries.now) (take taken.entries (left_puts before.drive.geometry left)) before after clean
 ListedLeaves before left (Err Stopped) after clean =
     StopKeeps before after × IsListFront (mounted_array before) (left_puts before.drive.geometry left) (mounted_array after)
+ListedLeaves before left (Err Damaged) after clean = ⊥
 ListedLeaves before left (Err fault) after clean = KeepsByCleaning before after × AgreesWithClean after clean
 
 -- ---- the calls of a disk

@@ -114,7 +114,7 @@ fn status_of(fault: DiskFault) -> DiskStatus
     ensures { result ≡ status_left fault }
 {
     match fault {
-        DiskFault::Stopped => DiskStatus::Stopped,
+        DiskFault::Stopped | DiskFault::Damaged => DiskStatus::Stopped,
         _ => DiskStatus::Serving,
     }
 }

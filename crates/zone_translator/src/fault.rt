@@ -29,6 +29,10 @@ pub enum DiskFault {
     /// A growth to more blocks than the drive's reserve allows. Nothing was sent, and nothing changed.
     #[error("the drive's reserve does not allow this number of logical blocks")]
     Reserve,
+    /// What the drive returned does not fit, or it refused a command. A drive that obeys, and returns what it holds, gives
+    /// no cause for it. The disk answers `Stopped` from then on, until its drive is mounted again.
+    #[error("what the drive returned does not fit")]
+    Damaged,
 }
 
 impl From<AllocError> for DiskFault {
@@ -53,8 +57,7 @@ impl From<CleanFault> for DiskFault {
             CleanFault::OutOfMemory => DiskFault::OutOfMemory,
             CleanFault::Stopped => DiskFault::Stopped,
             CleanFault::Spent => DiskFault::Spent,
-            // A device that is always clean gives no cause for it.
-            CleanFault::Damaged => DiskFault::Stopped,
+            CleanFault::Damaged => DiskFault::Damaged,
         }
     }
 }

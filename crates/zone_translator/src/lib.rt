@@ -25,9 +25,10 @@
 //!
 //! Whatever the Reads of its device return, each call of an `AnyDisk` ends, done or refused. Its drive keeps its shape, and
 //! the disk its size but for a growth or a remount (`StaysAlike`). Its commands have the bounds below. The numbers by
-//! which it sends commands stay in range (`Holds`). What does not fit them is refused by `Stopped`, and then the disk
-//! serves no more until its drive is mounted again. All that follows is promised of an `AnyDisk` while its drive is
-//! clean, that is as long as each Read returned what the drive holds; and of a `Disk` always.
+//! which it sends commands stay in range (`Holds`). What does not fit them is refused by `Damaged`, and then the disk
+//! serves no more until its drive is mounted again. While the drive is clean, that never comes. All that follows is
+//! promised of an `AnyDisk` while its drive is clean, that is as long as each Read returned what the drive holds; and of
+//! a `Disk` always.
 //!
 //! That is for every list of calls on a disk mounted on any drive, with stops and failed allocations at any point. A stop
 //! may fall between two commands or inside one: what holds at an exit with `Stopped` holds then.

@@ -19,7 +19,8 @@ pub(crate) fn fault_of(fault: PortFault) -> DiskFault
 {
     match fault {
         PortFault::Memory => DiskFault::OutOfMemory,
-        PortFault::Stopped | PortFault::Refused(_) => DiskFault::Stopped,
+        PortFault::Stopped => DiskFault::Stopped,
+        PortFault::Refused(_) => DiskFault::Damaged,
     }
 }
 
@@ -103,7 +104,7 @@ fn find_host<D: Device>(disk: &mut Mounted<D>, cleaner: &mut Cleaner) -> Result<
     }
     match take(disk) {
         Some(host) => Ok(host),
-        None => Err(DiskFault::Stopped),
+        None => Err(DiskFault::Damaged),
     }
 }
 

@@ -105,7 +105,7 @@ pub(crate) fn find_room<D: Device>(
 {
     let host = make_room(disk, cleaner)?;
     if !has_room(disk, host) {
-        return Err(DiskFault::Stopped);
+        return Err(DiskFault::Damaged);
     }
     let capacity = disk.geometry().capacity as u64;
     if next_sequence(disk) >= (1 << 63) - capacity {
@@ -268,7 +268,7 @@ pub(crate) fn grow_batch<D: Device>(
 {
     // A disk has one block at least.
     if blocks == 0 {
-        return Err(DiskFault::Stopped);
+        return Err(DiskFault::Damaged);
     }
     let host = find_room(disk, cleaner)?;
     batch.start(Kind::Host, next_sequence(disk), 0, Some(blocks));
