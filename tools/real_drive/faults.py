@@ -6,7 +6,7 @@ import random
 from asked import AskedGuest
 from fake_guest import FakeGuest
 from looks import count, look
-from machine import files_of, script_of
+from machine import files_of, read_file, script_of
 from mended import refuse_repair, repair, repair_nothing
 from places import batches_of, newest
 from saved import Saved
@@ -73,9 +73,15 @@ def fail_data(disk, name, once):
 
 
 def write_anew(disk, name, block):
-    """Writes a block whose newest data cannot be read: then all can be read again."""
+    """Writes a block whose newest data cannot be read: then all can be read again. Only if the cleaner has to make room
+    before, and reads these data, the run stops."""
     text = f"a5*{disk.shape.block}"
     ended = disk.run([Line(f"fill {block} 1 a5", block, [text])])
+    if ended == (1, STOPPED):
+        told = read_file(disk.guest.share, "replies.said")
+        look("the drive answered a Read " in told, f"{name}: block {block} cannot be written: {told}")
+        count("unreadable blocks that the cleaner reads before they are written anew")
+        return
     look(ended == (0, "ok"), f"{name}: block {block} cannot be written: {ended}")
     look(disk.is_there(disk.read_all()), f"{name}: not all blocks are there after block {block} was written")
     count("unreadable blocks written anew")
