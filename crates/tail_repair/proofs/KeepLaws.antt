@@ -99,6 +99,10 @@ begins-still old new zone log g c begins =
 pub keeps-same : (old new : DriveState) → new.geometry ≡ old.geometry → contents new.zones ≡ contents old.zones → length new.zones ≡ length old.zones → KeepsBatches old new
 keeps-same old new g c count zone log lt begins = (zone, omega (arith, lt, count), begins-still old new zone log g (rw c refl) begins)
 
+-- where nothing was done
+pub drive-none : (drive : DriveState) → IsLawful drive → KeepsDrive drive drive
+drive-none drive lawful = record { geometry = refl; lawful = lawful; trusted = λ clean. clean; batches = λ clean. keeps-same drive drive refl refl refl }
+
 pub keeps-then : (a b c : DriveState) → KeepsBatches a b → KeepsBatches b c → KeepsBatches a c
 keeps-then a b c first next zone log lt begins =
     let there = first zone log lt begins in

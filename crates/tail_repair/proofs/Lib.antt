@@ -3,3 +3,4 @@ pub mod CommandLaws
 pub mod TailLaws
 pub mod MovedLaws
 pub mod CauseLaws
+pub mod PlaceLaws

@@ -128,6 +128,15 @@ pub data AreNoted (drive : DriveState) : ℕ → List ForeignTail → Type 0 whe
 abbrev pub AreTails : DriveState → List ForeignTail → Type 0
 AreTails drive tails = AreNoted drive (length drive.zones) tails
 
+-- the zones are in ascending order
+abbrev pub Ascends : List ForeignTail → Type 0
+Ascends tails =
+    (i j : ℕ) (a b : ForeignTail) → i < j → slice_get tails i ≡ Some a → slice_get tails j ≡ Some b → a.zone < b.zone
+
+-- none of these above a zone is this one
+abbrev pub IsNoneAbove : List ForeignTail → ℕ → ℕ → Type 0
+IsNoneAbove tails zone to = (k : ℕ) (tail : ForeignTail) → slice_get tails k ≡ Some tail → zone < tail.zone → tail.zone ≢ to
+
 -- ---- what is answered
 
 -- the zone that was repaired, and how many blocks its batches take
@@ -145,9 +154,12 @@ AreRepaired drive moved = AreTails drive (moved_tails moved)
 abbrev pub IsElsewhere : MovedZone → Type 0
 IsElsewhere moved = IfSome moved.into (λ to. to ≢ moved.zone)
 
--- The batches with which the zone began are in the zone that the answer names, and where they were if it names none.
+-- where the batches of a zone are that was repaired: in the zone that the answer names, and if it names none, where they were
+abbrev pub place : MovedZone → ℕ
+place moved = unwrap_or moved.into moved.zone
+
 abbrev pub AreWhereTold : DriveState → DriveState → MovedZone → Type 0
-AreWhereTold old new moved = AreIn old moved.zone new (unwrap_or moved.into moved.zone)
+AreWhereTold old new moved = AreIn old moved.zone new (place moved)
 
 -- each zone holds a log
 abbrev pub HaveLogs : DriveState → Type 0

@@ -28,7 +28,8 @@
 //! * Done, each zone holds a log, as a mount asks it (`HaveLogs`). Whether the drive can be mounted a mount tells.
 //! * While the drive is clean, the answer names just the zones that held no log, in their order, and how many blocks the
 //!   batches of each take (`AreRepaired`). With a header after the first foreign block of a zone there is no such answer.
-//! * If the answer names no zone, none is changed. What was moved is in another zone (`IsElsewhere`).
+//! * If the answer names no zone, none is changed. What was moved is in another zone (`IsElsewhere`), and while the drive
+//!   is clean that one begins with the batches with which the zone began (`AreWhereTold`).
 //! * A refusal changes no zone: all faults but `Halted` and `Unfinished` (`may_change`).
 //! * While the drive is clean, a fault has its cause (`FindFails`, `RepairFails`). The drive has stopped. Its geometry is
 //!   out of range. No zone below that one is Read Only or Offline, and that one is. Batches of that zone have a sequence
@@ -43,8 +44,6 @@
 //!
 //! * That memory ran out where a fault says so, and that `Unfinished` of a repair has a cause: a body that always answers
 //!   one of these meets the contract.
-//! * That the zone which the answer names begins with the batches after all repairs. It is proved of each repair alone
-//!   (`AreWhereTold` at `repair_tail`), and no batch is lost in the others.
 //! * That only the foreign zones and their destinations change, and that Empty zones are used from the lowest on. The
 //!   rows of `tool_rows` and tests show it.
 //!

@@ -5,10 +5,10 @@ ghost use Rattle.drive_port.specs.Contents.{SameContents, usage_of};
 ghost use Rattle.drive_port.specs.Drive.{IsLawful};
 ghost use Rattle.drive_survey.specs.Reported.{IsKnown, KeepsZones};
 ghost use Rattle.drive_survey.specs.Scan.{AreKnown};
-ghost use Rattle.tail_repair.specs.Repair.{AreIn, AreRepaired, AreWhereTold, BatchesEnd, HaveLogs, IsElsewhere};
-ghost use Rattle.tail_repair.specs.Repair.{IsMoved, IsTold, KeepsBeside, KeepsDrive, LookFails, NoOtherEmpty};
+ghost use Rattle.tail_repair.specs.Repair.{AreIn, AreRepaired, AreWhereTold, Ascends, BatchesEnd, HaveLogs, IsElsewhere};
+ghost use Rattle.tail_repair.specs.Repair.{IsMoved, IsNoneAbove, IsTold, KeepsBeside, KeepsDrive, LookFails, NoOtherEmpty};
 ghost use Rattle.tail_repair.specs.Repair.{RepairFails, is_empty, may_change, moved_tails};
-ghost use Rattle.tail_repair.specs.Repair.{tail_at, tail_of};
+ghost use Rattle.tail_repair.specs.Repair.{place, tail_at, tail_of};
 ghost use Rattle.zone_states.specs.Geometry.{IsInRange};
 
 use crate::copy::{Front, Pair, compare, copy_front, finish_zone, is_copy, zone_in};
@@ -187,18 +187,32 @@ fn move_zone<D: Device>(
     reset_moved(alloc, device, front.zone.number, front.blocks, Some(to))
 }
 
+/// Whether a zone is one of these above another.
+fn is_later(tails: &[ForeignTail], zone: u32, to: u32) -> bool
+    ensures { result ≡ false → IsNoneAbove tails.now zone to }
+{
+    for tail in tails {
+        if tail.zone > zone && tail.zone == to {
+            return true;
+        }
+    }
+    false
+}
+
 /// Mends a zone that is Full now: its batches, which take so many blocks, go elsewhere, unless only zeros follow them.
 fn mend_zone<D: Device>(
     alloc: Global,
     device: &mut D,
     front: Front,
     zones: &[ReportedZone],
+    tails: &[ForeignTail],
 ) -> Result<MovedZone, RepairFault>
     requires known { AreKnown (D.drive device.old) zones.now }
     requires few { length zones.now ≤ 65536 }
     requires zone { IsKnown (D.drive device.old) front.zone.number front.zone.reported }
     ensures tail { IfOk result (λ moved. tail_of moved ≡ tail_at front.zone.number front.blocks) }
     ensures elsewhere { IfOk result IsElsewhere }
+    ensures apart { IfOk result (λ moved. IsNoneAbove tails.now front.zone.number (place moved)) }
     ensures there { IsTrue (D.drive device.new).clean
         → IfOk result (AreWhereTold (D.drive device.old) (D.drive device.new)) }
     ensures beside { IsTrue (D.drive device.new).clean
@@ -228,6 +242,9 @@ fn mend_zone<D: Device>(
         return Err(RepairFault::Unfinished);
     }
     let to = destination(alloc, device, front, zones)?;
+    if is_later(tails, zone, to) {
+        return Err(RepairFault::Unfinished);
+    }
     let first = zones[to as usize].blocks.min(blocks);
     move_zone(alloc, device, front, to, first)?;
     Ok(MovedZone {
@@ -236,17 +253,20 @@ fn mend_zone<D: Device>(
     })
 }
 
-/// Repairs a zone whose batches are followed by something foreign.
+/// Repairs a zone whose batches are followed by something foreign, one of these. Its batches go to none of those that
+/// are left.
 fn repair_tail<D: Device>(
     alloc: Global,
     device: &mut D,
     tail: ForeignTail,
+    tails: &[ForeignTail],
 ) -> Result<MovedZone, RepairFault>
     requires range { IsInRange (D.drive device.old).geometry }
     requires lawful { IsLawful (D.drive device.old) }
     requires there { tail.zone < length (D.drive device.old).zones }
     ensures tail { IfOk result (λ moved. tail_of moved ≡ tail) }
     ensures elsewhere { IfOk result IsElsewhere }
+    ensures apart { IfOk result (λ moved. IsNoneAbove tails.now tail.zone (place moved)) }
     ensures there { IsTrue (D.drive device.new).clean
         → IfOk result (AreWhereTold (D.drive device.old) (D.drive device.new)) }
     ensures beside { IsTrue (D.drive device.new).clean
@@ -263,7 +283,7 @@ fn repair_tail<D: Device>(
         zone,
         blocks: tail.blocks,
     };
-    mend_zone(alloc, device, front, &zones)
+    mend_zone(alloc, device, front, &zones, tails)
 }
 
 /// Refuses a drive that has no room for the batches of a foreign zone. One zone is enough for all: each one that is
@@ -302,8 +322,11 @@ fn repair_each<D: Device>(
 ) -> Result<Vec<MovedZone>, RepairFault>
     requires range { IsInRange (D.drive device.old).geometry }
     requires lawful { IsLawful (D.drive device.old) }
+    requires ascends { IsTrue (D.drive device.old).clean → Ascends tails.now }
     ensures tails { IfOk result (λ moved. moved_tails moved.items ≡ tails.now) }
     ensures elsewhere { IfOk result (λ moved. All IsElsewhere moved.items) }
+    ensures there { IsTrue (D.drive device.new).clean
+        → IfOk result (λ moved. All (AreWhereTold (D.drive device.old) (D.drive device.new)) moved.items) }
     ensures told { IsTrue (D.drive device.new).clean → IfErr result (IsTold (D.drive device.new)) }
     ensures kept { KeepsDrive (D.drive device.old) (D.drive device.new) }
 {
@@ -312,7 +335,7 @@ fn repair_each<D: Device>(
         if tail.zone >= device.geometry().zones {
             return Err(RepairFault::Unfinished);
         }
-        let one = repair_tail(alloc, device, *tail)?;
+        let one = repair_tail(alloc, device, *tail, tails)?;
         if moved.push(one).is_err() {
             return Err(RepairFault::Halted(Halt::Memory));
         }
@@ -328,9 +351,12 @@ fn repair_all<D: Device>(
 ) -> Result<Vec<MovedZone>, RepairFault>
     requires range { IsInRange (D.drive device.old).geometry }
     requires lawful { IsLawful (D.drive device.old) }
+    requires ascends { IsTrue (D.drive device.old).clean → Ascends tails.now }
     ensures ok { IsTrue (D.drive device.new).clean → OnOk result (HaveLogs (D.drive device.new)) }
     ensures tails { IfOk result (λ moved. moved_tails moved.items ≡ tails.now) }
     ensures elsewhere { IfOk result (λ moved. All IsElsewhere moved.items) }
+    ensures there { IsTrue (D.drive device.new).clean
+        → IfOk result (λ moved. All (AreWhereTold (D.drive device.old) (D.drive device.new)) moved.items) }
     ensures told { IsTrue (D.drive device.new).clean → IfErr result (IsTold (D.drive device.new)) }
     ensures kept { KeepsDrive (D.drive device.old) (D.drive device.new) }
 {
@@ -352,8 +378,10 @@ pub fn repair_tails<D: Device>(alloc: Global, device: &mut D) -> Result<Vec<Move
     // Where it names none, no zone is changed.
     ensures idle { IfOk result (λ moved. moved.items ≡ []
         → SameContents (D.drive device.old) (D.drive device.new)) }
-    // What was moved is in another zone.
+    // What was moved is in another zone, and that one begins with it now.
     ensures elsewhere { IfOk result (λ moved. All IsElsewhere moved.items) }
+    ensures there { IsTrue (D.drive device.new).clean
+        → IfOk result (λ moved. All (AreWhereTold (D.drive device.old) (D.drive device.new)) moved.items) }
     // A fault has its cause.
     ensures err { IsTrue (D.drive device.new).clean
         → IfErr result (RepairFails (D.drive device.old) (D.drive device.new)) }

@@ -107,3 +107,9 @@ returns-clause-beside g c clean =
 
 pub returns-clause-kept : goal.returns-clause-kept
 returns-clause-kept g c = drive-then _ _ _ (look-keeps _ _ (keeps-both _ _ _ c.batches_end.ensures.kept c.destination.ensures.kept)) c.move_zone.ensures.kept
+
+pub returns-then-is_later-clause-beside : goal.returns-then-is_later-clause-beside
+returns-then-is_later-clause-beside g c clean = look-beside _ _ c.args.front.zone.number (keeps-both _ _ _ c.batches_end.ensures.kept c.destination.ensures.kept)
+
+pub returns-then-is_later-clause-kept : goal.returns-then-is_later-clause-kept
+returns-then-is_later-clause-kept g c = look-keeps _ _ (keeps-both _ _ _ c.batches_end.ensures.kept c.destination.ensures.kept)

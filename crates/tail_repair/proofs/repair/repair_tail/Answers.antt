@@ -41,3 +41,6 @@ returns-clause-beside g c clean =
 
 pub returns-clause-kept : goal.returns-clause-kept
 returns-clause-kept g c = drive-then _ _ _ (drive-then _ _ _ (extends-drive _ _ c.args.tail.zone c.finish_zone.ensures.kept) (look-keeps _ _ c.known_zones.ensures.kept)) c.mend_zone.ensures.kept
+
+pub returns-clause-apart : goal.returns-clause-apart
+returns-clause-apart g c = rw c.in-Some.ensures.0 at c.mend_zone.ensures.apart

@@ -4,6 +4,7 @@ use Rattle.drive_survey.proofs.ReadLaws.{keeps-both}
 use Rattle.tail_repair.specs.Repair.{AreTails}
 use Rattle.tail_repair.proofs.CauseLaws.{find-repair, if-fault, late-repair, repair-before}
 use Rattle.tail_repair.proofs.KeepLaws.{drive-then}
+use Rattle.tail_repair.proofs.PlaceLaws.{all-before, all-of-none, tails-ascend}
 use Rattle.tail_repair.proofs.MovedLaws.{none-found}
 use Rattle.tail_repair.proofs.TailLaws.{logs-kept, look-keeps, no-items, no-tails, refused-same, same-contents}
 use Rattle.tail_repair.proofs.repair.repair_tails.Goals as goal
@@ -68,3 +69,14 @@ returns-in_err-check_room-clause-err g c clean =
 pub returns-clause-err : goal.returns-clause-err
 returns-clause-err g c clean =
     late-repair (g.D.Device.drive c.args.device.now) (g.D.Device.drive c.repair_all.new.device) _ c.unfinished.ensures.late (c.unfinished.ensures.told (g.D.Device.drive c.repair_all.new.device) (c.in-Err.ensures.told clean))
+
+pub repair_all-requires-clause-ascends : goal.repair_all-requires-clause-ascends
+repair_all-requires-clause-ascends g c clean =
+    rw c.deref.ensures.value (tails-ascend (g.D.Device.drive c.args.device.now) c.in_ok-tails.tails.items (c.in_ok-tails.ensures.ok (c.check_room.ensures.kept.trusted clean)))
+
+pub returns-then-is_empty-clause-there : goal.returns-then-is_empty-clause-there
+returns-then-is_empty-clause-there g c clean = all-of-none (g.D.Device.drive c.args.device.now) (g.D.Device.drive c.find_tails.new.device) c.new.result.items c.new.ensures.items
+
+pub returns-in-Ok-clause-there : goal.returns-in-Ok-clause-there
+returns-in-Ok-clause-there g c clean =
+    all-before (g.D.Device.drive c.args.device.now) (g.D.Device.drive c.check_room.new.device) (g.D.Device.drive c.repair_all.new.device) c.in-Ok.moved.items (keeps-both _ _ _ c.find_tails.ensures.kept c.check_room.ensures.kept) (c.in-Ok.ensures.there clean)
