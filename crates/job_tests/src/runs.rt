@@ -141,10 +141,7 @@ const FAULT_LINES: [(RunFault, &str); 8] = [
         RunFault::Disk(DiskFault::Unmounted),
         "fault disk 5 Unmounted\n",
     ),
-    (
-        RunFault::Disk(DiskFault::Damaged),
-        "fault disk 9 Damaged\n",
-    ),
+    (RunFault::Disk(DiskFault::Damaged), "fault disk 9 Damaged\n"),
     (
         RunFault::Mount(MountFault::Limits),
         "fault mount 2 Limits\n",
