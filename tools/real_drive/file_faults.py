@@ -279,7 +279,7 @@ def some_turns(machine, library, turns):
 
 
 def try_files(machine, number):
-    """Faults under a file system, in so many turns."""
+    """Faults under a file system, a number of turns."""
     install(PROGRAMS)
     library, shares = make_library(machine), min(machine.guests, number)
     turns = [list(range(number))[share::shares] for share in range(shares)]
