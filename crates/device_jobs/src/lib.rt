@@ -6,7 +6,7 @@
 //! let well = check_device(alloc, job.blocks, &mut drive, &job.form, &mut output)?;
 //! ```
 //!
-//! A [`DeviceJob`] is what the words of the command line ask for (`zonedisk_program` reads them). [`Devices`] is the way
+//! A [`DeviceJob`] is what the words of the command line ask for (`asked_tasks` reads them). [`Devices`] is the way
 //! to the drives; a program that has none has [`NoDevices`]. What is done with an open drive is generic: each job
 //! works over every `Device` of `drive_port`, and so over a drive in memory.
 //!

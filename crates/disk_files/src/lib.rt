@@ -32,7 +32,7 @@
 //! * Readers and writers that fail, and long lines, are tested.
 //! * No clause states that a reader is called less than 2^62 times.
 //!
-//! Tests: the rows of `worked_runs`, and `texts.rt` of `call_tests`.
+//! Tests: the rows of `worked_runs`, and `texts.rt` of `job_tests`.
 #![tactic(auto)]
 
 mod again;

@@ -15,7 +15,7 @@
 //! };
 //! ```
 //!
-//! A [`Job`] is what the words of the command line ask for (`zonedisk_program` reads them). [`run_job`] does it, and
+//! A [`Job`] is what the words of the command line ask for (`asked_tasks` reads them). [`run_job`] does it, and
 //! [`do_job`] does it on the drive of its file: it locks the file, and saves the drive. [`LinesDone`] says how the job
 //! ended and how the save did. [`explain`] says what a fault is in a line for people; the input has the one at which a
 //! run ended. [`size_notes`] says what is to be known of the size of the disk. [`Explained`] passes the replies of
@@ -62,15 +62,15 @@
 //!   link, and every other file; that a file which failed says so, and keeps the first changes (`tools/two_programs`).
 //! * When replies are sent, and that the changes before them are in the file by then (`tools/kill_runs`).
 //! * That a run with `--read-only` leaves each byte of the file. By contract it hands no drive to be saved, and writes
-//!   no change to its store (`call_tests`).
+//!   no change to its store (`job_tests`).
 //! * That the device of a run keeps its `--stop-after`, `--tear` and `--habit` until it is given back. The rows of
-//!   `worked_runs` and `call_tests` show that they act.
+//!   `worked_runs` and `job_tests` show that they act.
 //! * That [`Explained`], [`Watched`] and `CountedLines` pass on what they are given: a stream may fail at any call. By
 //!   contract [`Explained`] passes exactly these bytes; what it says on standard error is tested.
 //! * The text of `--statistics`, the explanations of faults, what is said of the size of a disk, and how many commands
-//!   a mount took, which standard error says after a stop (`call_tests`).
+//!   a mount took, which standard error says after a stop (`job_tests`).
 //!
-//! Tests: `jobs.rt` of `call_tests`; `tools/kill_runs` and `tools/two_programs`, on files.
+//! Tests: `jobs.rt` and `file_jobs.rt` of `job_tests`; `tools/kill_runs` and `tools/two_programs`, on files.
 #![tactic(auto)]
 
 mod begun;

@@ -5,5 +5,7 @@ pub mod ProgressLaws
 pub mod ReadLaws
 pub mod RequestLaws
 pub mod RunLaws
+pub mod ShapeLaws
 pub mod TakenLaws
 pub mod TraceLaws
+pub mod WhileLaws

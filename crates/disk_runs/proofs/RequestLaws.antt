@@ -17,7 +17,7 @@ use Rattle.zone_translator.specs.declared.fault.DiskFault.{DiskFault}
 use Rattle.zone_translator.specs.declared.fault.DiskFault.TheVariants as faults
 use Rattle.zone_translator.specs.declared.status.DiskStatus.{DiskStatus}
 use Rattle.zone_translator.specs.declared.status.DiskStatus.TheVariants.{Serving, Stopped, Unmounted}
-use Rattle.disk_runs.specs.FlatLines.{FlatAnswer, IsUntold, RepliesTo, Request, Turns, TurnsDone, first_of, refusal_reply, reply_of}
+use Rattle.disk_runs.specs.FlatLines.{FlatAnswer, IsOfDisk, IsUntold, RepliesTo, Request, Turns, TurnsDone, first_of, refusal_reply, reply_of}
 use Rattle.disk_runs.specs.Trace.{Does, GrowsOnce, ReadsFew, StopsBy, TakesFewer, TakesOne, TakesTurns, TurnsBy, WritesOnce}
 use Rattle.disk_runs.specs.declared.fault.RunFault.{RunFault}
 use Rattle.disk_runs.specs.declared.fault.RunFault.TheVariants as runs
@@ -168,6 +168,19 @@ nothing-shown first (Err fault) = refl
 -- the reply to a request that shows nothing
 pub told : (old new : FlatDisk) (request : Request) (done : Result (Unit {0}) DiskFault) (reply : List ℕ) → FlatAnswer old request (with_nothing done) new → reply_of 0 [] done ≡ Some reply → RepliesTo old request reply new
 told old new request done reply answered is = record { answer = with_nothing done; flat = answered; reply_is = nothing-shown (first_of request) done ∙ is }
+
+-- a refusal without a reply is a fault of the disk
+pub of_disk : (done : Result (Unit {0}) DiskFault) (result : Result (Unit {0}) RunFault) → IfErr result (IsUntold done) → IfErr result IsOfDisk
+of_disk done (Ok told) untold = tt
+of_disk (Ok done) (Err fault) untold = absurd untold
+of_disk (Err refused) (Err (Disk fault)) untold = tt
+of_disk (Err refused) (Err (runs.Mount fault)) untold = absurd untold
+of_disk (Err refused) (Err (runs.Geometry fault)) untold = absurd untold
+of_disk (Err refused) (Err (runs.Line n)) untold = absurd untold
+of_disk (Err refused) (Err (runs.Long n)) untold = absurd untold
+of_disk (Err refused) (Err runs.Input) untold = absurd untold
+of_disk (Err refused) (Err runs.Output) untold = absurd untold
+of_disk (Err refused) (Err Memory) untold = absurd untold
 
 -- a fault that is another is not that of a reply
 pub never_memory : (result : Result (Unit {0}) RunFault) (P : Type 0) → IfErr result (λ fault. fault ≢ Memory) → IfErr result (λ fault. fault ≡ Memory → P)

@@ -1,6 +1,6 @@
 -- What a conventional disk replies to the lines of a trace. It knows nothing of zones.
 use Rattle.std.specs.Prelude.{◌≡◌, ℕ, zero, suc, ◌+◌, ◌*◌, ◌<◌, ◌/◌, ◌%◌, ◌==◌, ◌||◌, if◌then◌else◌, Bool, List}
-use Rattle.std.specs.Prelude.{[], length, Option, Some, None, Result, Ok, Err, is_some, option_and_then}
+use Rattle.std.specs.Prelude.{⊤, [], length, Option, Some, None, Result, Ok, Err, is_some, option_and_then}
 use Rattle.zone_states.specs.Zone.{cut_blocks}
 use Rattle.disk_files.specs.Reply.{out_of_range_text, read_text, reserve_text, smaller_text}
 use Rattle.disk_files.specs.TraceLine.{is_skipped, trace_line}
@@ -98,6 +98,13 @@ reply_of first shown (Err fault) = refusal_reply fault
 abbrev pub IsUntold : Result (Unit {0}) DiskFault → RunFault → Type 0
 IsUntold (Err fault) (Disk same) = (same ≡ fault) × (refusal_reply fault ≡ None)
 IsUntold done ends = ⊥
+
+-- a fault by which what a line asks for may end: the disk's, the mount's, or there was no memory
+abbrev pub IsOfDisk : RunFault → Type 0
+IsOfDisk (Disk fault) = ⊤
+IsOfDisk (Mount fault) = ⊤
+IsOfDisk Memory = ⊤
+IsOfDisk fault = ⊥
 
 -- a request is answered, and its answer has this reply
 pub record RepliesTo (old : FlatDisk) (request : Request) (reply : List ℕ) (new : FlatDisk) : Type 0 where

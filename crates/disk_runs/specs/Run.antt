@@ -1,5 +1,5 @@
 -- Runs of lines: each line of a reader is answered, in order, and the replies are what a writer gets.
-use Rattle.std.specs.Prelude.{◌≡◌, ◌≢◌, ℕ, ◌+◌, ◌<◌, ◌≤◌, Bool, true, false, List, [], ◌∷◌, ◌++◌, length, take, Some, None, Result, Ok, Err, ⊤}
+use Rattle.std.specs.Prelude.{◌≡◌, ◌≢◌, ℕ, ◌+◌, ◌<◌, ◌≤◌, Bool, true, false, List, [], ◌∷◌, ◌++◌, length, take, Some, None, Result, Ok, Err, IsTrue, ⊤}
 use Rattle.std.specs.Io.KnownBytes.{Appends}
 pub use Rattle.disk_files.specs.Input.{Known}
 use Rattle.disk_files.specs.Line.{after_line, first_line}
@@ -27,6 +27,20 @@ pub record Language (S : Type 0) : Type 1 where
   pub Answers : S → List ℕ → List ℕ → S → Type 0
   pub Refuses : S → List ℕ → RunFault → S → Type 0
   pub Same : S → S → Type 0
+
+-- Something is done. As long as this holds of the state, which once lost does not come back, it is this.
+pub record AsLongAs {S : Type 0} (holds : S → Bool) (old : S) (Does : Type 0) (new : S) : Type 0 where
+  pub before : IsTrue (holds new) → IsTrue (holds old)
+  pub does : IsTrue (holds new) → Does
+
+-- a language of which it is promised what lines do as long as something holds
+abbrev pub while : {S : Type 0} → (S → Bool) → Language S → Language S
+while holds language = record {
+  is_legal = language.is_legal;
+  Answers = λ old line reply new. AsLongAs holds old (language.Answers old line reply new) new;
+  Refuses = λ old line fault new. AsLongAs holds old (language.Refuses old line fault new) new;
+  Same = λ old new. AsLongAs holds old (language.Same old new) new;
+}
 
 -- a line that may be answered
 pub record IsLine {S : Type 0} (language : Language S) (state : S) (line : List ℕ) : Type 0 where

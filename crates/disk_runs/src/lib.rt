@@ -67,7 +67,7 @@
 //! * That a `write` or a `fill` that is refused for memory is `fault disk 2`, and `fault memory` where its data, or
 //!   the first 21 bytes of its reply, found no memory.
 //!
-//! Tests: the rows of `worked_runs`, and `runs.rt` of `call_tests`.
+//! Tests: the rows of `worked_runs`, and `runs.rt` of `job_tests`.
 #![tactic(auto)]
 
 mod fault;
@@ -84,4 +84,4 @@ pub use fault::RunFault;
 pub use fault_line::write_fault;
 pub use raw::run_raw;
 pub use taking::Taking;
-pub use trace::{answer_trace, run_trace};
+pub use trace::{answer_any_trace, answer_trace, run_trace};

@@ -1,19 +1,20 @@
-ghost use Rattle.std.specs.Prelude.{◌≡◌, ◌+◌, ◌^◌, ◌<◌, ◌≤◌, ◌++◌, ◌&&◌, [], IfErr, OnOk};
+ghost use Rattle.std.specs.Prelude.{◌≡◌, ◌+◌, ◌^◌, ◌<◌, ◌≤◌, ◌++◌, ◌&&◌, [], IfErr, IsTrue, OnOk};
 ghost use Rattle.std.specs.Prelude.{Some, length, nat_lt, vec_capacity, vec_len};
 ghost use Rattle.disk_files.specs.Reply.{block_lines};
+ghost use Rattle.zone_choice.specs.Sane.{KeepsShape};
 ghost use Rattle.zone_translator.specs.Flat.{blocks_from, read};
 ghost use Rattle.zone_translator.specs.Keeping.{KeepsServed};
 ghost use Rattle.zone_translator.specs.View.{disk_array, disk_size, flat_of};
 ghost use Rattle.zone_translator.specs.declared.status.DiskStatus.TheVariants.{Serving};
 ghost use Rattle.disk_runs.specs.declared.fault.RunFault.TheVariants.{Memory};
-ghost use Rattle.disk_runs.specs.FlatLines.{IsFull, RepliesTo, RequestStops, single};
+ghost use Rattle.disk_runs.specs.FlatLines.{IsFull, IsOfDisk, RepliesTo, RequestStops, single};
 ghost use Rattle.disk_runs.specs.Trace.{EndCause, HasCause, ReadsFew};
 
 use crate::fault::RunFault;
 use crate::requests::SHORT_REPLY;
 use disk_files::{block_line, ok_reply, out_of_range_reply};
-use drive_port::{Device, Honest};
-use zone_translator::Disk;
+use drive_port::Device;
+use zone_translator::AnyDisk;
 
 /// Whether a call of these blocks goes past the end of a disk. One of no block does not.
 fn is_past_end(size: u64, first: u64, blocks: u64) -> bool
@@ -24,8 +25,8 @@ fn is_past_end(size: u64, first: u64, blocks: u64) -> bool
 
 /// Puts the lines of blocks after what `reply` holds. Each block is read when its line is made, so that no
 /// more than one is held.
-fn show_blocks<D: Device + Honest + Drop>(
-    disk: &mut Disk<D>,
+fn show_blocks<D: Device + Drop>(
+    disk: &mut AnyDisk<D>,
     first: u64,
     blocks: u64,
     block: &mut Vec<u8>,
@@ -33,25 +34,28 @@ fn show_blocks<D: Device + Honest + Drop>(
 ) -> Result<(), RunFault>
     // The blocks are in range, and their numbers fit in 64 bits. While the disk serves, the array has its size.
     requires in_range { 0 < blocks → first + blocks ≤ disk_size disk.old }
-    requires array { disk.old.status ≡ Serving → length (disk_array disk.old) ≡ disk_size disk.old }
+    requires array { IsTrue disk.old.drive.clean → disk.old.status ≡ Serving
+        → length (disk_array disk.old) ≡ disk_size disk.old }
     requires small { first + blocks ≤ 2 ^ 64 }
-    // Done, the reply has the lines of these blocks too, and the flat disk is the same.
-    ensures ok { OnOk result
+    // While the drive is clean: done, the reply has the lines of these blocks too, and the flat disk is the same.
+    ensures ok { IsTrue disk.new.drive.clean → OnOk result
         ((flat_of disk.new ≡ flat_of disk.old) × (0 < blocks → disk.old.status ≡ Serving)
         × (reply.new.items
         ≡ reply.old.items ++ block_lines first (blocks_from (disk_array disk.old) first blocks))) }
     // A refusal is a flat disk's too, and has its cause. For `Memory`, the reply has no room for a block's line.
-    ensures err { IfErr result
+    ensures err { IsTrue disk.new.drive.clean → IfErr result
         (λ fault. RequestStops (flat_of disk.old) (Some (single (read first blocks)))
         fault (flat_of disk.new)) }
-    ensures cause { IfErr result (HasCause (EndCause disk.new)) }
+    ensures cause { IsTrue disk.new.drive.clean → IfErr result (HasCause (EndCause disk.new)) }
     ensures full { IfErr result (λ fault. fault ≡ Memory →
         IsFull (vec_capacity reply.new) (vec_len reply.new) (vec_len block.new)) }
-    // Whatever it answers, a drive that could be mounted still can be, and a block takes one command at most. What is
-    // durable is the same.
-    ensures keeps { KeepsServed disk.old disk.new }
+    ensures kind { IfErr result IsOfDisk }
+    // Then, whatever it answers, a drive that could be mounted still can be, and what is durable is the same. A block takes
+    // one command at most in any case.
+    ensures keeps { IsTrue disk.new.drive.clean → KeepsServed disk.old disk.new }
     ensures costs { ReadsFew blocks disk.old disk.new }
-    ensures durable { disk.new.drive.durable ≡ disk.old.drive.durable }
+    ensures shape { KeepsShape disk.old.drive disk.new.drive }
+    ensures durable { IsTrue disk.new.drive.clean → disk.new.drive.durable ≡ disk.old.drive.durable }
 {
     for i in 0..blocks {
         if let Err(fault) = disk.read(first + i, 1, block) {
@@ -66,8 +70,8 @@ fn show_blocks<D: Device + Honest + Drop>(
 const OK_REPLY: usize = 3;
 
 /// Reads blocks, and puts the reply into `reply`, which is empty and has room for a short one.
-pub(crate) fn read_blocks<D: Device + Honest + Drop>(
-    disk: &mut Disk<D>,
+pub(crate) fn read_blocks<D: Device + Drop>(
+    disk: &mut AnyDisk<D>,
     first: u64,
     blocks: u64,
     block: &mut Vec<u8>,
@@ -75,22 +79,24 @@ pub(crate) fn read_blocks<D: Device + Honest + Drop>(
 ) -> Result<(), RunFault>
     requires empty { reply.old.items ≡ [] }
     requires room { SHORT_REPLY ≤ vec_capacity reply.old }
-    // Done, the reply is a flat disk's.
-    ensures ok { OnOk result (RepliesTo (flat_of disk.old) (single (read first blocks))
+    // While the drive is clean: done, the reply is a flat disk's.
+    ensures ok { IsTrue disk.new.drive.clean → OnOk result (RepliesTo (flat_of disk.old) (single (read first blocks))
         reply.new.items (flat_of disk.new)) }
     // A refusal is a flat disk's too, and has its cause. For `Memory`, the reply has no room for a block's line.
-    ensures err { IfErr result
+    ensures err { IsTrue disk.new.drive.clean → IfErr result
         (λ fault. RequestStops (flat_of disk.old) (Some (single (read first blocks)))
         fault (flat_of disk.new)) }
-    ensures cause { IfErr result (HasCause (EndCause disk.new)) }
+    ensures cause { IsTrue disk.new.drive.clean → IfErr result (HasCause (EndCause disk.new)) }
     ensures full { IfErr result (λ fault. fault ≡ Memory →
         IsFull (vec_capacity reply.new) (vec_len reply.new) (vec_len block.new)) }
-    // Whatever it answers, a drive that could be mounted still can be, and a block takes one command at most. What is
-    // durable is the same.
-    ensures keeps { KeepsServed disk.old disk.new }
+    ensures kind { IfErr result IsOfDisk }
+    // Then, whatever it answers, a drive that could be mounted still can be, and what is durable is the same. A block takes
+    // one command at most in any case.
+    ensures keeps { IsTrue disk.new.drive.clean → KeepsServed disk.old disk.new }
     ensures costs { ReadsFew blocks disk.old disk.new }
+    ensures shape { KeepsShape disk.old.drive disk.new.drive }
     ensures few { ReadsFew (disk_size disk.old) disk.old disk.new }
-    ensures durable { disk.new.drive.durable ≡ disk.old.drive.durable }
+    ensures durable { IsTrue disk.new.drive.clean → disk.new.drive.durable ≡ disk.old.drive.durable }
 {
     if is_past_end(disk.blocks(), first, blocks) {
         out_of_range_reply(reply).unwrap();

@@ -1,8 +1,9 @@
-ghost use Rattle.std.specs.Prelude.{◌≡◌, ◌≢◌, ◌<◌, ◌≤◌, [], IfErr, Ok, OnOk, Some, is_some, true};
+ghost use Rattle.std.specs.Prelude.{◌≡◌, ◌≢◌, ◌<◌, ◌≤◌, [], IfErr, IsTrue, Ok, OnOk, Some, is_some, true};
 ghost use Rattle.std.specs.Prelude.{vec_capacity, vec_len};
+ghost use Rattle.zone_choice.specs.Sane.{KeepsShape};
 ghost use Rattle.zone_translator.specs.Keeping.{KeepsServed};
 ghost use Rattle.zone_translator.specs.View.{DiskCause, flat_of};
-ghost use Rattle.disk_runs.specs.FlatLines.{AnswersRequest, IsFull, IsUntold, RepliesTo, RequestStops};
+ghost use Rattle.disk_runs.specs.FlatLines.{AnswersRequest, IsFull, IsOfDisk, IsUntold, RepliesTo, RequestStops};
 ghost use Rattle.disk_runs.specs.FlatLines.{Turns, asked, remount, reply_of};
 ghost use Rattle.disk_runs.specs.Taken.{FlushesIf};
 ghost use Rattle.disk_runs.specs.declared.fault.RunFault.TheVariants.{Memory};
@@ -12,8 +13,8 @@ ghost use Rattle.disk_runs.specs.Trace.{MountsAgain, StopsBy, TurnsBy};
 use crate::fault::RunFault;
 use crate::reads::read_blocks;
 use disk_files::{TraceLine, ok_reply, out_of_range_reply, reserve_reply, smaller_reply};
-use drive_port::{Device, Honest};
-use zone_translator::{Disk, DiskFault};
+use drive_port::Device;
+use zone_translator::{AnyDisk, DiskFault};
 
 /// The bytes of the longest reply but those of reads: `refused 1 OutOfRange`, and a line feed.
 pub(crate) const SHORT_REPLY: usize = 21;
@@ -50,14 +51,15 @@ fn tell(done: Result<(), DiskFault>, reply: &mut Vec<u8>) -> Result<(), RunFault
 
 /// Gives the cleaner turns, up to one that is refused. Where no clean runs before a turn and none after it, none is
 /// due, and the turns that are left would do nothing.
-fn clean<D: Device + Honest + Drop>(disk: &mut Disk<D>, turns: u32) -> Result<(), DiskFault>
-    // Done, all turns count as taken. Refused, fewer were taken, and the fault has its cause.
-    ensures flat { Turns turns (flat_of disk.old) result (flat_of disk.new) }
-    ensures turns { TurnsBy result turns disk.old disk.new }
-    ensures cause { IfErr result (DiskCause disk.new) }
-    // Whatever it answers, a drive that could be mounted still can be, and what is durable is the same.
-    ensures keeps { KeepsServed disk.old disk.new }
-    ensures durable { disk.new.drive.durable ≡ disk.old.drive.durable }
+fn clean<D: Device + Drop>(disk: &mut AnyDisk<D>, turns: u32) -> Result<(), DiskFault>
+    // While the drive is clean: done, all turns count as taken. Refused, fewer were taken, and the fault has its cause.
+    ensures flat { IsTrue disk.new.drive.clean → Turns turns (flat_of disk.old) result (flat_of disk.new) }
+    ensures turns { IsTrue disk.new.drive.clean → TurnsBy result turns disk.old disk.new }
+    ensures cause { IsTrue disk.new.drive.clean → IfErr result (DiskCause disk.new) }
+    // Then, whatever it answers, a drive that could be mounted still can be, and what is durable is the same.
+    ensures keeps { IsTrue disk.new.drive.clean → KeepsServed disk.old disk.new }
+    ensures durable { IsTrue disk.new.drive.clean → disk.new.drive.durable ≡ disk.old.drive.durable }
+    ensures shape { KeepsShape disk.old.drive disk.new.drive }
 {
     for _turn in 0..turns {
         let ran = disk.is_cleaning();
@@ -70,25 +72,24 @@ fn clean<D: Device + Honest + Drop>(disk: &mut Disk<D>, turns: u32) -> Result<()
 }
 
 /// Mounts the drive again, and puts the reply into `reply`, which is empty and has room for it.
-fn mount_again<D: Device + Honest + Drop>(
-    disk: &mut Disk<D>,
-    reply: &mut Vec<u8>,
-) -> Result<(), RunFault>
+fn mount_again<D: Device + Drop>(disk: &mut AnyDisk<D>, reply: &mut Vec<u8>) -> Result<(), RunFault>
     requires empty { reply.old.items ≡ [] }
     requires room { SHORT_REPLY ≤ vec_capacity reply.old }
-    // Done, the reply is a flat disk's.
-    ensures ok { OnOk result
+    // While the drive is clean: done, the reply is a flat disk's.
+    ensures ok { IsTrue disk.new.drive.clean → OnOk result
         (RepliesTo (flat_of disk.old) remount reply.new.items (flat_of disk.new)) }
     // A refusal is a flat disk's too, and has its cause. The reply never lacks memory.
-    ensures err { IfErr result
+    ensures err { IsTrue disk.new.drive.clean → IfErr result
         (λ fault. RequestStops (flat_of disk.old) (Some remount) fault (flat_of disk.new)) }
-    ensures cause { IfErr result (HasCause (EndCause disk.new)) }
+    ensures cause { IsTrue disk.new.drive.clean → IfErr result (HasCause (EndCause disk.new)) }
     ensures no_memory { IfErr result (λ fault. fault ≢ Memory) }
+    ensures kind { IfErr result IsOfDisk }
     // Done, the drive was mounted again. Whatever it answers, a drive that could be mounted still can be, and what is
     // durable is the same.
-    ensures keeps { OnOk result (MountsAgain disk.old disk.new) }
-    ensures leaves { IfErr result (λ fault. KeepsFault fault disk.old disk.new) }
-    ensures durable { disk.new.drive.durable ≡ disk.old.drive.durable }
+    ensures keeps { IsTrue disk.new.drive.clean → OnOk result (MountsAgain disk.old disk.new) }
+    ensures leaves { IsTrue disk.new.drive.clean → IfErr result (λ fault. KeepsFault fault disk.old disk.new) }
+    ensures durable { IsTrue disk.new.drive.clean → disk.new.drive.durable ≡ disk.old.drive.durable }
+    ensures shape { KeepsShape disk.old.drive disk.new.drive }
 {
     if let Err(fault) = disk.remount() {
         return Err(RunFault::Mount(fault));
@@ -99,8 +100,8 @@ fn mount_again<D: Device + Honest + Drop>(
 
 /// Does what a line asks for, and puts the reply into `reply`, which is empty and has room for a short one.
 /// A read leaves in `block` the block that it showed last.
-pub(crate) fn answer_request<D: Device + Honest + Drop>(
-    disk: &mut Disk<D>,
+pub(crate) fn answer_request<D: Device + Drop>(
+    disk: &mut AnyDisk<D>,
     line: TraceLine,
     bytes: &[u8],
     block: &mut Vec<u8>,
@@ -110,24 +111,26 @@ pub(crate) fn answer_request<D: Device + Honest + Drop>(
     requires asks { is_some (asked disk.old.drive.geometry.block line bytes.now) ≡ true }
     requires empty { reply.old.items ≡ [] }
     requires room { SHORT_REPLY ≤ vec_capacity reply.old }
-    // Done, the reply is a flat disk's.
-    ensures ok { OnOk result
+    // While the drive is clean: done, the reply is a flat disk's.
+    ensures ok { IsTrue disk.new.drive.clean → OnOk result
         (AnswersRequest (flat_of disk.old) (asked disk.old.drive.geometry.block line bytes.now)
         reply.new.items (flat_of disk.new)) }
     // A refusal is a flat disk's too, and has its cause. For `Memory`, the reply has no room for a block's line.
-    ensures err { IfErr result (λ fault.
+    ensures err { IsTrue disk.new.drive.clean → IfErr result (λ fault.
         RequestStops (flat_of disk.old) (asked disk.old.drive.geometry.block line bytes.now)
         fault (flat_of disk.new)) }
-    ensures cause { IfErr result (HasCause (EndCause disk.new)) }
+    ensures cause { IsTrue disk.new.drive.clean → IfErr result (HasCause (EndCause disk.new)) }
     ensures full { IfErr result (λ fault. fault ≡ Memory →
         IsFull (vec_capacity reply.new) (vec_len reply.new) (vec_len block.new)) }
+    ensures kind { IfErr result IsOfDisk }
     // Done, the line did what it says. A drive that could be mounted still can be.
-    ensures does { OnOk result (Does line bytes.now (Ok tt) disk.old disk.new) }
-    ensures leaves { IfErr result (λ fault. KeepsFault fault disk.old disk.new) }
+    ensures does { IsTrue disk.new.drive.clean → OnOk result (Does line bytes.now (Ok tt) disk.old disk.new) }
+    ensures leaves { IsTrue disk.new.drive.clean → IfErr result (λ fault. KeepsFault fault disk.old disk.new) }
     // Refused, it takes no more commands than one that is done, and the clean that ran is not thrown back.
-    ensures stops { IfErr result (λ fault. StopsBy fault line bytes.now disk.old disk.new) }
-    // In any case what is durable of the drive is the same.
-    ensures durable { disk.new.drive.durable ≡ disk.old.drive.durable }
+    ensures stops { IsTrue disk.new.drive.clean → IfErr result (λ fault. StopsBy fault line bytes.now disk.old disk.new) }
+    // Then, in any case, what is durable of the drive is the same.
+    ensures durable { IsTrue disk.new.drive.clean → disk.new.drive.durable ≡ disk.old.drive.durable }
+    ensures shape { KeepsShape disk.old.drive disk.new.drive }
 {
     match line {
         TraceLine::Read { first, blocks } => read_blocks(disk, first, blocks, block, reply),
@@ -145,11 +148,12 @@ pub(crate) fn answer_request<D: Device + Honest + Drop>(
 }
 
 /// Flushes a disk, if that is asked for.
-pub(crate) fn flush_if<D: Device + Honest + Drop>(
-    disk: &mut Disk<D>,
+pub(crate) fn flush_if<D: Device + Drop>(
+    disk: &mut AnyDisk<D>,
     flushes: bool,
 ) -> Result<(), DiskFault>
-    ensures { FlushesIf flushes disk.old result disk.new }
+    ensures flushes { IsTrue disk.new.drive.clean → FlushesIf flushes disk.old result disk.new }
+    ensures shape { KeepsShape disk.old.drive disk.new.drive }
 {
     if !flushes {
         return Ok(());

@@ -1,8 +1,10 @@
+ghost use Rattle.std.specs.Prelude.{IsTrue};
+ghost use Rattle.zone_choice.specs.Sane.{KeepsShape};
 ghost use Rattle.zone_translator.specs.View.{DiskView};
 ghost use Rattle.disk_runs.specs.FlatLines.{flat};
-ghost use Rattle.disk_runs.specs.KeepingLaws.{nothing_same};
+ghost use Rattle.disk_runs.specs.KeepingLaws.{any_same};
 ghost use Rattle.disk_runs.specs.Run.{Runs, exchange};
-ghost use Rattle.disk_runs.specs.Taken.{disk_lines};
+ghost use Rattle.disk_runs.specs.Taken.{any_lines, disk_lines};
 ghost use Rattle.disk_runs.specs.Trace.{RunGives, RunLeaves, trace};
 ghost use Rattle.disk_runs.specs.declared.taking.Taking.{Taking};
 
@@ -14,12 +16,12 @@ use disk_files::{LineReader, ParseFault, TraceLine, WriteFault, is_skipped, writ
 use drive_port::{Device, Honest};
 use std::alloc::Global;
 use std::io::{Read, Write};
-use zone_translator::Disk;
+use zone_translator::{AnyDisk, Disk};
 
 /// Answers the lines of a trace by the calls of a disk.
 #[derive(Drop)]
 struct TraceAnswerer<D: Device + Drop> {
-    disk: Disk<D>,
+    disk: AnyDisk<D>,
     /// Which lines it takes, and how.
     taking: Taking,
     /// The data of the last line, if it was a `write`.
@@ -29,7 +31,7 @@ struct TraceAnswerer<D: Device + Drop> {
     reply: Vec<u8>,
 }
 
-impl<D: Device + Honest + Drop> Answerer for TraceAnswerer<D> {
+impl<D: Device + Drop> Answerer for TraceAnswerer<D> {
     ghost State = { DiskView };
 
     ghost state = { λ t. t.disk };
@@ -38,11 +40,11 @@ impl<D: Device + Honest + Drop> Answerer for TraceAnswerer<D> {
 
     ghost mode = { λ t. t.taking };
 
-    ghost language = { disk_lines };
+    ghost language = { any_lines };
 
     ghost reply = { λ t. t.reply.items };
 
-    ghost same = { λ _ disk. nothing_same disk };
+    ghost same = { λ by disk. any_same by disk };
 
     fn answer(&mut self, line: &[u8], number: u64) -> Result<(), RunFault> {
         self.reply.clear();
@@ -78,6 +80,32 @@ impl<D: Device + Honest + Drop> Answerer for TraceAnswerer<D> {
     }
 }
 
+/// Answers each line of the reader by the calls of a disk over any device, as [`answer_trace`] does. The disk is given
+/// back.
+///
+/// Whatever the device's Reads return, each line is answered or ends the run. As long as they returned what it holds, the
+/// answers are those of `answer_trace`: so are all replies before the first Read that lied.
+pub fn answer_any_trace<R: Read + Drop, W: Write, D: Device + Drop>(
+    alloc: Global,
+    taking: Taking,
+    reader: &mut LineReader<R>,
+    writer: &mut W,
+    disk: AnyDisk<D>,
+) -> (AnyDisk<D>, Result<(), RunFault>)
+    ensures { Runs (any_lines taking) (exchange reader.old.left (W.contents writer.old) (W.contents writer.new))
+        disk result.1 result.0 }
+{
+    let mut answerer = TraceAnswerer {
+        disk,
+        taking,
+        bytes: Vec::new(alloc),
+        block: Vec::new(alloc),
+        reply: Vec::new(alloc),
+    };
+    let result = answer_lines(reader, writer, &mut answerer);
+    (answerer.disk, result)
+}
+
 /// Answers each line of the reader by the calls of a disk, and writes its reply, until the lines end. `taking` says
 /// which lines are taken, and whether the disk is flushed before a reply. The disk is given back.
 ///
@@ -93,15 +121,9 @@ pub fn answer_trace<R: Read + Drop, W: Write, D: Device + Honest + Drop>(
     ensures { Runs (disk_lines taking) (exchange reader.old.left (W.contents writer.old) (W.contents writer.new))
         disk result.1 result.0 }
 {
-    let mut answerer = TraceAnswerer {
-        disk,
-        taking,
-        bytes: Vec::new(alloc),
-        block: Vec::new(alloc),
-        reply: Vec::new(alloc),
-    };
-    let result = answer_lines(reader, writer, &mut answerer);
-    (answerer.disk, result)
+    let (disk, result) = answer_any_trace(alloc, taking, reader, writer, disk.into_any());
+    disk.device().vouch();
+    (Disk::of(disk), result)
 }
 
 /// Mounts the drive as a disk of `blocks` logical blocks, and answers each line of the reader by its calls, as

@@ -23,7 +23,7 @@
 //! * A `Spread` has the least, the median and the most of some numbers. The text of the counts is in
 //!   specs/StatisticsText.
 //!
-//! Tests: the command lines with `--statistics` in `call_tests`.
+//! Tests: the command lines with `--statistics` in `job_tests`.
 #![tactic(auto)]
 
 mod counter;

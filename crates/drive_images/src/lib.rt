@@ -27,7 +27,7 @@
 //! * That an image is read and written once, to its end, is tested; so are readers and writers that fail, and images
 //!   that are cut or changed.
 //!
-//! Tests: the rows of `worked_runs`, and `images.rt` of `call_tests`.
+//! Tests: the rows of `worked_runs`, and `images.rt` of `job_tests`.
 #![tactic(auto)]
 
 mod counts;

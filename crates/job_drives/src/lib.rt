@@ -55,11 +55,11 @@
 //!   the output share. `tools/kill_runs` kills runs, and looks for answered lines that are lost.
 //! * The file of [`finish`]: it saves in a file of the system, of which no contract says anything.
 //! * That the drive has the habit that was asked for: `keep` may make each one lazy. The rows of `worked_runs` and
-//!   `call_tests` show that habits act.
+//!   `job_tests` show that habits act.
 //! * That the device keeps its stop during the calls of a disk, and what [`statistics_of`] says, is tested.
 //! * The texts of [`KeepFault`], which says why a job does not work on the drive in a file or why it is not saved.
 //!
-//! Tests: the rows of `nbd_rows`, `tool_rows` and `call_tests`; `tools/kill_runs` and `tools/two_programs`, on files.
+//! Tests: the rows of `nbd_rows`, `tool_rows` and `job_tests`; `tools/kill_runs` and `tools/two_programs`, on files.
 #![tactic(auto)]
 
 mod backing;

@@ -1,5 +1,6 @@
 -- What a job on a drive finds and does of which zones end in something foreign.
 use Rattle.std.specs.Prelude.{◌≡◌, ◌==◌, ℕ, Bool, false, if◌then◌else◌, List, [], length, Option, None, Result, Ok, Err, IfOk, is_none}
+use Rattle.std.specs.List.{All}
 use Rattle.disk_files.specs.Output.{AppendsFront}
 use Rattle.drive_inspection.specs.Findings.{AreFindings}
 use Rattle.drive_port.specs.Contents.{SameContents}
@@ -13,7 +14,7 @@ use Rattle.drive_survey.specs.declared.fault.MountFault.TheVariants as mounts
 use Rattle.job_drives.specs.Kept.{IsReadIn}
 use Rattle.job_drives.specs.Left.{IsLeft, IsUnread, LeavesFile}
 use Rattle.job_drives.specs.declared.left.Left.{Left}
-use Rattle.tail_repair.specs.Repair.{AreRepaired, AreTails, HaveLogs, KeepsBatches, KeepsDrive, may_change}
+use Rattle.tail_repair.specs.Repair.{AreRepaired, AreTails, AreWhereTold, FindFails, HaveLogs, KeepsBatches, KeepsDrive, RepairFails, may_change}
 use Rattle.tail_repair.specs.declared.fault.RepairFault.TheVariants as repair
 use Rattle.tail_repair.specs.declared.tails.ForeignTail.{ForeignTail}
 use Rattle.drive_inspection.specs.declared.finding.Findings.{Findings}
@@ -46,6 +47,12 @@ IsUntold Output old new = (text : List ℕ) × AppendsFront old new text
 
 -- ---- what is found
 
+-- why no zones are told of a drive
+abbrev pub ListFails : DriveState → DriveState → RepairJobFault → Type 0
+ListFails old new (File fault) = ⊥
+ListFails old new (Repair fault) = FindFails old new fault
+ListFails old new Output = Unit {0}
+
 -- just these zones end in something foreign, and this is whether there is none
 abbrev pub AreTailsOf : DriveState → Bool → List ForeignTail → Type 0
 AreTailsOf drive none tails = AreTails drive tails × (none ≡ (length tails == 0))
@@ -63,14 +70,16 @@ ListsNone file fault old new = IsUntold fault old new
 
 -- ---- what is done
 
--- A drive was repaired: each zone holds a log, and no batch is lost with which a zone began.
--- Just the zones are named that ended in something foreign. These are all faults that the drive has then.
+-- A drive was repaired: each zone holds a log, and no batch is lost with which a zone began. Just the zones are named
+-- that ended in something foreign, how many blocks their batches take, and where these are then. These are all faults
+-- that the drive has then.
 pub record Mends (old : DriveState) (mended : Mended) (new : DriveState) : Type 0 where
   pub drive : DriveState
   pub keeps : KeepsDrive old drive
   pub logs : HaveLogs drive
   pub moved : AreRepaired old mended.moved.items
   pub idle : mended.moved.items ≡ [] → SameContents old drive
+  pub there : All (AreWhereTold old drive) mended.moved.items
   pub faults : IfOk mended.found (AreFindings drive 1)
   pub looks : KeepsZones drive new
 
@@ -79,10 +88,10 @@ abbrev pub TellsMended : Result Findings Halt → Bool → Bytes → Bytes → T
 TellsMended (Ok findings) mountable old new = (mountable ≡ is_none findings.refusal) × TellsText (any_text findings) old new
 TellsMended (Err halt) mountable old new = ⊥
 
--- What a repair does to a drive, whatever ends it. A refused one changes no zone.
+-- What a repair does to a drive, whatever ends it. A fault has its cause, and a refused one changes no zone.
 abbrev pub MendsDrive : DriveState → Result Mended RepairJobFault → DriveState → Type 0
 MendsDrive old (Ok mended) new = Mends old mended new
-MendsDrive old (Err (Repair fault)) new = KeepsDrive old new × (may_change fault ≡ false → SameContents old new)
+MendsDrive old (Err (Repair fault)) new = KeepsDrive old new × RepairFails old new fault × (may_change fault ≡ false → SameContents old new)
 MendsDrive old (Err fault) new = ⊥
 
 -- what a repair leaves of the drive that the bytes of a file hold, whatever ended it

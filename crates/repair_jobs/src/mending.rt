@@ -3,10 +3,10 @@
 ghost use Rattle.std.specs.Prelude.{IfErr, IfOk};
 ghost use Rattle.drive_inspection.specs.Findings.{AreFindings};
 ghost use Rattle.drive_survey.specs.Reported.{KeepsZones};
-ghost use Rattle.tail_repair.specs.Repair.{AreTails, KeepsBatches};
+ghost use Rattle.tail_repair.specs.Repair.{AreTails, FindFails, KeepsBatches};
 ghost use Rattle.tool_jobs.specs.Asked.{any_text};
 ghost use Rattle.tool_jobs.specs.Telling.{TellsFound};
-ghost use Rattle.repair_jobs.specs.Jobs.{AreTailsOf, IsUntold, MendsDrive, TellsMended};
+ghost use Rattle.repair_jobs.specs.Jobs.{AreTailsOf, IsUntold, ListFails, MendsDrive, TellsMended};
 
 use crate::fault::{RepairJobFault, halt_of, untold};
 use crate::lists::TailLines;
@@ -29,6 +29,7 @@ pub struct Mended {
 /// The zones that end in something foreign.
 fn find<D: Device + Honest>(alloc: Global, device: &mut D) -> Result<Vec<ForeignTail>, RepairFault>
     ensures ok { IfOk result (λ tails. AreTails (D.drive device.old) tails.items) }
+    ensures err { IfErr result (FindFails (D.drive device.old) (D.drive device.new)) }
     ensures kept { KeepsZones (D.drive device.old) (D.drive device.new) }
 {
     let found = find_tails(alloc, device);
@@ -45,6 +46,7 @@ pub fn list_tails<D: Device + Honest, W: Write>(
     ensures ok { IfOk result (λ none. TellsFound (AreTailsOf (D.drive device.old) none) any_text
         (W.contents output.old) (W.contents output.new)) }
     ensures err { IfErr result (λ fault. IsUntold fault (W.contents output.old) (W.contents output.new)) }
+    ensures cause { IfErr result (ListFails (D.drive device.old) (D.drive device.new)) }
     ensures kept { KeepsZones (D.drive device.old) (D.drive device.new) }
 {
     let tails = match find(alloc, device) {

@@ -30,7 +30,7 @@
 //! * [`do_rescue`], [`rescue_to_output`] and [`ListFile`] open files, or write to them: no contract says what a file
 //!   holds. The texts of the lists are tested.
 //!
-//! Tests: the rows of `tool_rows`, and `rescues.rt` of `call_tests`.
+//! Tests: the rows of `tool_rows`, and `rescues.rt` of `job_tests`.
 #![tactic(auto)]
 
 mod explanation;

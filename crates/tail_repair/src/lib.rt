@@ -44,6 +44,8 @@
 //!
 //! * That memory ran out where a fault says so, and that `Unfinished` of a repair has a cause: a body that always answers
 //!   one of these meets the contract.
+//! * That a drive without room is refused before its first change: a repair that does not look first, and ends as
+//!   `Unfinished`, meets the contract.
 //! * That only the foreign zones and their destinations change, and that Empty zones are used from the lowest on. The
 //!   rows of `tool_rows` and tests show it.
 //!

@@ -25,7 +25,7 @@
 //!
 //! What the texts show is tested, also the dead and the free blocks of a zone.
 //!
-//! Tests: the rows of `tool_rows`, and `tools.rt` of `call_tests`.
+//! Tests: the rows of `tool_rows`, and `tools.rt` of `job_tests`.
 #![tactic(auto)]
 
 mod check_faults;

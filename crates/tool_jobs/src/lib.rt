@@ -7,7 +7,7 @@
 //! }
 //! ```
 //!
-//! A [`ToolJob`] says what is asked (`zonedisk_program` reads it). [`do_tool_job`] opens the file, and locks it as a
+//! A [`ToolJob`] says what is asked (`asked_tasks` reads it). [`do_tool_job`] opens the file, and locks it as a
 //! reader. [`answer_tool`] does the job over its bytes, by one of these. [`tool_note`] says what else is to be known.
 //!
 //! * [`answer_check`]: all faults of a drive, and whether a mount would be done.

@@ -32,7 +32,7 @@
 //! * That no greater number keeps a write amplification.
 //! * What the tables, the JSON, the plot and the advice on a size say is tested.
 //!
-//! Tests: the rows of `tool_rows`; the advice in `call_tests`.
+//! Tests: the rows of `tool_rows`; the advice in `job_tests`.
 #![tactic(auto)]
 
 mod advice;

@@ -36,7 +36,7 @@
 //!
 //! * Of zones in memory nothing is said of a loss of power; of zones in a file see `file_drive`.
 //! * No contract carries the habit of a drive through the calls of a disk: the trait `Device` does not say that a
-//!   command keeps it. The rows of `worked_runs` and `call_tests` show that it acts.
+//!   command keeps it. The rows of `worked_runs` and `job_tests` show that it acts.
 //!
 //! Each command has a file of its own.
 //!

@@ -54,6 +54,22 @@ impl<D: Device + Drop> Model for Disk<D> {
     ghost view = { λ d. d.disk };
 }
 
+impl<D: Device + Drop> Disk<D> {
+    /// The disk of this one over any device.
+    pub fn of(disk: AnyDisk<D>) -> Disk<D>
+        ensures { result ≡ disk }
+    {
+        Disk { disk }
+    }
+
+    /// The same disk, as one over any device.
+    pub fn into_any(self) -> AnyDisk<D>
+        ensures { result ≡ self }
+    {
+        self.disk
+    }
+}
+
 impl<D: Device + Honest + Drop> Disk<D> {
     /// The disk that a drive holds, of `blocks` logical blocks if no header on the drive says how many. The drive
     /// is checked, and what a stop left of it repaired: see `remount::mount`.

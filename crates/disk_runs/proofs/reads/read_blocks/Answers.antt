@@ -5,14 +5,14 @@ use Rattle.disk_runs.proofs.CallLaws.{in-range, replies_past, replies_shown}
 use Rattle.disk_runs.proofs.reads.read_blocks.Goals as goal
 
 pub returns-then-is_past_end-clause-ok : goal.returns-then-is_past_end-clause-ok
-returns-then-is_past_end-clause-ok g c =
+returns-then-is_past_end-clause-ok g c = λ clean.
     let told : c.out_of_range_reply.new.out.items ≡ c.args.reply.now.items ++ out_of_range_text = search rules in
     replies_past (flat_of c.args.disk.now) c.blocks-2.result c.args.first c.args.blocks c.args.reply.now.items c.out_of_range_reply.new.out.items
     c.blocks-2.ensures.size c.if-is_past_end.ensures c.requires.empty told
 
 pub returns-clause-ok : goal.returns-clause-ok
-returns-clause-ok g c =
-    let shown = c.in_ok-show_blocks.ensures.ok in
+returns-clause-ok g c = λ clean.
+    let shown = c.in_ok-show_blocks.ensures.ok clean in
     let told : c.ok_reply.new.out.items ≡ c.show_blocks.new.reply.items ++ ok_text = search rules in
     replies_shown (flat_of c.args.disk.now) (flat_of c.show_blocks.new.disk) c.blocks-2.result c.args.first c.args.blocks c.args.reply.now.items c.show_blocks.new.reply.items c.ok_reply.new.out.items
     c.blocks-2.ensures.size c.if-is_past_end.ensures shown.0 shown.1 c.requires.empty shown.2 told

@@ -1,31 +1,38 @@
 use Rattle.std.proofs.Common.{◌+◌, ◌∙◌, sym, arith}
+use Rattle.std.specs.Prelude.{IsTrue}
 use Rattle.zone_translator.proofs.KeepingLaws.{keeps_again, keeps_call}
 use Rattle.zone_translator.specs.View.{disk_array, disk_size, flat_of}
-use Rattle.disk_runs.proofs.CallLaws.{block_refused, block_shown, cause_of, line_more, reads_more, reads_within}
+use Rattle.disk_runs.proofs.CallLaws.{ShowsBlock, block_refused, block_shown, cause_of, line_more, reads_more, reads_within}
+use Rattle.disk_runs.proofs.ShapeLaws.{shape_join}
 use Rattle.disk_runs.proofs.reads.show_blocks.Goals as goal
 
 pub returns-in-Err-clause-err : goal.returns-in-Err-clause-err
-returns-in-Err-clause-err g c =
+returns-in-Err-clause-err g c = λ clean.
+    let was = c.read.ensures.alike.shape.trusted clean in
     block_refused (flat_of c.args.disk.now) (flat_of c.loop-i.disk) (flat_of c.read.new.self) c.args.first c.loop-i.i c.args.blocks c.read.new.into.items c.in-Err.fault
-    (omega (arith, c.loop-i-test.true)) c.requires.in_range c.loop-i.invariant.0 c.in-Err.ensures.answers.flat
+    (omega (arith, c.loop-i-test.true)) c.requires.in_range (c.loop-i.invariant.0 was) (c.in-Err.ensures.answers clean).flat
 
 pub returns-in-Err-clause-cause : goal.returns-in-Err-clause-cause
-returns-in-Err-clause-cause g c =
+returns-in-Err-clause-cause g c = λ clean.
+    let was = c.read.ensures.alike.shape.trusted clean in
     let refused = block_refused (flat_of c.args.disk.now) (flat_of c.loop-i.disk) (flat_of c.read.new.self) c.args.first c.loop-i.i c.args.blocks c.read.new.into.items c.in-Err.fault
-    (omega (arith, c.loop-i-test.true)) c.requires.in_range c.loop-i.invariant.0 c.in-Err.ensures.answers.flat in
-    cause_of c.read.new.self c.in-Err.fault refused.no_reply c.in-Err.ensures.answers.cause
+    (omega (arith, c.loop-i-test.true)) c.requires.in_range (c.loop-i.invariant.0 was) (c.in-Err.ensures.answers clean).flat in
+    cause_of c.read.new.self c.in-Err.fault refused.no_reply (c.in-Err.ensures.answers clean).cause
 
 pub loop-i-preserved : goal.loop-i-preserved
 loop-i-preserved g c =
-    let shows = block_shown (flat_of c.args.disk.now) (flat_of c.loop-i.disk) (flat_of c.read.new.self) c.args.first c.loop-i.i c.args.blocks c.read.new.into.items
-    (omega (arith, c.loop-i-test.true)) c.requires.in_range c.loop-i.invariant.0 c.in_default.ensures.answers.flat in (
-      shows.same,
-      λ some. shows.serves,
-      keeps_again c.args.disk.now c.loop-i.disk c.read.new.self c.loop-i.invariant.2 (keeps_call c.loop-i.disk c.read.new.self c.read.ensures.answers.kept),
+    let was : IsTrue c.read.new.self.drive.clean → IsTrue c.loop-i.disk.drive.clean = c.read.ensures.alike.shape.trusted in
+    let first : IsTrue c.loop-i.disk.drive.clean → IsTrue c.args.disk.now.drive.clean = c.loop-i.invariant.6.trusted in
+    let shows : IsTrue c.read.new.self.drive.clean → ShowsBlock (flat_of c.args.disk.now) (c.args.first + c.loop-i.i) c.read.new.into.items (flat_of c.read.new.self) = λ clean. block_shown (flat_of c.args.disk.now) (flat_of c.loop-i.disk) (flat_of c.read.new.self) c.args.first c.loop-i.i c.args.blocks c.read.new.into.items
+    (omega (arith, c.loop-i-test.true)) c.requires.in_range (c.loop-i.invariant.0 (was clean)) (c.in_default.ensures.answers clean).flat in (
+      λ clean. (shows clean).same,
+      λ clean some. (shows clean).serves,
+      λ clean. keeps_again c.args.disk.now c.loop-i.disk c.read.new.self (c.loop-i.invariant.2 (was clean)) (keeps_call c.loop-i.disk c.read.new.self (c.read.ensures.answers clean).kept),
       reads_more c.loop-i.i c.args.disk.now c.loop-i.disk c.read.new.self c.loop-i.invariant.3 c.read.ensures.turns c.read.ensures.completed,
-      line_more (disk_array c.args.disk.now) (disk_size c.args.disk.now) c.args.first c.loop-i.i c.args.blocks c.args.reply.now.items c.loop-i.reply.items c.block_line.new.out.items c.deref.result.now
-          (sym (c.requires.array shows.serves)) (omega (arith, c.loop-i-test.true)) c.requires.in_range (c.deref.ensures.value ∙ shows.bytes_are) c.loop-i.invariant.4 c.in_ok-block_line.ensures.ok,
-      c.read.ensures.answers.durable ∙ c.loop-i.invariant.5,
+      λ clean. line_more (disk_array c.args.disk.now) (disk_size c.args.disk.now) c.args.first c.loop-i.i c.args.blocks c.args.reply.now.items c.loop-i.reply.items c.block_line.new.out.items c.deref.result.now
+          (sym (c.requires.array (first (was clean)) (shows clean).serves)) (omega (arith, c.loop-i-test.true)) c.requires.in_range (c.deref.ensures.value ∙ (shows clean).bytes_are) (c.loop-i.invariant.4 (was clean)) c.in_ok-block_line.ensures.ok,
+      λ clean. (c.read.ensures.answers clean).durable ∙ c.loop-i.invariant.5 (was clean),
+      shape_join c.args.disk.now.drive c.loop-i.disk.drive c.read.new.self.drive c.loop-i.invariant.6 c.read.ensures.alike.shape,
     )
 
 pub returns-in-Err-clause-costs : goal.returns-in-Err-clause-costs

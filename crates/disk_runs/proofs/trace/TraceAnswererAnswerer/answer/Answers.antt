@@ -1,6 +1,7 @@
-use Rattle.std.proofs.Common.{◌≡◌, false, refl, rules}
+use Rattle.std.proofs.Common.{◌≡◌, false, true, refl, rules}
 use Rattle.disk_runs.specs.Taken.{takes_call}
-use Rattle.disk_runs.proofs.TakenLaws.{Says, answered, if_err, not_taken, refused, unflushed}
+use Rattle.disk_runs.specs.declared.fault.RunFault.TheVariants.{Disk}
+use Rattle.disk_runs.proofs.TakenLaws.{Says, answered, any_answered, any_stopped, if_err, not_taken, refused, unflushed}
 use Rattle.disk_runs.proofs.trace.TraceAnswererAnswerer.answer.Goals as goal
 
 pub returns-then-not-takes-clause-err : goal.returns-then-not-takes-clause-err
@@ -14,24 +15,35 @@ returns-then-not-takes-clause-err g c =
 
 pub returns-in_err-answer_request-clause-err : goal.returns-in_err-answer_request-clause-err
 returns-in_err-answer_request-clause-err g c =
+    let taking = c.args.self.now.taking in
     let fault = c.in_err-answer_request.field-0.0 in
     let stops = c.in_err-answer_request.ensures in
     let says : Says c.args.line.now c.in-Ok.request c.deref-2.result.now = record { some = search rules; said = search rules } in
+    let taken : takes_call taking c.args.self.now.disk.drive.geometry.block c.in-Ok.request c.deref-2.result.now ≡ true = search rules in
     if_err c.from_residual-in_err-answer_request.result fault _ c.from_residual-in_err-answer_request.ensures.1
-    (refused c.args.self.now.taking c.args.number c.args.self.now.disk c.answer_request.new.disk c.args.line.now c.deref-2.result.now c.in-Ok.request fault
-    (record { says = says; taken = search rules; flat = stops.err; cause = stops.cause; keeps = stops.leaves; does = stops.stops; durable = stops.durable }))
+    (any_stopped taking c.args.number c.args.self.now.disk c.answer_request.new.disk c.args.line.now c.deref-2.result.now c.in-Ok.request fault says taken stops.kind c.answer_request.ensures.shape.trusted
+    (λ clean. refused taking c.args.number c.args.self.now.disk c.answer_request.new.disk c.args.line.now c.deref-2.result.now c.in-Ok.request fault
+    (record { says = says; taken = taken; flat = stops.err clean; cause = stops.cause clean; keeps = stops.leaves clean; does = stops.stops clean; durable = stops.durable clean })))
 
 -- the flush of the line was refused
 pub returns-in-Err-clause-err : goal.returns-in-Err-clause-err
 returns-in-Err-clause-err g c =
+    let taking = c.args.self.now.taking in
     let did = c.in_ok-answer_request.ensures in
+    let then = c.flush_if.ensures.shape.trusted in
     let says : Says c.args.line.now c.in-Ok.request c.deref-2.result.now = record { some = search rules; said = search rules } in
-    unflushed c.args.self.now.taking c.args.number c.in-Err.fault c.args.self.now.disk c.answer_request.new.disk c.flush_if.new.disk c.args.line.now c.answer_request.new.reply.items c.deref-2.result.now c.in-Ok.request
-    (record { says = says; taken = search rules; flat = did.ok; does = did.does; durable = did.durable }) (rw c.flushes.ensures at c.in-Err.ensures)
+    let taken : takes_call taking c.args.self.now.disk.drive.geometry.block c.in-Ok.request c.deref-2.result.now ≡ true = search rules in
+    any_stopped taking c.args.number c.args.self.now.disk c.flush_if.new.disk c.args.line.now c.deref-2.result.now c.in-Ok.request (Disk c.in-Err.fault) says taken tt (λ clean. did.shape.trusted (then clean))
+    (λ clean. unflushed taking c.args.number c.in-Err.fault c.args.self.now.disk c.answer_request.new.disk c.flush_if.new.disk c.args.line.now c.answer_request.new.reply.items c.deref-2.result.now c.in-Ok.request
+    (record { says = says; taken = taken; flat = did.ok (then clean); does = did.does (then clean); durable = did.durable (then clean) }) (rw c.flushes.ensures at c.in-Err.ensures.flushes clean))
 
 pub returns-clause-ok : goal.returns-clause-ok
 returns-clause-ok g c =
+    let taking = c.args.self.now.taking in
     let did = c.in_ok-answer_request.ensures in
+    let then = c.flush_if.ensures.shape.trusted in
     let says : Says c.args.line.now c.in-Ok.request c.deref-2.result.now = record { some = search rules; said = search rules } in
-    answered c.args.self.now.taking c.args.self.now.disk c.answer_request.new.disk c.flush_if.new.disk c.args.line.now c.answer_request.new.reply.items c.deref-2.result.now c.in-Ok.request
-    (record { says = says; taken = search rules; flat = did.ok; does = did.does; durable = did.durable }) (rw c.flushes.ensures at c.in_default.ensures)
+    let taken : takes_call taking c.args.self.now.disk.drive.geometry.block c.in-Ok.request c.deref-2.result.now ≡ true = search rules in
+    any_answered taking c.args.self.now.disk c.flush_if.new.disk c.args.line.now c.answer_request.new.reply.items c.deref-2.result.now c.in-Ok.request says taken (λ clean. did.shape.trusted (then clean))
+    (λ clean. answered taking c.args.self.now.disk c.answer_request.new.disk c.flush_if.new.disk c.args.line.now c.answer_request.new.reply.items c.deref-2.result.now c.in-Ok.request
+    (record { says = says; taken = taken; flat = did.ok (then clean); does = did.does (then clean); durable = did.durable (then clean) }) (rw c.flushes.ensures at c.in_default.ensures.flushes clean))
