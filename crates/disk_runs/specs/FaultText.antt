@@ -44,6 +44,7 @@ mount_refusal mount.Spent = record { number = 9; name = codes "Spent" }
 mount_refusal mount.Halted = record { number = 10; name = codes "Halted" }
 mount_refusal mount.OutOfMemory = record { number = 11; name = codes "OutOfMemory" }
 mount_refusal (mount.TornZone zone) = record { number = 13; name = codes "TornZone" }
+mount_refusal mount.Damaged = record { number = 14; name = codes "Damaged" }
 
 -- why a zone holds no log
 abbrev pub log_refusal : LogFault → Refusal

@@ -47,6 +47,7 @@ fn mount_refusal(fault: MountFault) -> (u8, &'static str)
         MountFault::Halted => (10, "Halted"),
         MountFault::OutOfMemory => (11, "OutOfMemory"),
         MountFault::TornZone(_) => (13, "TornZone"),
+        MountFault::Damaged => (14, "Damaged"),
     }
 }
 

@@ -14,7 +14,7 @@ use Rattle.drive_port.proofs.ClosingLaws.{contents-closing, length-closing}
 use Rattle.batch_log.specs.Ending.{Ending, ended, failed, torn}
 use Rattle.batch_log.specs.Log.{Batch}
 use Rattle.drive_survey.specs.declared.fault.MountFault.{MountFault}
-use Rattle.drive_survey.specs.declared.fault.MountFault.TheVariants.{Reserve, Limits, ZoneUnusable, Log, SequenceRepeated, BlockOutOfRange, TooManyPartial, NoSpare, Spent, Halted, OutOfMemory, TornZone}
+use Rattle.drive_survey.specs.declared.fault.MountFault.TheVariants.{Reserve, Limits, ZoneUnusable, Log, SequenceRepeated, BlockOutOfRange, TooManyPartial, NoSpare, Spent, Halted, OutOfMemory, TornZone, Damaged}
 use Rattle.drive_survey.specs.declared.reported.ReportedZone.{ReportedZone}
 use Rattle.drive_survey.specs.declared.scan.ScannedZone.{ScannedZone}
 use Rattle.drive_survey.specs.Reported.{AreReported, KeepsZones, ReportsZones}

@@ -48,6 +48,7 @@ look-halts old new fault can fails = only-halts old new 1 fault can (fails-more 
     mount-too mounts.Spent bad = inl bad
     mount-too mounts.Halted bad = bad
     mount-too mounts.OutOfMemory bad = bad
+    mount-too mounts.Damaged bad = absurd bad
     mount-too (mounts.TornZone zone) bad = absurd bad
 
 -- ---- the size of a disk

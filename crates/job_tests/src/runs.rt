@@ -132,7 +132,7 @@ fn ends_where_the_writer_fails(rt: HostRuntime) -> Result<(), Fail> {
 }
 
 /// Faults and their lines. `worked_runs` shows the others.
-const FAULT_LINES: [(RunFault, &str); 8] = [
+const FAULT_LINES: [(RunFault, &str); 9] = [
     (
         RunFault::Long(u64::MAX),
         "fault long 18446744073709551615\n",
@@ -149,6 +149,10 @@ const FAULT_LINES: [(RunFault, &str); 8] = [
     (
         RunFault::Mount(MountFault::Log(0, 4, LogFault::Torn)),
         "fault mount 4 Log 0 4 7 Torn\n",
+    ),
+    (
+        RunFault::Mount(MountFault::Damaged),
+        "fault mount 14 Damaged\n",
     ),
     (RunFault::Input, "fault input\n"),
     (RunFault::Output, "fault output\n"),

@@ -372,6 +372,7 @@ plan-fault drive n resets fault sound spare clearing is = by fault (subst (λ (k
     by faults.TooManyPartial bad = absurd bad
     by faults.Halted bad = absurd bad
     by faults.OutOfMemory bad = absurd bad
+    by faults.Damaged bad = absurd bad
 
 -- a fault of planning the repair is a fault of the plan
 pub repair-refused : (old new : DriveState) (n : ℕ) (resets : List ℕ) (survey : Survey) (fault : MountFault) (geometry : Geometry) → geometry ≡ old.geometry → KeepsZones old new → AreSound (2 ^ 63) n (drive_logs old)
@@ -397,6 +398,7 @@ plan-mount drive n faults.BlockOutOfRange can logs has fails = absurd fails.1.2
 plan-mount drive n faults.TooManyPartial can logs has fails = absurd fails.1.2
 plan-mount drive n faults.Halted can logs has fails = absurd fails.1.2
 plan-mount drive n faults.OutOfMemory can logs has fails = absurd fails.1.2
+plan-mount drive n faults.Damaged can logs has fails = absurd fails.1.2
 
 plan-back : (old new : DriveState) (n : ℕ) (fault : MountFault) → KeepsZones old new → PlanFails new n fault → PlanFails old n fault
 plan-back old new n faults.NoSpare k none = λ spare. none (rw (kept-logs old new k, k.geometry) spare)
@@ -411,6 +413,7 @@ plan-back old new n faults.BlockOutOfRange k fails = absurd fails.1.2
 plan-back old new n faults.TooManyPartial k fails = absurd fails.1.2
 plan-back old new n faults.Halted k fails = absurd fails.1.2
 plan-back old new n faults.OutOfMemory k fails = absurd fails.1.2
+plan-back old new n faults.Damaged k fails = absurd fails.1.2
 
 -- a fault of the plan is a fault of the mount
 pub plan-refused : (old new last : DriveState) (n : ℕ) (survey : Survey) (fault : MountFault) → KeepsZones old new → Surveys old new n survey → FailsBy (PlanFails new n) last fault → FailsBy (MountFails old n) last fault

@@ -128,7 +128,7 @@ pub fn mount<D: Device>(alloc: Global, device: &mut D, given: u64) -> Result<Tab
     let plan = plan_mount(alloc, device, &mut survey)?;
     carry_out(alloc, device, &mut survey, &plan)?;
     if !are_short(&survey.zones, geometry.capacity) {
-        return Err(MountFault::NoSpare);
+        return Err(MountFault::Damaged);
     }
     let next = greatest_sequence(&survey.scanned)
         .max(greatest)

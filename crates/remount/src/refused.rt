@@ -5,14 +5,14 @@ ghost use Rattle.zone_choice.specs.Changes.{IsHalt};
 use drive_port::PortFault;
 use drive_survey::MountFault;
 
-/// What a fault of a command is to a mount. A device that obeys refuses no command of a mount. (Trial: `NoSpare` stands
-/// for the new fault `Damaged`.)
+/// What a fault of a command is to a mount. A device that returns what it holds
+/// refuses no command of a mount.
 pub(crate) fn fault_or_damaged(fault: PortFault) -> MountFault
     ensures { IsHalt fault → result ≡ mount_fault fault }
 {
     match fault {
         PortFault::Memory => MountFault::OutOfMemory,
         PortFault::Stopped => MountFault::Halted,
-        PortFault::Refused(_) => MountFault::NoSpare,
+        PortFault::Refused(_) => MountFault::Damaged,
     }
 }

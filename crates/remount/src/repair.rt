@@ -70,7 +70,7 @@ pub fn repair_zone<D: Device>(
 {
     finish_beside(alloc, device, survey, repair.zone)?;
     let Some(into) = lowest_empty(&survey.zones) else {
-        return Err(MountFault::NoSpare);
+        return Err(MountFault::Damaged);
     };
     let plan = plan_moves(alloc, device, survey, repair, into)?;
     close_alone(alloc, device, plan.torn, plan.reported)?;

@@ -288,6 +288,7 @@ scan-says old new zone (mounts.ZoneUnusable z) range fails = absurd (never old n
 scan-says old new zone mounts.BlockOutOfRange range fails = absurd (never old new zone mounts.BlockOutOfRange fails (λ is. absurd (cc)) (λ is. absurd (cc)) (λ o cause is. absurd (cc)) (λ is. absurd (cc)) (λ is. absurd (cc)))
 scan-says old new zone mounts.TooManyPartial range fails = absurd (never old new zone mounts.TooManyPartial fails (λ is. absurd (cc)) (λ is. absurd (cc)) (λ o cause is. absurd (cc)) (λ is. absurd (cc)) (λ is. absurd (cc)))
 scan-says old new zone mounts.NoSpare range fails = absurd (never old new zone mounts.NoSpare fails (λ is. absurd (cc)) (λ is. absurd (cc)) (λ o cause is. absurd (cc)) (λ is. absurd (cc)) (λ is. absurd (cc)))
+scan-says old new zone mounts.Damaged range fails = absurd (never old new zone mounts.Damaged fails (λ is. absurd (cc)) (λ is. absurd (cc)) (λ o cause is. absurd (cc)) (λ is. absurd (cc)) (λ is. absurd (cc)))
 scan-says old new zone (mounts.TornZone z) range fails = absurd (never old new zone (mounts.TornZone z) fails (λ is. absurd (cc)) (λ is. absurd (cc)) (λ o cause is. absurd (cc)) (λ is. absurd (cc)) (λ is. absurd (cc)))
 
 -- ---- headers

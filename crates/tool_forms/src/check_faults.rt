@@ -25,6 +25,7 @@ impl FaultKind {
             MountFault::Halted => (10, "Halted"),
             MountFault::OutOfMemory => (11, "OutOfMemory"),
             MountFault::TornZone(_) => (13, "TornZone"),
+            MountFault::Damaged => (14, "Damaged"),
         };
         FaultKind { number, name }
     }

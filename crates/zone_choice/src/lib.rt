@@ -35,7 +35,7 @@
 //!
 //! Whatever the Reads returned, an Append ends. The tables count a batch that was appended and no other, and their
 //! numbers stay in range (`TablesAfter` and `IsSane` in specs/Sane). Where a drive is not clean it may refuse a command,
-//! and the fault says so. The calls of `honest` are for a device that is always clean.
+//! and the fault says so.
 //!
 //! Tests: the rows of `worked_runs`.
 #![tactic(auto)]
@@ -43,7 +43,6 @@
 mod append;
 mod batch;
 mod empties;
-pub mod honest;
 mod laws;
 mod mounted;
 mod roles;

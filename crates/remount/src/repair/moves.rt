@@ -117,11 +117,11 @@ fn copy_record<D: Device>(
     };
     let start = geometry.start_of(zone.number);
     if address < start {
-        return Err(MountFault::NoSpare);
+        return Err(MountFault::Damaged);
     }
     let offset = address - start;
     if offset >= zone.reported.blocks as u64 {
-        return Err(MountFault::NoSpare);
+        return Err(MountFault::Damaged);
     }
     if let Err(fault) = read(device, address, 1, &mut next.block) {
         return Err(fault_or_damaged(fault));
@@ -350,7 +350,7 @@ fn make_move<D: Device>(
     build_move(device, plan, tables, number, &mut moves.next)?;
     let block_bytes = device.geometry().block;
     if !can_push(&moves.heads, &moves.next.batch) {
-        return Err(MountFault::NoSpare);
+        return Err(MountFault::Damaged);
     }
     push_built(&mut moves.heads, &moves.next.batch, block_bytes)?;
     append_move(alloc, device, plan.into, &moves.next.batch)

@@ -160,11 +160,11 @@ pub(crate) fn plan_moves<D: Device>(
 {
     let why = why_needed(alloc, device, survey, repair.zone)?;
     if !is_last_in(&repair.blocks, why) {
-        return Err(MountFault::NoSpare);
+        return Err(MountFault::Damaged);
     }
     let size = survey.scanned[repair.zone as usize].heads.size();
     if !is_size(size) {
-        return Err(MountFault::NoSpare);
+        return Err(MountFault::Damaged);
     }
     let order = ordered(alloc, &repair.blocks, why)?;
     let most = batch_most(&device.geometry());
@@ -182,7 +182,7 @@ pub(crate) fn plan_moves<D: Device>(
     };
     let count = plan.count();
     if !lasts(next, count) {
-        return Err(MountFault::NoSpare);
+        return Err(MountFault::Damaged);
     }
     Ok(plan)
 }
