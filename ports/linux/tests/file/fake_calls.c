@@ -41,7 +41,9 @@ static size_t shorter(size_t length) {
 ssize_t __wrap_pread(int file, void *room, size_t length, off_t at) {
     calls.reads++;
     if (is_interrupted() || fails(calls.read_error)) return -1;
-    return __real_pread(file, room, shorter(length), at);
+    ssize_t count = __real_pread(file, room, shorter(length), at);
+    if (at == 0 && count > 0 && calls.changes > 0) *(unsigned char *)room = (unsigned char)(101 + calls.changes--);
+    return count;
 }
 
 ssize_t __wrap_pwrite(int file, const void *bytes, size_t length, off_t at) {

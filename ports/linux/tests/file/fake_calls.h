@@ -7,6 +7,7 @@
 struct calls {
     size_t most_bytes;      // the most that one call reads or writes, or 0 for all
     unsigned interruptions; // so many of the next reads, writes and holes are interrupted first
+    unsigned changes;       // so many of the next reads of the first byte of a file find it changed
     unsigned writes_left;   // so many writes are done before one fails by `write_error`
     int read_error, write_error, data_error, lock_error, look_error, length_error, file_error, folder_error,
         hole_error;

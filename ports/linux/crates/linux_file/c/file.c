@@ -3,6 +3,7 @@
 #include "file.h"
 #include "counts.h"
 #include "holder.h"
+#include "tell.h"
 #include <errno.h>
 #include <fcntl.h>
 #include <libgen.h>
@@ -14,7 +15,7 @@
 #include <sys/stat.h>
 #include <unistd.h>
 
-enum { MOST_SESSIONS = 16, WORD = 8 };
+enum { MOST_SESSIONS = 16, MOST_TRIES = 2000, WORD = 8 };
 
 struct session {
     uint64_t number; // from 1 on, or 0 where there is none
@@ -22,7 +23,10 @@ struct session {
     uint64_t size; // of the file, in bytes
     int file;
     uint32_t late; // the error of the sync at the opening, which the first sync of the session gives, or 0
-    bool is_lost;  // a sync has failed
+    bool is_lost;  // a sync has failed, or the first bytes of a file that is looked at have changed
+    uint8_t *held; // the first bytes of such a file, as they were at one moment, or NULL
+    uint8_t *seen; // room for as many, to look at them again
+    size_t held_length;
 };
 
 static struct session sessions[MOST_SESSIONS];
@@ -121,16 +125,26 @@ static uint32_t go_by_disk(int file) {
 }
 
 // A file is looked at before it is opened, since opening a device may do something, and a pipe waits for its other end.
-static uint32_t open_regular(const char *name, bool is_writable, int *file, uint64_t *size, uint32_t *late) {
+static uint32_t open_regular(const char *name, int how, int *file) {
     struct stat seen;
     if (stat(name, &seen) != 0) return number_of(-1);
     if (!S_ISREG(seen.st_mode)) return NOT_REGULAR;
-    *file = open(name, (is_writable ? O_RDWR : O_RDONLY) | O_CLOEXEC);
-    if (*file < 0) return number_of(-1);
-    uint32_t number = lock(*file, is_writable ? LOCK_EX : LOCK_SH);
-    if (number == 0) number = number_of(fstat(*file, &seen));
-    if (number == 0 && is_writable) *late = go_by_disk(*file);
+    *file = open(name, how | O_CLOEXEC);
+    return *file < 0 ? number_of(-1) : 0;
+}
+
+static uint32_t length_of(int file, uint64_t *size) {
+    struct stat seen = {0};
+    uint32_t number = number_of(fstat(file, &seen));
     *size = (uint64_t)seen.st_size;
+    return number;
+}
+
+static uint32_t open_locked(const char *name, bool is_writable, int *file, uint64_t *size, uint32_t *late) {
+    uint32_t number = open_regular(name, is_writable ? O_RDWR : O_RDONLY, file);
+    if (number == 0) number = lock(*file, is_writable ? LOCK_EX : LOCK_SH);
+    if (number == 0) number = length_of(*file, size);
+    if (number == 0 && is_writable) *late = go_by_disk(*file);
     return number;
 }
 
@@ -140,8 +154,18 @@ uint32_t zonedisk_file_open(const uint8_t *path, size_t length, bool is_writable
     uint32_t late = 0;
     *size = 0;
     uint32_t number = copy_path(name, path, length);
-    if (number == 0) number = open_regular(name, is_writable, &file, size, &late);
+    if (number == 0) number = open_locked(name, is_writable, &file, size, &late);
     return begin(number, file, *size, late, session);
+}
+
+uint32_t zonedisk_file_look(const uint8_t *path, size_t length, uint64_t *size, uint64_t *session) {
+    char name[PATH_MAX];
+    int file = -1;
+    *size = 0;
+    uint32_t number = copy_path(name, path, length);
+    if (number == 0) number = open_regular(name, O_RDONLY, &file);
+    if (number == 0) number = length_of(file, size);
+    return begin(number, file, *size, 0, session);
 }
 
 // Syncs the folder of a file, so that the file's name is durable. A file system that syncs no folders says EINVAL: then
@@ -186,10 +210,8 @@ static uint32_t fault_of(const struct session *used, uint64_t at, size_t length)
     return is_within(used, at, length) ? 0 : EINVAL;
 }
 
-uint32_t zonedisk_file_read(uint64_t session, uint64_t moment, uint64_t at, uint8_t *room, size_t length) {
-    const struct session *used = session_at(session, moment);
-    uint32_t number = fault_of(used, at, length);
-    if (number != 0) return number;
+static uint32_t read_range(const struct session *used, uint64_t at, uint8_t *room, size_t length) {
+    uint32_t number = 0;
     size_t done = 0;
     while (done < length && number == 0) {
         ssize_t count = pread(used->file, room + done, length - done, (off_t)(at + done));
@@ -198,6 +220,66 @@ uint32_t zonedisk_file_read(uint64_t session, uint64_t moment, uint64_t at, uint
         else if (errno != EINTR) number = (uint32_t)errno;
     }
     count_bytes(FILE_READS, FILE_BYTES_READ, done);
+    return number;
+}
+
+// Looks at the first bytes of a file again: whether they are still those that are held.
+static uint32_t look_again(struct session *used) {
+    uint32_t number = read_range(used, 0, used->seen, used->held_length);
+    if (number != 0 || memcmp(used->seen, used->held, used->held_length) == 0) return number;
+    used->is_lost = true;
+    zonedisk_tell_changed();
+    return ESTALE;
+}
+
+// Reads a file as of the moment at which its first bytes were held. Whoever changes the file so that later bytes of
+// that moment are gone changes the first bytes before. So they are looked at after the read.
+static uint32_t read_held(struct session *used, uint64_t at, uint8_t *room, size_t length) {
+    if (at >= used->held_length) {
+        uint32_t number = read_range(used, at, room, length);
+        return number == 0 ? look_again(used) : number;
+    }
+    if (length > used->held_length - at) return EINVAL;
+    memcpy(room, used->held + at, length);
+    return 0;
+}
+
+uint32_t zonedisk_file_read(uint64_t session, uint64_t moment, uint64_t at, uint8_t *room, size_t length) {
+    struct session *used = session_at(session, moment);
+    uint32_t number = fault_of(used, at, length);
+    if (number != 0) return number;
+    return used->held == NULL ? read_range(used, at, room, length) : read_held(used, at, room, length);
+}
+
+// Reads the first bytes of a file until they are twice the same: then they were so at the moment between the two reads.
+// Only a word that changed and changed back between them may have been another one then.
+static uint32_t read_twice(struct session *used) {
+    uint32_t number = read_range(used, 0, used->seen, used->held_length);
+    for (unsigned tries = 0; number == 0 && tries < MOST_TRIES; tries++) {
+        number = read_range(used, 0, used->held, used->held_length);
+        if (number == 0 && memcmp(used->held, used->seen, used->held_length) == 0) return 0;
+        uint8_t *newest = used->held;
+        used->held = used->seen;
+        used->seen = newest;
+    }
+    return number == 0 ? CHANGING : number;
+}
+
+static void let_go(struct session *used) {
+    free(used->held);
+    free(used->seen);
+    used->held = used->seen = NULL;
+}
+
+uint32_t zonedisk_file_hold(uint64_t session, uint64_t *moment, uint64_t length) {
+    struct session *used = change_at(session, moment);
+    uint32_t number = length == 0 || used->held != NULL ? EINVAL : fault_of(used, 0, length);
+    if (number != 0) return number;
+    used->held_length = length;
+    used->held = malloc(length);
+    used->seen = malloc(length);
+    number = used->held == NULL || used->seen == NULL ? ENOMEM : read_twice(used);
+    if (number != 0) let_go(used);
     return number;
 }
 
@@ -259,5 +341,6 @@ void zonedisk_file_release(uint64_t session, uint64_t *moment, uint64_t at, uint
 void zonedisk_file_close(uint64_t session) {
     struct session *used = session_of(session);
     close(used->file);
+    let_go(used);
     used->number = 0;
 }

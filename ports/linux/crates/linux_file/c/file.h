@@ -18,12 +18,23 @@ enum refusal {
     NOT_REGULAR = 0x10000, // a folder, a device, a pipe
     LOCKED = 0x10001,      // another program has it, and one of the two wants to change it
     EXISTS = 0x10002,      // a new file was asked for, and something is there
+    CHANGING = 0x10003,    // another program changes the first bytes all the time
 };
 
 // Opens and locks a file that is there, and tells its length in bytes. A file that is only read is locked against
 // changes alone. One that may be changed is synced, so that what earlier programs wrote is on the disk. If that fails,
 // the first sync of the session says so.
 uint32_t zonedisk_file_open(const uint8_t *path, size_t length, bool is_writable, uint64_t *size, uint64_t *session);
+
+// Opens a file that is there to look at it, beside a program that may change it, and tells its length. It can only be
+// read, and is not locked.
+uint32_t zonedisk_file_look(const uint8_t *path, size_t length, uint64_t *size, uint64_t *session);
+
+// Holds so many first bytes of a file in memory, as they are at one moment. From then on the session shows the file as
+// of that moment. Each read of later bytes looks at the first ones in the file again. Once they have changed, it gives
+// ESTALE, a line on standard error says so, and each later call gives EIO. A read of both kinds of bytes gives EINVAL.
+// It is CHANGING if none of many tries sees the first bytes twice in the same way.
+uint32_t zonedisk_file_hold(uint64_t session, uint64_t *moment, uint64_t length);
 
 // Makes and locks a file of so many zeros, and syncs it and its folder. Where that fails, it is removed again.
 uint32_t zonedisk_file_create(const uint8_t *path, size_t length, uint64_t size, uint64_t *session);

@@ -17,3 +17,11 @@ void zonedisk_tell_unknown_boot(void) {
     is_told = true;
     fputs("zonedisk: the boot of the system is not known: if the program is killed, what was not flushed is lost\n", stderr);
 }
+
+void zonedisk_tell_beside(void) {
+    fputs("zonedisk: another program has the drive: it is shown as of one moment, its open zones as Closed\n", stderr);
+}
+
+void zonedisk_tell_changed(void) {
+    fputs("zonedisk: another program has changed the drive meanwhile, so it cannot be shown: try again\n", stderr);
+}

@@ -9,3 +9,9 @@ void zonedisk_tell_set_back(void);
 
 // Tells, once in a process, that the boot of the system is not known.
 void zonedisk_tell_unknown_boot(void);
+
+// Tells that a drive is shown beside the program that has its file.
+void zonedisk_tell_beside(void);
+
+// Tells that another program changed the drive while this one looked at it.
+void zonedisk_tell_changed(void);
