@@ -102,6 +102,15 @@ pub trait Devices {
     ) -> Result<Self::Reader, DeviceFault>
         ensures { has_way self.now ≡ false → HasNoWay result };
 
+    /// Opens the device of this path to look at it. If another program has it, a way may still show the drive as it is
+    /// at one moment, and says so. Then a Read stops the drive once that program has changed it. As written here, it
+    /// opens the device as [`Devices::open_reader`] does.
+    fn open_beside(&self, alloc: Global, path: &str) -> Result<Self::Reader, DeviceFault>
+        ensures { has_way self.now ≡ false → HasNoWay result }
+    {
+        self.open_reader(alloc, path, Habit::Lazy)
+    }
+
     /// Opens the device of this path as a source of a rescue. It is only read, and a block that cannot be read is told as
     /// such where the way can tell it.
     fn open_source(&self, alloc: Global, path: &str) -> Result<Self::Source, DeviceFault>

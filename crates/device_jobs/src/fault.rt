@@ -33,6 +33,9 @@ pub enum DeviceFault {
     /// Another program has it.
     #[error("is in use by another program")]
     Busy,
+    /// Another program has it, and changes it all the time.
+    #[error("is in use by another program, which changes it too quickly to look at it: try again")]
+    Changing,
     /// The block device of the namespace is mounted, or the system uses it in another way.
     #[error("is in use: its block device is mounted, or the system has it")]
     Mounted,

@@ -12,7 +12,8 @@
 //!
 //! A drive that stays in its file is opened by such a way, too. It alone can be made: [`DeviceJob::Create`] is done by
 //! the way itself. And it alone can be read without a change: what only reads opens it by [`Devices::open_reader`].
-//! A rescue opens any drive by [`Devices::open_source`].
+//! A report, and what tells what a drive holds, open it by [`Devices::open_beside`]: such a drive is shown also if
+//! another program has it. A rescue opens any drive by [`Devices::open_source`].
 //!
 //! No drive is restarted before a job, and none is saved after it: the drive itself keeps what is done.
 //!

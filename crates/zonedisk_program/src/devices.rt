@@ -275,7 +275,7 @@ fn do_report<R: Eprint, D: Devices, W: Write>(
 ) -> ExitCode
     ensures { D.has_way devices.now ≡ false → exit_status result ≡ 1 }
 {
-    let mut drive = match devices.open_reader(alloc, path, Habit::Lazy) {
+    let mut drive = match devices.open_beside(alloc, path) {
         Ok(drive) => drive,
         Err(fault) => return refuse_lines(rt, path, fault, output),
     };
@@ -299,7 +299,7 @@ fn do_zones<R: Eprint, D: Devices, W: Write>(
 ) -> ExitCode
     ensures { D.has_way devices.now ≡ false → exit_status result ≡ 1 }
 {
-    let mut drive = match devices.open_reader(alloc, &job.image, Habit::Lazy) {
+    let mut drive = match devices.open_beside(alloc, &job.image) {
         Ok(drive) => drive,
         Err(fault) => return refuse(rt, &job.image, fault),
     };
@@ -468,7 +468,7 @@ fn do_info<R: Eprint, D: Devices, W: Write>(
 ) -> ExitCode
     ensures { D.has_way devices.now ≡ false → exit_status result ≡ 1 }
 {
-    let mut drive = match devices.open_reader(alloc, &job.image, Habit::Lazy) {
+    let mut drive = match devices.open_beside(alloc, &job.image) {
         Ok(drive) => drive,
         Err(fault) => return refuse(rt, &job.image, fault),
     };
