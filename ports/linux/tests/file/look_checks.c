@@ -5,7 +5,7 @@
 #include "session.h"
 #include <fcntl.h>
 
-enum { SIZE = 5000, FIRST = 1000, LOST = ESTALE };
+enum { SIZE = 250000, FIRST = 200000, LOST = ESTALE };
 
 static uint8_t bytes[SIZE], room[SIZE];
 
@@ -50,6 +50,17 @@ static uint32_t answer(uint64_t session, uint64_t moment, uint64_t at, size_t le
     return zonedisk_file_read(session, moment, at, room, length);
 }
 
+// The same where a line on standard error is part of it.
+static uint32_t quiet_answer(uint64_t session, uint64_t moment, uint64_t at, size_t length) {
+    int kept = dup(2), nothing = open("/dev/null", O_WRONLY);
+    dup2(nothing, 2);
+    uint32_t number = answer(session, moment, at, length);
+    dup2(kept, 2);
+    close(kept);
+    close(nothing);
+    return number;
+}
+
 static void try_look(void) {
     uint64_t served = served_file(5), session, size;
     unsigned before = open_files();
@@ -92,7 +103,7 @@ static void try_held(void) {
     expect(reads(seen, 2, 0, FIRST) && reads(seen, 2, 3, 1), "first bytes that are held");
     expect(answer(seen, 2, FIRST - 1, 2) == EINVAL, "a read of both kinds of bytes");
     expect(answer(seen, 2, SIZE, 1) == EINVAL && reads(seen, 2, 0, 1), "a byte past the end does no harm");
-    expect(answer(seen, 2, FIRST, 1) == LOST, "later bytes once the first ones have changed");
+    expect(quiet_answer(seen, 2, FIRST, 1) == LOST, "later bytes once the first ones have changed");
     expect(answer(seen, 2, 0, 1) == EIO && answer(seen, 2, FIRST, 1) == EIO, "each call after that");
     zonedisk_file_close(seen);
     seen = holding();
@@ -119,7 +130,7 @@ static void try_changing(void) {
 
 static void try_calls(void) {
     uint64_t served = served_file(6), seen = looking(), moment = 0;
-    calls = (struct calls){.interruptions = 9, .most_bytes = 7};
+    calls = (struct calls){.interruptions = 9, .most_bytes = 777};
     expect(zonedisk_file_hold(seen, &moment, FIRST) == 0 && reads(seen, 1, FIRST, 100), "calls that do less");
     zonedisk_file_close(seen);
     seen = looking(), moment = 0;
@@ -136,6 +147,35 @@ static void try_calls(void) {
     calls = (struct calls){0};
     expect(reads(seen, 1, FIRST, 1), "and then they can");
     zonedisk_file_close(seen);
+    zonedisk_file_close(served);
+}
+
+// Writes one number after the other to two words of a file, the first word first.
+static void write_on(uint64_t served) {
+    uint64_t moment = 1;
+    for (uint64_t number = 1;; number++) {
+        zonedisk_file_write_word(served, &moment, 0, (const uint8_t *)&number);
+        zonedisk_file_write_word(served, &moment, FIRST - 8, (const uint8_t *)&number);
+    }
+}
+
+// Whether the two words are of one moment in a look beside that.
+static bool is_of_one_moment(void) {
+    uint64_t seen = holding(), first = 0, second = 0;
+    zonedisk_file_read(seen, 1, 0, (uint8_t *)&first, 8);
+    zonedisk_file_read(seen, 1, FIRST - 8, (uint8_t *)&second, 8);
+    zonedisk_file_close(seen);
+    return first == second || first == second + 1;
+}
+
+// A program that changes the first bytes as fast as it can.
+static void try_race(void) {
+    uint64_t served = served_file(0);
+    pid_t child = fork();
+    if (child == 0) write_on(served);
+    for (unsigned i = 0; i < 500; i++) expect(is_of_one_moment(), "a moment beside a program that writes");
+    kill(child, SIGKILL);
+    waitpid(child, NULL, 0);
     zonedisk_file_close(served);
 }
 
@@ -173,6 +213,7 @@ int main(int count, char **words) {
     try_held();
     try_changing();
     try_calls();
+    try_race();
     try_moments();
     uint64_t served = served_file(5);
     expect(ends_well(be_told, served), "what people are told of a change");
