@@ -1,6 +1,5 @@
 -- What clap makes of the words of the program, and what refutes each job.
 use Rattle.std.proofs.Common.{◌≡◌, ◌∙◌, ◌⊎◌, ◌≢◌, inl, inr, ℕ, ◌<◌, ◌≤◌, ◌^◌, Bool, true, false, ◌&&◌, List, [], ◌∷◌, ap, refl, sym, subst, Option, Some, None, Result, Ok, Err, IsErrAnd, IsSomeAnd, arith, ne_eqb, leb-true, is_some, option_map}
-use Rattle.std.proofs.lemmas.Result.{err_from_is_err_and}
 use Rattle.std.specs.Prelude.{MatchOption}
 use Rattle.std.specs.Borrow.{Bor}
 use Rattle.std.specs.Char.{digit_value, is_ascii_digit}
@@ -73,9 +72,10 @@ module _ (names : Bor (List (Bor Text))) (words : List Text) (error : Error) (ar
   pub refusal_is : IsAnswerTo words (Err error)
   refusal_is = record { names = names; are_habits = are_habits; task = tt; refusal = refuses }
 
-  -- an error that is handed on
-  pub refusal_exits : (answer : Result Task Error) → IsErrAnd answer (λ e. e ≡ error) → IsAnswerTo words answer
-  refusal_exits answer is = let e = err_from_is_err_and answer is in rw (e.1, e.2) refusal_is
+-- an error of the same kind refuses the same words
+pub same_kind : (names : Bor (List (Bor Text))) (words : List Text) (error own : Error) → kind_of own ≡ kind_of error → Refuses names words error → Refuses names words own
+same_kind names words error own is (inl memory) = inl (is ∙ memory)
+same_kind names words error own is (inr none) = inr none
 
 -- ---- a number
 

@@ -1,6 +1,7 @@
 // What people are told of words that are no task.
 
-ghost use Rattle.std.specs.Prelude.{◌≢◌, IfOk};
+ghost use Rattle.std.specs.Prelude.{◌≡◌, ◌≢◌, IfOk};
+ghost use Rattle.clap.specs.Values.{kind_of};
 ghost use Rattle.asked_tasks.specs.declared.words.WordFault.TheVariants.{Memory};
 
 use crate::words::{WordFault, given};
@@ -17,6 +18,11 @@ const STATES: &str = "Empty, ImplicitlyOpened, ExplicitlyOpened, Closed, ReadOnl
 const COMMANDS: &str = "append, read, write, flush, close, finish, open, reset, offline, report";
 
 const DIGITS: &str = "a whole number, as 4096";
+
+/// What the library that reads the words says of a value that is no number, and of an empty one.
+const NO_DIGITS: &str = "invalid digit found in string";
+
+const EMPTY: &str = "cannot parse integer from empty string";
 
 const SIZE: &str = "a number, then K, M, G or T, or none of them";
 
@@ -95,6 +101,21 @@ impl Asked<'_, '_> {
         )?;
         self.refused(ErrorKind::MissingRequiredArgument, &text)
     }
+}
+
+/// A refusal by the library that reads the words. A value that is no number is told as all others are told here.
+pub fn in_own_words(alloc: Global, words: &[String], error: Error) -> Result<Error, AllocError>
+    ensures { IfOk result (λ own. kind_of own ≡ kind_of error) }
+{
+    let text = format!(in alloc; "{error}")?;
+    let cut = text.split_once(NO_DIGITS).or(text.split_once(EMPTY));
+    let Some((front, _)) = cut else {
+        return Ok(error);
+    };
+    let name = words.get(1).map_or("", |word| word.as_str());
+    let value = front.trim_start_matches("error: ");
+    let told = format!(in alloc; "{value}{DIGITS}")?;
+    subcommand_named(alloc, HABITS.as_slice(), name)?.error(error.kind(), &told)
 }
 
 /// What was asked by these words.

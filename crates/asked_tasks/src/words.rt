@@ -14,7 +14,7 @@ use crate::failing::fail_of;
 use crate::forgetting::forget_of;
 use crate::place::{Place, drive_path};
 use crate::raw_words::entry_words;
-use crate::refusal::refusal;
+use crate::refusal::{in_own_words, refusal};
 use crate::task::Task;
 use crate::tool_words::{check_job, info_job, is_missing, is_set, plan_tool, zones_form};
 use clap::{ArgMatches, Error};
@@ -492,7 +492,10 @@ pub fn task_of(alloc: Global, words: &[String]) -> Result<Task, Error>
     ensures { IsAnswerTo (map string_bytes words.now) result }
 {
     let mut program = program(alloc, HABITS.as_slice())?;
-    let matches = program.try_get_matches_from_mut(words)?;
+    let matches = match program.try_get_matches_from_mut(words) {
+        Ok(matches) => matches,
+        Err(error) => return Err(in_own_words(alloc, words, error)?),
+    };
     match asked(alloc, &matches) {
         Ok(task) => Ok(task),
         Err(fault) => Err(refusal(alloc, &matches, fault)?),

@@ -127,7 +127,7 @@ fn reads_the_words_of_tools(rt: HostRuntime) {
 }
 
 /// What is told of refused words: the word, what is taken in its place, and the usage of the subcommand.
-const REFUSED_WORDS: [(&str, &str); 7] = [
+const REFUSED_WORDS: [(&str, &str); 8] = [
     (
         "zonedisk report --image a --state half",
         "error: invalid value 'half' for '--state'
@@ -141,6 +141,15 @@ For more information, try '--help'.
     (
         "zonedisk run --image a --blocks +9",
         "error: invalid value '+9' for '--blocks': a whole number, as 4096
+
+Usage: zonedisk run [OPTIONS] --blocks <N>
+
+For more information, try '--help'.
+",
+    ),
+    (
+        "zonedisk run --image a --blocks 4k",
+        "error: invalid value '4k' for '--blocks <N>': a whole number, as 4096
 
 Usage: zonedisk run [OPTIONS] --blocks <N>
 
