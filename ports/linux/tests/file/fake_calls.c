@@ -2,7 +2,7 @@
 #include "fake_calls.h"
 #include <errno.h>
 #include <fcntl.h>
-#include <stdbool.h>
+#include <stdarg.h>
 #include <stdio.h>
 #include <string.h>
 #include <sys/file.h>
@@ -21,6 +21,7 @@ int __real_ftruncate(int file, off_t length);
 int __real_fallocate(int file, int mode, off_t at, off_t length);
 int __real_posix_fadvise(int file, off_t at, off_t length, int advice);
 FILE *__real_fopen(const char *path, const char *mode);
+int __real_open(const char *path, int how, ...);
 
 // Whether a call fails, by an error that is not 0.
 static bool fails(int error) {
@@ -96,4 +97,14 @@ FILE *__wrap_fopen(const char *path, const char *mode) {
     bool is_boot = strcmp(path, "/proc/sys/kernel/random/boot_id") == 0;
     if (is_boot) calls.boot_reads++;
     return __real_fopen(is_boot && calls.boot_path != NULL ? calls.boot_path : path, mode);
+}
+
+int __wrap_open(const char *path, int how, ...) {
+    va_list words;
+    va_start(words, how);
+    mode_t mode = (how & O_CREAT) != 0 ? va_arg(words, mode_t) : 0;
+    va_end(words);
+    bool is_held = strncmp(path, "/proc/self/fd/", 14) == 0;
+    if (is_held && calls.at_open != NULL) calls.at_open();
+    return is_held && calls.has_no_proc && fails(ENOENT) ? -1 : __real_open(path, how, mode);
 }

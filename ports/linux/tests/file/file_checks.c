@@ -216,7 +216,8 @@ static void try_errors(void) {
 }
 
 static void try_failed_sync(void) {
-    uint64_t session = new_file(PATH, 100), moment = 0;
+    zonedisk_file_close(new_file(PATH, 100));
+    uint64_t session = old_file(PATH, true, 100), moment = 0;
     calls = (struct calls){0};
     expect(zonedisk_file_sync(session, &moment) == 0 && moment == 1 && calls.data_syncs == 1, "a sync");
     calls.data_error = ENOSPC;

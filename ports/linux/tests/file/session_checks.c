@@ -115,10 +115,12 @@ static void try_many_sessions(void) {
     expect(open_files() == before, "a closed file is open");
 }
 
-// A file that is opened stays closed in the programs that this one starts.
+// A file that is opened stays closed in the programs that this one starts. One that is there is held before, by the first
+// number that is free, so it gets the next one.
 static void try_kept_back(bool is_new) {
     int file = dup(0);
     close(file);
+    if (!is_new) file++;
     uint64_t session = is_new ? new_file(PATH, 100) : old_file(PATH, true, 100);
     expect(fcntl(file, F_GETFD) == FD_CLOEXEC, "a file that other programs get");
     zonedisk_file_close(session);

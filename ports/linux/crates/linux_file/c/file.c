@@ -3,6 +3,7 @@
 #include "file.h"
 #include "counts.h"
 #include "holder.h"
+#include "named.h"
 #include "tell.h"
 #include <errno.h>
 #include <fcntl.h>
@@ -17,11 +18,19 @@
 
 enum { MOST_SESSIONS = 16, MOST_TRIES = 2000, WORD = 8 };
 
+// What is asked of a file. An error of each kind is told once in a session.
+enum work { READING = 1, WRITING = 2, SYNCING = 4 };
+
 struct session {
     uint64_t number; // from 1 on, or 0 where there is none
     uint64_t moment;
     uint64_t size; // of the file, in bytes
     int file;
+    struct named named;
+    bool is_writable;
+    bool is_made;      // this session made the file
+    bool is_move_told; // it was told that the name leads elsewhere
+    unsigned failed;   // the kinds of work that failed
     uint32_t late; // the error of the sync at the opening, which the first sync of the session gives, or 0
     bool is_lost;  // a sync has failed, or the first bytes of a file that is looked at have changed
     uint8_t *held; // the first bytes of such a file, as they were at one moment, or NULL
@@ -80,6 +89,40 @@ static uint32_t number_of(int given) {
     return given == 0 ? 0 : (uint32_t)errno;
 }
 
+// Tells people of an error of the system, once for each kind of work.
+static void tell_failed(struct session *used, enum work work, uint32_t number) {
+    const char *call = work == READING ? "read" : work == WRITING ? "write" : "sync";
+    bool is_told = (used->failed & work) != 0;
+    used->failed |= work;
+    if (!is_told) fprintf(stderr, "zonedisk: %s: a %s failed: %s\n", used->named.name, call, strerror((int)number));
+}
+
+static void tell_moved(struct session *used) {
+    if (used->is_move_told) return;
+    used->is_move_told = true;
+    fprintf(stderr,
+            "zonedisk: %s: the file has another name now, and this one leads to another file or to none. What is "
+            "written goes to the file that was opened\n",
+            used->named.name);
+}
+
+// Until the file is closed, other programs can still copy it.
+static void tell_removed(const struct session *used, bool stays_open) {
+    fprintf(stderr,
+            "zonedisk: %s: the file was removed or replaced while it was in use: no name leads to what was written\n",
+            used->named.name);
+    if (!stays_open) return;
+    fprintf(stderr, "zonedisk: %s: until this program ends, /proc/%d/fd/%d can be copied: it has what was flushed before\n",
+            used->named.name, (int)getpid(), used->file);
+}
+
+// Looks whether a file that may be changed still has a name, and tells if its name leads elsewhere: whether it has one.
+static bool has_name(struct session *used) {
+    enum whereabouts found = used->is_writable ? find_file(&used->named, used->file) : AT_ITS_NAME;
+    if (found == MOVED) tell_moved(used);
+    return found != REMOVED;
+}
+
 // Brings to the disk what was written to a file.
 static uint32_t sync_data(int file) {
     counts[FILE_SYNCS]++;
@@ -95,14 +138,16 @@ static uint32_t copy_path(char name[PATH_MAX], const uint8_t *path, size_t lengt
     return 0;
 }
 
-// Begins the session of a file that was opened, or closes it where it is refused.
-static uint32_t begin(uint32_t number, int file, uint64_t size, uint32_t late, uint64_t *session) {
+// Begins the session of a file that was opened, or closes it where it is refused. The session has what `new` has.
+static uint32_t begin(uint32_t number, const char *name, const struct session *new, uint64_t *session) {
     *session = 0;
     if (number == 0) {
-        *session = ++begun;
-        *find(0) = (struct session){.number = *session, .size = size, .file = file, .late = late};
-    } else if (file >= 0) {
-        close(file);
+        struct session *used = find(0);
+        *used = *new;
+        used->number = *session = ++begun;
+        take_name(&used->named, name, used->file);
+    } else if (new->file >= 0) {
+        close(new->file);
     }
     return number;
 }
@@ -124,13 +169,39 @@ static uint32_t go_by_disk(int file) {
     return number;
 }
 
-// A file is looked at before it is opened, since opening a device may do something, and a pipe waits for its other end.
-static uint32_t open_regular(const char *name, int how, int *file) {
+// Opens what is held, whatever stands at its name by now. Without /proc it is opened by its name.
+static int open_held(int held, const char *name, int how) {
+    char path[64];
+    snprintf(path, sizeof path, "/proc/self/fd/%d", held);
+    int file = open(path, how | O_CLOEXEC);
+    if (file >= 0 || errno != ENOENT) return file;
+    return open(name, how | O_CLOEXEC | O_NONBLOCK | O_NOCTTY);
+}
+
+// Whether two files that are open are one.
+static bool are_one(int first, int second) {
+    struct stat one, other;
+    if (fstat(first, &one) != 0 || fstat(second, &other) != 0) return false;
+    return one.st_dev == other.st_dev && one.st_ino == other.st_ino;
+}
+
+static uint32_t open_looked_at(int held, const char *name, int how, int *file) {
     struct stat seen;
-    if (stat(name, &seen) != 0) return number_of(-1);
+    if (fstat(held, &seen) != 0) return number_of(-1);
     if (!S_ISREG(seen.st_mode)) return NOT_REGULAR;
-    *file = open(name, how | O_CLOEXEC);
-    return *file < 0 ? number_of(-1) : 0;
+    *file = open_held(held, name, how);
+    if (*file < 0) return number_of(-1);
+    return are_one(held, *file) ? 0 : ESTALE;
+}
+
+// Opening a device may do something, and a pipe waits for its other end. So what is there is held first without being
+// opened (O_PATH), and looked at. Then just that is opened.
+static uint32_t open_regular(const char *name, int how, int *file) {
+    int held = open(name, O_PATH | O_CLOEXEC);
+    if (held < 0) return number_of(-1);
+    uint32_t number = open_looked_at(held, name, how, file);
+    close(held);
+    return number;
 }
 
 static uint32_t length_of(int file, uint64_t *size) {
@@ -140,32 +211,31 @@ static uint32_t length_of(int file, uint64_t *size) {
     return number;
 }
 
-static uint32_t open_locked(const char *name, bool is_writable, int *file, uint64_t *size, uint32_t *late) {
-    uint32_t number = open_regular(name, is_writable ? O_RDWR : O_RDONLY, file);
-    if (number == 0) number = lock(*file, is_writable ? LOCK_EX : LOCK_SH);
-    if (number == 0) number = length_of(*file, size);
-    if (number == 0 && is_writable) *late = go_by_disk(*file);
+static uint32_t open_locked(const char *name, struct session *new) {
+    uint32_t number = open_regular(name, new->is_writable ? O_RDWR : O_RDONLY, &new->file);
+    if (number == 0) number = lock(new->file, new->is_writable ? LOCK_EX : LOCK_SH);
+    if (number == 0) number = length_of(new->file, &new->size);
+    if (number == 0 && new->is_writable) new->late = go_by_disk(new->file);
     return number;
 }
 
 uint32_t zonedisk_file_open(const uint8_t *path, size_t length, bool is_writable, uint64_t *size, uint64_t *session) {
     char name[PATH_MAX];
-    int file = -1;
-    uint32_t late = 0;
-    *size = 0;
+    struct session new = {.file = -1, .is_writable = is_writable};
     uint32_t number = copy_path(name, path, length);
-    if (number == 0) number = open_locked(name, is_writable, &file, size, &late);
-    return begin(number, file, *size, late, session);
+    if (number == 0) number = open_locked(name, &new);
+    *size = new.size;
+    return begin(number, name, &new, session);
 }
 
 uint32_t zonedisk_file_look(const uint8_t *path, size_t length, uint64_t *size, uint64_t *session) {
     char name[PATH_MAX];
-    int file = -1;
-    *size = 0;
+    struct session new = {.file = -1};
     uint32_t number = copy_path(name, path, length);
-    if (number == 0) number = open_regular(name, O_RDONLY, &file);
-    if (number == 0) number = length_of(file, size);
-    return begin(number, file, *size, 0, session);
+    if (number == 0) number = open_regular(name, O_RDONLY, &new.file);
+    if (number == 0) number = length_of(new.file, &new.size);
+    *size = new.size;
+    return begin(number, name, &new, session);
 }
 
 // Syncs the folder of a file, so that the file's name is durable. A file system that syncs no folders says EINVAL: then
@@ -194,10 +264,10 @@ static uint32_t make_new(const char *name, uint64_t size, int *file) {
 
 uint32_t zonedisk_file_create(const uint8_t *path, size_t length, uint64_t size, uint64_t *session) {
     char name[PATH_MAX];
-    int file = -1;
+    struct session new = {.file = -1, .size = size, .is_writable = true, .is_made = true};
     uint32_t number = size > INT64_MAX ? EFBIG : copy_path(name, path, length);
-    if (number == 0) number = make_new(name, size, &file);
-    return begin(number, file, size, 0, session);
+    if (number == 0) number = make_new(name, size, &new.file);
+    return begin(number, name, &new, session);
 }
 
 static bool is_within(const struct session *used, uint64_t at, size_t length) {
@@ -210,7 +280,7 @@ static uint32_t fault_of(const struct session *used, uint64_t at, size_t length)
     return is_within(used, at, length) ? 0 : EINVAL;
 }
 
-static uint32_t read_range(const struct session *used, uint64_t at, uint8_t *room, size_t length) {
+static uint32_t read_range(struct session *used, uint64_t at, uint8_t *room, size_t length) {
     uint32_t number = 0;
     size_t done = 0;
     while (done < length && number == 0) {
@@ -220,6 +290,7 @@ static uint32_t read_range(const struct session *used, uint64_t at, uint8_t *roo
         else if (errno != EINTR) number = (uint32_t)errno;
     }
     count_bytes(FILE_READS, FILE_BYTES_READ, done);
+    if (number != 0) tell_failed(used, READING, number);
     return number;
 }
 
@@ -284,8 +355,7 @@ uint32_t zonedisk_file_hold(uint64_t session, uint64_t *moment, uint64_t length)
 }
 
 // Writes a range, and counts the bytes that are written.
-static uint32_t write_range(const struct session *used, uint64_t at, const uint8_t *bytes, size_t length,
-                            size_t *done) {
+static uint32_t write_range(struct session *used, uint64_t at, const uint8_t *bytes, size_t length, size_t *done) {
     uint32_t number = 0;
     for (*done = 0; *done < length && number == 0;) {
         ssize_t count = pwrite(used->file, bytes + *done, length - *done, (off_t)(at + *done));
@@ -294,18 +364,19 @@ static uint32_t write_range(const struct session *used, uint64_t at, const uint8
         else if (errno != EINTR) number = (uint32_t)errno;
     }
     count_bytes(FILE_WRITES, FILE_BYTES_WRITTEN, *done);
+    if (number != 0) tell_failed(used, WRITING, number);
     return number;
 }
 
 uint32_t zonedisk_file_write(uint64_t session, uint64_t *moment, uint64_t at, const uint8_t *bytes, size_t length) {
-    const struct session *used = change_at(session, moment);
+    struct session *used = change_at(session, moment);
     size_t done;
     uint32_t number = fault_of(used, at, length);
     return number != 0 ? number : write_range(used, at, bytes, length, &done);
 }
 
 // Writes all 8 bytes, or none of them.
-static uint32_t put_word(const struct session *used, uint64_t at, const uint8_t word[WORD]) {
+static uint32_t put_word(struct session *used, uint64_t at, const uint8_t word[WORD]) {
     size_t done;
     uint32_t number = write_range(used, at, word, WORD, &done);
     if (number != 0 && done != 0) end_process("a word of a file is written in part");
@@ -313,7 +384,7 @@ static uint32_t put_word(const struct session *used, uint64_t at, const uint8_t 
 }
 
 uint32_t zonedisk_file_write_word(uint64_t session, uint64_t *moment, uint64_t at, const uint8_t word[8]) {
-    const struct session *used = change_at(session, moment);
+    struct session *used = change_at(session, moment);
     if (at % WORD != 0 || !is_within(used, at, WORD)) return EINVAL;
     uint32_t number = put_word(used, at, word);
     // After a failed sync the word is brought to the disk at once. Where that fails, Linux has told it now, and tells it
@@ -326,6 +397,11 @@ uint32_t zonedisk_file_sync(uint64_t session, uint64_t *moment) {
     struct session *used = change_at(session, moment);
     if (used->is_lost) return EIO;
     uint32_t number = used->late != 0 ? used->late : sync_data(used->file);
+    if (number != 0) tell_failed(used, SYNCING, number);
+    if (number == 0 && !has_name(used)) {
+        number = ENOENT;
+        tell_removed(used, true);
+    }
     used->is_lost = number != 0;
     return number;
 }
@@ -338,8 +414,16 @@ void zonedisk_file_release(uint64_t session, uint64_t *moment, uint64_t at, uint
     }
 }
 
+// Removes a file that its own session could not write, or not bring to the disk: nobody can use it.
+static void remove_failed(const struct session *used) {
+    if ((used->failed & (WRITING | SYNCING)) == 0 || !remove_file(&used->named)) return;
+    fprintf(stderr, "zonedisk: %s: the new file is not whole, and was removed\n", used->named.name);
+}
+
 void zonedisk_file_close(uint64_t session) {
     struct session *used = session_of(session);
+    if (used->is_made) remove_failed(used);
+    else if (!used->is_lost && !has_name(used)) tell_removed(used, false);
     close(used->file);
     let_go(used);
     used->number = 0;

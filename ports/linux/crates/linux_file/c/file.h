@@ -8,6 +8,8 @@
 // A result is 0 where the call is done, or else the number of an error of the system. It is EINVAL for a range that is
 // not within the file. After a sync that failed it is EIO for each later call of the session, but for the write of a
 // word. For Linux may have let go of what was written, and a read could return older bytes.
+//
+// An error of the system is told on standard error, once in a session for reads, for writes and for syncs.
 #pragma once
 #include <stdbool.h>
 #include <stddef.h>
@@ -21,7 +23,8 @@ enum refusal {
     CHANGING = 0x10003,    // another program changes the first bytes all the time
 };
 
-// Opens and locks a file that is there, and tells its length in bytes. A file that is only read is locked against
+// Opens and locks a file that is there, and tells its length in bytes. It is ESTALE if another file came to its place
+// meanwhile. A file that is only read is locked against
 // changes alone. One that may be changed is synced, so that what earlier programs wrote is on the disk. If that fails,
 // the first sync of the session says so.
 uint32_t zonedisk_file_open(const uint8_t *path, size_t length, bool is_writable, uint64_t *size, uint64_t *session);
@@ -36,7 +39,8 @@ uint32_t zonedisk_file_look(const uint8_t *path, size_t length, uint64_t *size, 
 // It is CHANGING if none of many tries sees the first bytes twice in the same way.
 uint32_t zonedisk_file_hold(uint64_t session, uint64_t *moment, uint64_t length);
 
-// Makes and locks a file of so many zeros, and syncs it and its folder. Where that fails, it is removed again.
+// Makes and locks a file of so many zeros, and syncs it and its folder. Where that fails, it is removed again. So it is at
+// the end of its session, if a write or a sync of it failed.
 uint32_t zonedisk_file_create(const uint8_t *path, size_t length, uint64_t size, uint64_t *session);
 
 // Fills the room. It is EIO where the file has become shorter and has no such bytes.
@@ -50,11 +54,13 @@ uint32_t zonedisk_file_write(uint64_t session, uint64_t *moment, uint64_t at, co
 uint32_t zonedisk_file_write_word(uint64_t session, uint64_t *moment, uint64_t at, const uint8_t word[8]);
 
 // Brings all that was written to the disk. Where that fails, Linux may show older bytes from now on, in this boot too.
+// It is ENOENT if the file had a name at the opening and no name leads to it any more, since it was removed or replaced:
+// standard error says so. If the file has another name now, that is only told.
 uint32_t zonedisk_file_sync(uint64_t session, uint64_t *moment);
 
 // Gives the room of a range back to the file system. Then the range has zeros, or it is as it was where the file system
 // cannot do that. It is not said which: what fails here costs room alone.
 void zonedisk_file_release(uint64_t session, uint64_t *moment, uint64_t at, uint64_t length);
 
-// Closes the file of a session, at any moment. Its lock is given back.
+// Closes the file of a session, at any moment. Its lock is given back. It is told if no name leads to the file.
 void zonedisk_file_close(uint64_t session);
