@@ -318,37 +318,6 @@ static void try_errors(uint64_t session, uint64_t moment) {
     expect(zonedisk_submit(session, &moment, entry, room, BLOCK, 0, NULL, 0, &value) == DONE, "after an error");
 }
 
-// What standard error has of a command that the drive did not do.
-static void told(const uint8_t *entry, uint16_t status, const char *wanted, const char *what) {
-    static char text[4096];
-    FILE *before = stderr;
-    memset(text, 0, sizeof text);
-    stderr = fmemopen(text, sizeof text, "w");
-    tell_refused(entry, status);
-    fclose(stderr);
-    stderr = before;
-    expect(strcmp(text, wanted) == 0, what);
-}
-
-static void try_told(void) {
-    uint8_t entry[64];
-    put_entry(entry, 0x02, UINT64_C(5) << 32, 0, 0);
-    told(entry, 0x281, "zonedisk: the drive answered a Read of 1 block at 21474836480 by status 281h, "
-                       "Unrecovered Read Error\n", "a Read is told");
-    told(entry, 0x281, "", "a Read that is sent once more");
-    put_entry(entry, 0x7d, 2048, 6, 0);
-    told(entry, 0x280, "zonedisk: the drive answered an Append of 7 blocks to the zone at 2048 by status 280h, "
-                       "Write Fault\n", "an Append is told");
-    put_entry(entry, 0x79, 2048, 0, 4);
-    told(entry, NOT_ANSWERED, "zonedisk: the drive did not answer the action 04h on the zone at 2048\n",
-         "a command without an answer");
-    put_entry(entry, 0x00, 0, 0, 0);
-    for (int i = 3; i < 19; i++) told(entry, 0x007, "zonedisk: the drive answered a Flush by status 007h\n", "a Flush");
-    told(entry, 0x007, "zonedisk: the drive answered a Flush by status 007h\n"
-                       "zonedisk: no more such answers are told\n", "the last one");
-    told(entry, 0x007, "", "one more");
-}
-
 // Whether something ends the process by SIGABRT.
 static bool aborts(void (*does)(uint64_t), uint64_t session) {
     int status;
@@ -406,7 +375,6 @@ static void try_many_sessions(void) {
 }
 
 int main(void) {
-    try_told();
     try_paths();
     try_refusals();
     try_other_kinds();

@@ -103,10 +103,16 @@ static void compare(const struct shape *shape, int commands) {
 }
 
 int main(void) {
+    static char told[1 << 16];
+    FILE *kept = stderr;
+    stderr = fmemopen(told, sizeof told, "w");
     srandom(1);
     compare(&(struct shape){4096, 12, 300, 280, 256, 5, 3}, COMMANDS / 4);
     compare(&(struct shape){512, 40, 64, 60, 32, 14, 14}, COMMANDS / 2);
     compare(&(struct shape){512, 9, 2048, 2000, 256, 3, 2}, COMMANDS / 4);
+    fclose(stderr);
+    stderr = kept;
+    expect(strstr(told, "the drive shows") == NULL, "zones are said to be other than they should be");
     for (unsigned i = 0; i < 0x10000; i++) {
         if (by_status[i] != 0) printf("status %03x: %lu commands\n", i, by_status[i]);
     }

@@ -16,6 +16,7 @@ struct session {
     struct namespace_devices devices;
     uint32_t block; // 0 before it has begun
     uint64_t moment;
+    struct known_zones known;
 };
 
 static struct session sessions[MOST_SESSIONS];
@@ -66,6 +67,7 @@ uint32_t zonedisk_begin(uint64_t session, const struct shape *shape, uint8_t *re
     if (!takes_transfer(&begun->devices, shape->block, shape->transfer)) return NO_TRANSFER;
     if (!read_zones(&begun->devices, shape->size, shape->zones, report)) return NO_REPORT;
     begun->block = shape->block;
+    know_zones(&begun->known, shape, report);
     begun->moment = 0;
     *moment = 0;
     return BEGUN;
@@ -78,7 +80,8 @@ uint16_t zonedisk_submit(uint64_t session, uint64_t *moment, const uint8_t entry
     if (*moment == NO_MOMENT || *moment != used->moment) end_process("a command to a drive at a moment that is past");
     const struct request request = {entry, bytes, length, room, room_length};
     uint16_t status = pass_command(&used->devices, used->block, &request, value);
-    if (status != 0) tell_refused(entry, status);
+    if (status != 0) tell_refused(entry, used->known.size, status);
+    follow_command(&used->known, &request, status, *value);
     *moment = ++used->moment;
     return status;
 }

@@ -2,6 +2,13 @@
 #pragma once
 #include "device.h"
 
+// The number in some bytes of an entry or of a report.
+static inline uint64_t number_at(const uint8_t *bytes, int first, int length) {
+    uint64_t number = 0;
+    for (int i = length - 1; i >= 0; i--) number = number << 8 | bytes[first + i];
+    return number;
+}
+
 // The devices that are held for one namespace.
 struct namespace_devices {
     int character; // takes the commands, and is locked
@@ -38,5 +45,19 @@ bool read_zones(const struct namespace_devices *devices, uint32_t size, uint32_t
 uint16_t pass_admin(const struct namespace_devices *devices, uint8_t opcode, bool names_namespace,
                     const uint32_t dwords[2], uint8_t *page, size_t length, uint32_t *result);
 
-// Tells people of a command that the drive answered by another status than success, or not at all.
-void tell_refused(const uint8_t *entry, uint16_t status);
+// The written blocks of each zone, as commands left them. It is kept only to tell people what a drive shows otherwise.
+struct known_zones {
+    uint64_t *written;
+    uint32_t count; // 0 where nothing is known
+    uint32_t size, capacity;
+};
+
+// Takes the zones from a report of all of them.
+void know_zones(struct known_zones *known, const struct shape *shape, const uint8_t *report);
+
+// Follows a command that was sent, with its status and its result. It tells of each zone that a report shows otherwise.
+void follow_command(struct known_zones *known, const struct request *request, uint16_t status, uint64_t value);
+
+// Tells people of a command that the drive answered by another status than success, or not at all. A zone of it has so
+// many blocks.
+void tell_refused(const uint8_t *entry, uint32_t size, uint16_t status);
