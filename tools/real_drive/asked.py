@@ -49,6 +49,9 @@ class Monitor:
 class AskedGuest:
     """A guest that runs until it is left. `image` is the file that keeps its blocks."""
 
+    # Whether its drive can answer an Append and not do it.
+    loses = False
+
     def __init__(self, machine, shape, options=(), seconds=7200):
         self.shape, self.share, self.turn, self.spoils = shape, machine.share(), 0, machine.spoils
         self.image = os.path.join(self.share, "image")

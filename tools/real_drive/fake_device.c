@@ -8,6 +8,7 @@
 //   read   a Read of the block fails
 //   write  an Append of the block fails. Its blocks are counted, and are zeros: with parts only from the block on
 //   flush  an Append is done, and answered by a fault
+//   lost   an Append of the block is answered, and not done
 #define _GNU_SOURCE
 #include "../../ports/linux/tests/fake_drive.h"
 #include <fcntl.h>
@@ -153,12 +154,23 @@ static void lose_blocks(uint64_t first, uint64_t blocks, const struct fault *fau
     memset(drive.bytes + (first + done) * drive.shape.block, 0, (blocks - done) * drive.shape.block);
 }
 
+// The address at which the zone of an address is written next.
+static uint64_t next_of(uint64_t address) {
+    uint64_t zone = address / drive.shape.size;
+    return zone < drive.shape.zones ? zone * drive.shape.size + drive.zones[zone].written : address;
+}
+
 static int submit(struct nvme_passthru_cmd64 *passed) {
     struct fault fault;
     uint64_t address = passed->cdw10 | (uint64_t)passed->cdw11 << 32, blocks = (passed->cdw12 & 0xffff) + 1, result;
     const struct command command = {passed->opcode, address, passed->cdw12, passed->cdw13,
                                     (uint8_t *)(uintptr_t)passed->addr, passed->data_len};
     if (command.opcode == READ && meets("read", address, blocks, &fault)) return READ_ERROR;
+    uint64_t next = next_of(address);
+    if (command.opcode == APPEND && meets("lost", next, blocks, &fault)) {
+        passed->result = next;
+        return DONE;
+    }
     enum status status = do_command(&drive, &command, &result);
     passed->result = result;
     if (status != DONE || command.opcode != APPEND) return (int)status;

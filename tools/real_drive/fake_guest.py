@@ -24,14 +24,18 @@ PROGRAM = """#!/bin/sh
 export FAKE_FOLDER=/tmp FAKE_SHAPE='{shape}'
 LD_PRELOAD="${{LD_PRELOAD:+$LD_PRELOAD:}}/in/fake_device.so" exec {program} "$@"
 """
-# What `nvme zns report-zones` shows.
+# What `nvme zns report-zones` shows, and what `nvme zns reset-zone /dev/ng0n1 -s START` does.
 REPORT = """#!/bin/sh
+[ "$2" != reset-zone ] || exec python3 {reset} {size} /tmp/zones $5
 exec python3 {tool} {size} /tmp/zones
 """
 
 
 class FakeGuest:
     """A drive that can fail in part, and a shell for it. `image` is the file that keeps its blocks."""
+
+    # Whether it can answer an Append and not do it.
+    loses = True
 
     def __init__(self, machine, shape):
         self.shape, self.spoils, self.root = shape, machine.spoils, machine.share()
@@ -41,7 +45,8 @@ class FakeGuest:
         self.make_drive()
         numbers = [shape.block, shape.zones, shape.size, shape.capacity, shape.transfer, shape.active, shape.open]
         self.put("zonedisk", self.here(PROGRAM).format(shape=" ".join(map(str, numbers)), program=machine.program))
-        self.put("nvme", self.here(REPORT).format(tool=os.path.join(HERE, "fake_report.py"), size=shape.size))
+        self.put("nvme", self.here(REPORT).format(tool=os.path.join(HERE, "fake_report.py"), size=shape.size,
+                                               reset=os.path.join(HERE, "fake_reset.py")))
         drive = [os.path.join(HERE, "fake_device.c"), os.path.join(PORT_TESTS, "fake_drive.c")]
         self.compile("fake_device.so", drive)
         write_file(self.root, "worn.c", self.here(read_file(HERE, "worn.c")))

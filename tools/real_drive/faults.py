@@ -2,16 +2,17 @@
 
 import itertools
 import random
+import re
 
 from asked import AskedGuest
 from fake_guest import FakeGuest
 from looks import count, look
-from machine import files_of, read_file, script_of
+from machine import files_of, read_file, script_of, write_file
 from mended import refuse_repair, repair, repair_nothing
 from places import batches_of, newest
-from saved import Saved
+from saved import DEVICE, Saved
 from shapes import OF_FAULTS
-from traces import Line
+from traces import Line, text_of
 from worn import CLOSED, EMPTY, NAMES, OFFLINE, OPENED, READ_ONLY, ZONES, make_library
 from written import Written
 
@@ -19,6 +20,15 @@ STOPPED, AT_END, HALTED = "fault disk 3 Stopped", "fault device", "fault mount 1
 MOUNTABLE = ["the drive can be mounted", "status 0"]
 KINDS = "new", "flat"
 UNWORN = "unset LD_PRELOAD WORN; rm -f /tmp/worn"
+# A run in which another program resets a zone between the one line and the end.
+RESET_BESIDE = f"""rm -f /tmp/waiting; mkfifo /tmp/waiting
+zonedisk run {DEVICE} --blocks $BLOCKS < /tmp/waiting > /share/replies 2> /share/replies.said & run=$!
+exec 9> /tmp/waiting
+cat /share/lines >&9
+until [ -s /share/replies ] || ! kill -0 $run; do sleep 0.1; done
+nvme zns reset-zone /dev/ng0n1 -s {{start}} > /dev/null
+exec 9>&-
+wait $run"""
 # In how many guests the places are tried.
 GUESTS = 4
 
@@ -164,6 +174,35 @@ def write_foreign(disk, name):
     repair(disk, name, MOUNTABLE)
 
 
+def reset_zone(disk, name):
+    """Another program resets a zone while a run has the drive. The run has to name it at its end."""
+    disk.begin()
+    start, pointer = a_zone(disk, OPENED, CLOSED)
+    if start == pointer:
+        count("resets that found no zone")
+        return
+    line = Line("fill 0 1 a5", 0, [f"a5*{disk.shape.block}"])
+    write_file(disk.guest.share, "lines", text_of([line]))
+    status, _ = disk.guest.ask(RESET_BESIDE.format(start=start))
+    said, replies = (read_file(disk.guest.share, file) for file in ("replies.said", "replies"))
+    zone = start // disk.shape.size
+    count("resets by another program")
+    look((status, replies.splitlines()[-1:]) == (1, [AT_END]), f"{name}: the run ended by {status} {replies[-80:]}")
+    look(f"the drive shows zone {zone} with 0 written blocks" in said, f"{name}: it is told {said}")
+
+
+def lose_append(disk, name):
+    """An Append is answered and not done. The run has to name its zone, at the next Append to it or at the end."""
+    disk.begin()
+    disk.guest.fail("lost")
+    ended = disk.run(disk.lines(disk.chance.choice([1, 1, 4])))
+    disk.guest.mend()
+    said = read_file(disk.guest.share, "replies.said")
+    count(f"lost writes that ended a run by {ended[1]}")
+    look(ended in ((1, STOPPED), (1, AT_END)), f"{name}: the run ended by {ended}")
+    look(re.search(r"zone \d+ .*as it should", said), f"{name}: it is told {said}")
+
+
 def fail_answer(disk, name):
     """A write is done, but the drive cannot bring it to its medium. The run stops, and nothing is missing."""
     disk.begin()
@@ -211,7 +250,8 @@ def try_zones(disk):
     """Zones that wear out, and Flushes that fail."""
     for state, kind in itertools.product(NAMES, ZONES):
         wear(disk, f"{disk.shape}: a zone that is {kind} and {NAMES[state]}", kind, state)
-    for fault in [fail_flush, fail_answer, tear_write, write_foreign] * 3:
+    kinds = [fail_flush, fail_answer, tear_write, write_foreign, reset_zone] + [lose_append] * disk.guest.loses
+    for fault in kinds * 3:
         fault(disk, f"{disk.shape}: {fault.__name__}")
 
 

@@ -112,7 +112,7 @@ int main(void) {
     compare(&(struct shape){512, 9, 2048, 2000, 256, 3, 2}, COMMANDS / 4);
     fclose(stderr);
     stderr = kept;
-    expect(strstr(told, "the drive shows") == NULL, "zones are said to be other than they should be");
+    expect(strstr(told, "as it should") == NULL, "zones are said to be other than they should be");
     for (unsigned i = 0; i < 0x10000; i++) {
         if (by_status[i] != 0) printf("status %03x: %lu commands\n", i, by_status[i]);
     }

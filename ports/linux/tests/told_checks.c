@@ -115,6 +115,11 @@ static void try_zones(void) {
           "zonedisk: the drive shows zone 3 with 1 written block, and not with 0 written blocks as it should" WHY,
           "a Reset of a Full zone, and another program's write");
     append(1, 2);
+    world.drive.zones[1].written = 0;
+    begin_telling();
+    append(1, 2);
+    end_telling("zonedisk: the drive put an Append to zone 1 at the address 2048, and not at 2050 as it should\n",
+                "an Append after one that was lost");
     world.drive.zones[1] = (struct zone){READ_ONLY, 2};
     shows("zonedisk: the drive shows zone 1 as Read Only, and not with 2 written blocks as it should\n", "a worn zone");
     end_world();

@@ -55,7 +55,8 @@ struct known_zones {
 // Takes the zones from a report of all of them.
 void know_zones(struct known_zones *known, const struct shape *shape, const uint8_t *report);
 
-// Follows a command that was sent, with its status and its result. It tells of each zone that a report shows otherwise.
+// Follows a command that was sent, with its status and its result. It tells of each zone that a report shows otherwise,
+// and of an Append at another address.
 void follow_command(struct known_zones *known, const struct request *request, uint16_t status, uint64_t value);
 
 // Tells people of a command that the drive answered by another status than success, or not at all. A zone of it has so

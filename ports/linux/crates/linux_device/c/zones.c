@@ -83,11 +83,20 @@ static uint64_t left_by(uint64_t written, uint8_t action) {
     return action <= OPEN ? written : NOT_KNOWN;
 }
 
+// Tells if an Append went to another block than the next one of its zone.
+static void see_address(const struct known_zones *known, uint64_t zone, uint64_t value) {
+    uint64_t wanted = zone * known->size + known->written[zone];
+    if (known->written[zone] >= NOT_KNOWN || value == wanted) return;
+    fprintf(stderr, "zonedisk: the drive put an Append to zone %llu at the address %llu, and not at %llu as it should\n",
+            (unsigned long long)zone, (unsigned long long)value, (unsigned long long)wanted);
+}
+
 // Follows a command that names a zone.
 static void follow_zone(struct known_zones *known, const uint8_t *entry, uint16_t status, uint64_t value) {
     uint64_t address = number_at(entry, 40, 8), zone = address / known->size;
     if (zone >= known->count) return;
     uint64_t *written = &known->written[zone];
+    if (status == 0 && entry[0] == APPEND) see_address(known, zone, value);
     if (status != 0) *written = NOT_KNOWN;
     else if (entry[0] == SEND) *written = left_by(*written, entry[52]);
     else *written = written_by(known, entry[0] == APPEND ? value : address, entry);
