@@ -33,6 +33,7 @@ class Trace:
         self.path, self.image = path, image
         self.events, self.taken, self.told, self.ended, self.closed = [], [], [], [], []
         self.files, self.folders, self.made, self.folder_is_synced = set(), set(), False, False
+        self.held = set()
         counts = [0, 0, None, False]
         with open(path, encoding="ascii") as lines:
             for line in lines:
@@ -62,6 +63,7 @@ class Trace:
         file = words.split(",", 1)[0]
         if name == "close":
             self.files.discard(file)
+            self.held.discard(file)
             self.folders.discard(file)
         elif file in self.files:
             return self.changed(name, words, int(result))
@@ -74,9 +76,13 @@ class Trace:
         return None
 
     def opened(self, words, file):
-        """An open: of the image, of the folder that it is in, or of something else."""
+        """An open: of the image, of the folder that it is in, or of something else. An image that is there is first held
+        (O_PATH), and then opened by what /proc calls it."""
         path = unquoted(words.split('"')[1]).decode()
-        if path == self.image and "O_RDONLY" not in words:
+        is_image = path == self.image or path in {f"/proc/self/fd/{held}" for held in self.held}
+        if is_image and "O_PATH" in words:
+            self.held.add(str(file))
+        elif is_image and "O_RDONLY" not in words:
             self.files.add(str(file))
             self.made = "O_CREAT" in words
         elif path == os.path.dirname(self.image):

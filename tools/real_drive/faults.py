@@ -38,6 +38,11 @@ def a_zone(disk, *states):
     return disk.chance.choice(disk.zones_that_are(*states) or disk.zones_that_are(EMPTY)[:1])
 
 
+def a_fill(disk, block=0):
+    """A line that writes a block."""
+    return Line(f"fill {block} 1 a5", block, [f"a5*{disk.shape.block}"])
+
+
 def fail_write(disk, name):
     """A write fails once: the run stops, and what it had answered is there. Whether a write came to the place."""
     disk.begin()
@@ -85,8 +90,7 @@ def fail_data(disk, name, once):
 def write_anew(disk, name, block):
     """Writes a block whose newest data cannot be read: then all can be read again. Only if the cleaner has to make room
     before, and reads these data, the run stops."""
-    text = f"a5*{disk.shape.block}"
-    ended = disk.run([Line(f"fill {block} 1 a5", block, [text])])
+    ended = disk.run([a_fill(disk, block)])
     if ended == (1, STOPPED):
         told = read_file(disk.guest.share, "replies.said")
         look("the drive answered a Read " in told, f"{name}: block {block} cannot be written: {told}")
@@ -181,8 +185,7 @@ def reset_zone(disk, name):
     if start == pointer:
         count("resets that found no zone")
         return
-    line = Line("fill 0 1 a5", 0, [f"a5*{disk.shape.block}"])
-    write_file(disk.guest.share, "lines", text_of([line]))
+    write_file(disk.guest.share, "lines", text_of([a_fill(disk)]))
     status, _ = disk.guest.ask(RESET_BESIDE.format(start=start))
     said, replies = (read_file(disk.guest.share, file) for file in ("replies.said", "replies"))
     zone = start // disk.shape.size
@@ -195,7 +198,7 @@ def lose_append(disk, name):
     """An Append is answered and not done. The run has to name its zone, at the next Append to it or at the end."""
     disk.begin()
     disk.guest.fail("lost")
-    ended = disk.run(disk.lines(disk.chance.choice([1, 1, 4])))
+    ended = disk.run([a_fill(disk), *disk.lines(disk.chance.choice([0, 0, 3]))])
     disk.guest.mend()
     said = read_file(disk.guest.share, "replies.said")
     count(f"lost writes that ended a run by {ended[1]}")

@@ -1,5 +1,5 @@
-// Looks at files that are replaced while they are opened, or removed, replaced and renamed afterwards, and at what is told
-// of errors.
+// Looks at files that are replaced while they are opened, or removed, replaced and renamed afterwards. Then at what is
+// told of errors.
 //
 // usage: name_checks FOLDER   with an empty folder
 #define _GNU_SOURCE
@@ -104,7 +104,8 @@ static void try_new(bool fails_to_sync) {
     uint64_t session = new_file(PATH, 100), moment = 0;
     begin_telling();
     calls = (struct calls){.write_error = fails_to_sync ? 0 : ENOSPC, .data_error = fails_to_sync ? EIO : 0};
-    uint32_t written = zonedisk_file_write(session, &moment, 0, bytes, 10), synced = zonedisk_file_sync(session, &moment);
+    uint32_t written = zonedisk_file_write(session, &moment, 0, bytes, 10);
+    uint32_t synced = zonedisk_file_sync(session, &moment);
     calls = (struct calls){.data_error = 0};
     expect(written == (fails_to_sync ? 0 : ENOSPC) && synced == (fails_to_sync ? EIO : 0), "a new file that fails");
     zonedisk_file_close(session);

@@ -53,7 +53,9 @@ static void describe(const uint8_t *entry, uint32_t size, char *text, size_t roo
     const char *plural = blocks == 1 ? "" : "s";
     switch (entry[0]) {
     case FLUSH: snprintf(text, room, "a Flush"); break;
-    case READ: snprintf(text, room, "a Read of %llu block%s at block %llu of zone %llu", blocks, plural, offset, zone); break;
+    case READ:
+        snprintf(text, room, "a Read of %llu block%s at block %llu of zone %llu", blocks, plural, offset, zone);
+        break;
     case APPEND: snprintf(text, room, "an Append of %llu block%s to zone %llu", blocks, plural, zone); break;
     case SEND: snprintf(text, room, "the action %s on zone %llu", name_of_action(entry[52]), zone); break;
     case RECEIVE: snprintf(text, room, "a report from zone %llu on", zone); break;

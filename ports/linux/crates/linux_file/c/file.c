@@ -112,7 +112,8 @@ static void tell_removed(const struct session *used, bool stays_open) {
             "zonedisk: %s: the file was removed or replaced while it was in use: no name leads to what was written\n",
             used->named.name);
     if (!stays_open) return;
-    fprintf(stderr, "zonedisk: %s: until this program ends, /proc/%d/fd/%d can be copied: it has what was flushed before\n",
+    fprintf(stderr,
+            "zonedisk: %s: until this program ends, /proc/%d/fd/%d can be copied: it has what was flushed before\n",
             used->named.name, (int)getpid(), used->file);
 }
 
