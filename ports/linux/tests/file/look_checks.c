@@ -159,9 +159,14 @@ static void write_on(uint64_t served) {
     }
 }
 
-// Whether the two words are of one moment in a look beside that.
+// Whether the two words are of one moment in a look beside that, or there was no moment to look.
 static bool is_of_one_moment(void) {
-    uint64_t seen = holding(), first = 0, second = 0;
+    uint64_t seen = looking(), moment = 0, first = 0, second = 0;
+    uint32_t number = zonedisk_file_hold(seen, &moment, FIRST);
+    if (number != 0) {
+        zonedisk_file_close(seen);
+        return number == CHANGING;
+    }
     zonedisk_file_read(seen, 1, 0, (uint8_t *)&first, 8);
     zonedisk_file_read(seen, 1, FIRST - 8, (uint8_t *)&second, 8);
     zonedisk_file_close(seen);
