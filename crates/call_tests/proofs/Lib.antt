@@ -1,1 +1,2 @@
+mod DistinctLaws
 mod StartLaws

@@ -126,7 +126,7 @@ fn loaded_unreadable(alloc: Global) -> Option<bool> {
     store(&mut file, &drive).ok()?;
     let found = open(alloc, &mut file, &Before).ok()?;
     let loaded = load(alloc, file, Before, found);
-    Some(matches!(loaded, Err(Halt::Stopped)))
+    Some(matches!(loaded, Err(Halt::Failed)))
 }
 
 #[test]

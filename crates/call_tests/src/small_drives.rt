@@ -4,7 +4,7 @@ ghost use Rattle.std.specs.Prelude.{◌≡◌, false};
 ghost use Rattle.nvme_wire.specs.Entry.{IsAdmitted};
 
 use crate::first_looks::first_seen;
-use drive_port::{Device, append, read};
+use drive_port::{Device, Halt, append, read};
 use nvme_wire::{Action, Command, ReportingOptions};
 use passthrough::{PassthroughDrive, ReadAhead, Through};
 use std::alloc::Global;
@@ -90,8 +90,14 @@ pub const COMMANDS: u32 = 7;
 /// The number of the Flush.
 pub const FLUSH: u32 = 0;
 
+/// The number of the Read.
+pub const READ: u32 = 1;
+
 /// The number of the Append.
 pub const APPEND: u32 = 2;
+
+/// The number of the Close of the first zone.
+pub const CLOSE: u32 = 3;
 
 /// The number of the Finish of the first zone.
 pub const FINISH: u32 = 4;
@@ -119,12 +125,12 @@ pub fn command(number: u32) -> Command
     ensures { IsAdmitted result }
 {
     match number {
-        1 => Command::Read { slba: 0, blocks: 3 },
+        READ => Command::Read { slba: 0, blocks: 3 },
         APPEND => Command::Append {
             zslba: 16,
             blocks: 1,
         },
-        3 => action(0, Action::Close),
+        CLOSE => action(0, Action::Close),
         FINISH => action(0, Action::Finish),
         RESET => action(8, Action::Reset),
         REPORT => Command::Receive {
@@ -137,11 +143,16 @@ pub fn command(number: u32) -> Command
     }
 }
 
-/// Whether a device does the command with a number.
-pub fn does<D: Device>(alloc: Global, device: &mut D, number: u32) -> bool {
+/// Submits the command with a number: why it was not completed, if it was not.
+pub fn halt_at<D: Device>(alloc: Global, device: &mut D, number: u32) -> Option<Halt> {
     let block = [0x33; 512];
     let bytes = if number == APPEND { &block[..] } else { &[] };
     let mut into = Vec::new(alloc);
     let entry = command(number).encode(0);
-    device.submit(&entry, bytes, &mut into).is_ok()
+    device.submit(&entry, bytes, &mut into).err()
+}
+
+/// Whether a device does the command with a number.
+pub fn does<D: Device>(alloc: Global, device: &mut D, number: u32) -> bool {
+    halt_at(alloc, device, number).is_none()
 }

@@ -109,11 +109,18 @@ fn no_append_that_is_refused_is_sent(rt: HostRuntime) {
     }
 }
 
-/// Over the end of a zone, past the end of the drive, and too many blocks.
+/// Over the end of a zone, past the end of the drive, and too many blocks: such a Read fails, and the device goes on.
 #[test]
 fn no_read_that_is_refused_is_sent(rt: HostRuntime) {
+    let alloc = rt.alloc();
     for (slba, blocks) in [(6, 4), (23, 2), (24, 1), (u64::MAX, 1), (0, 5)] {
-        check(&rt, rt.alloc(), Command::Read { slba, blocks }, &[]);
+        let mut device = watched(alloc).expect(&rt, "a device");
+        let mut into = Vec::new(alloc);
+        let entry = Command::Read { slba, blocks }.encode(0);
+        assert!(rt; device.submit(&entry, &[], &mut into) == Err(Halt::Failed));
+        assert!(rt; into.is_empty() && !device.stopped());
+        assert_eq!(rt; device.way().way().sent(), 0);
+        assert!(rt; does(alloc, &mut device, APPEND));
     }
 }
 

@@ -95,13 +95,15 @@ impl Watch {
 }
 
 impl Passthrough for Watch {
-    ghost use Rattle.std.specs.Prelude.{true};
+    ghost use Rattle.std.specs.Prelude.{None, true};
 
     ghost shape = { λ w. w.way.geometry };
 
     ghost zones = { λ w. w.way.zones };
 
     ghost flushed = { λ w. true };
+
+    ghost before = { λ w. None };
 
     fn geometry(&self) -> Geometry {
         self.way.geometry()

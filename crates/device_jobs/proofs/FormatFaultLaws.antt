@@ -25,6 +25,7 @@ use Rattle.drive_inspection.specs.declared.written.Written.{Written}
 pub not-looked : (last : DriveState) (fault : ToolFault) → IsUnasked last fault → IsUnlooked last (unlooked fault)
 not-looked last tools.Memory so = tt
 not-looked last tools.Stopped so = so
+not-looked last tools.Failed so = so
 not-looked last (tools.Plan cause) so = absurd so
 not-looked last tools.Bytes so = absurd so
 not-looked last (tools.Entry cause) so = absurd so
@@ -89,6 +90,7 @@ unformatted-before force old middle new (faults.Reset zone cause) kept so = so
 unformatted-before force old middle new faults.Output kept so = so
 unformatted-before force old middle new faults.Limits kept so = ((λ range. so.0 (rw kept.geometry range)), keeps-both old middle new kept so.1)
 unformatted-before force old middle new faults.Stopped kept so = (so.0, keeps-both old middle new kept so.1)
+unformatted-before force old middle new faults.Failed kept so = (so.0, keeps-both old middle new kept so.1)
 unformatted-before force old middle new faults.Memory kept (inl keeps) = inl (keeps-both old middle new kept keeps)
 unformatted-before force old middle new faults.Memory kept (inr done) = inr done
 
@@ -108,11 +110,13 @@ reset-of new number faults.Untold is below = absurd is
 reset-of new number faults.Output is below = absurd is
 reset-of new number faults.Limits is below = absurd is
 reset-of new number faults.Stopped is below = absurd is
+reset-of new number faults.Failed is below = absurd is
 reset-of new number faults.Memory is below = absurd is
 
 pub unlisted : (old last : DriveState) (fault : MountFault) → IsInterruption last fault → IsUnlisted old last (unreported fault)
 unlisted old last fault (inl memory) = rw memory tt
-unlisted old last fault (inr (inl halted)) = rw halted.0 halted.1
+unlisted old last fault (inr (inl (inl stopped))) = rw stopped.0 stopped.1
+unlisted old last fault (inr (inl (inr failed))) = rw failed.0 failed.1
 unlisted old last fault (inr (inr none)) = absurd none
 
 module _ (force : Bool) (old new : DriveState) where
@@ -124,6 +128,7 @@ module _ (force : Bool) (old new : DriveState) where
   unlooked-so kept faults.Output so = absurd so
   unlooked-so kept faults.Limits so = absurd so
   unlooked-so kept faults.Stopped so = (so, kept)
+  unlooked-so kept faults.Failed so = (so, kept)
   unlooked-so kept faults.Memory so = inl kept
 
   pub unlisted-so : KeepsZones old new → (fault : FormatFault) → IsUnlisted old new fault → IsUnformatted force old new fault
@@ -134,6 +139,7 @@ module _ (force : Bool) (old new : DriveState) where
   unlisted-so kept faults.Output so = absurd so
   unlisted-so kept faults.Limits so = (so, kept)
   unlisted-so kept faults.Stopped so = (so, kept)
+  unlisted-so kept faults.Failed so = (so, kept)
   unlisted-so kept faults.Memory so = inl kept
 
   pub unreset-so : force ≡ true → (fault : FormatFault) → IsUnreset new fault → IsUnformatted force old new fault
@@ -144,6 +150,7 @@ module _ (force : Bool) (old new : DriveState) where
   unreset-so forced faults.Output so = absurd so
   unreset-so forced faults.Limits so = absurd so
   unreset-so forced faults.Stopped so = absurd so
+  unreset-so forced faults.Failed so = absurd so
   unreset-so forced faults.Memory so = absurd so
 
   -- all is done, and it is not told
@@ -155,4 +162,5 @@ module _ (force : Bool) (old new : DriveState) where
   unsaid-so done faults.Output so = done
   unsaid-so done faults.Limits so = absurd so
   unsaid-so done faults.Stopped so = absurd so
+  unsaid-so done faults.Failed so = absurd so
   unsaid-so done faults.Memory so = inr done

@@ -164,6 +164,7 @@ pub empties-answered : (old new : DriveState) (start : ℕ) (result : Result (Un
 empties-answered old new start (Ok done) answers = empties-reset old new (start / old.geometry.size) answers.reset.geometry answers.reset.contents
 empties-answered old new start (Err (port.Refused status)) answers = empties-same old new answers.kept.geometry answers.kept.contents
 empties-answered old new start (Err port.Memory) answers = empties-same old new answers.kept.geometry answers.kept.contents
+empties-answered old new start (Err port.Failed) answers = empties-same old new answers.kept.geometry answers.kept.contents
 empties-answered old new start (Err port.Stopped) answers = at answers.kept
   where
     at : ResetKeeps {V = Unit {0}} old start (Err port.Stopped) new → OnlyEmpties old new

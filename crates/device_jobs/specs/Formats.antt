@@ -5,12 +5,13 @@ use Rattle.drive_port.specs.Contents.{content_at, contents, emptied, is_usable, 
 use Rattle.drive_port.specs.Drive.{DriveState, IsLawful}
 use Rattle.drive_survey.specs.Reported.{KeepsZones}
 use Rattle.drive_survey.specs.declared.fault.MountFault.{MountFault}
-use Rattle.drive_survey.specs.declared.fault.MountFault.TheVariants.{OutOfMemory}
+use Rattle.drive_survey.specs.declared.fault.MountFault.TheVariants.{Failed, OutOfMemory}
 use Rattle.drive_survey.specs.declared.reported.ReportedZone.{ReportedZone}
 use Rattle.disk_files.specs.Output.{AppendsFront}
 use Rattle.disk_files.specs.Reply.{ok_text}
 use Rattle.disk_runs.specs.Run.{Known}
 use Rattle.drive_inspection.specs.Written.{AreAllEmpty, AreEmptyBelow, IsWritten, is_written, written_count}
+use Rattle.tool_jobs.specs.Checks.{HasFailed, HasStopped}
 use Rattle.tool_jobs.specs.declared.fault.ToolFault.{ToolFault}
 use Rattle.tool_jobs.specs.declared.fault.ToolFault.TheVariants as tools
 use Rattle.device_jobs.specs.declared.format_fault.FormatFault.{FormatFault}
@@ -51,16 +52,19 @@ pub record AreUsages (drive : DriveState) (reported : List ReportedZone) : Type 
 -- what the fault of a look is to a format, and that of a report
 abbrev pub unlooked : ToolFault → FormatFault
 unlooked tools.Memory = faults.Memory
+unlooked tools.Failed = faults.Failed
 unlooked fault = faults.Stopped
 
 abbrev pub unreported : MountFault → FormatFault
 unreported OutOfMemory = faults.Memory
+unreported Failed = faults.Failed
 unreported fault = faults.Stopped
 
--- it was not looked at to its end: memory ran out, or the drive has stopped
+-- it was not looked at to its end: memory ran out, or the drive has stopped, or failed at a command
 abbrev pub IsUnlooked : DriveState → FormatFault → Type 0
 IsUnlooked last faults.Memory = ⊤
-IsUnlooked last faults.Stopped = last.stopped ≡ true
+IsUnlooked last faults.Stopped = HasStopped last
+IsUnlooked last faults.Failed = HasFailed last
 IsUnlooked last fault = ⊥
 
 -- its zones are not known
@@ -92,7 +96,8 @@ IsUnformatted force old new faults.Untold = (force ≡ true) × KeepsZones old n
 IsUnformatted force old new (faults.Reset zone cause) = (force ≡ true) × AreEmptyBelow zone new
 IsUnformatted force old new faults.Output = AreAllEmpty new
 IsUnformatted force old new faults.Limits = (IsInRange old.geometry → ⊥) × KeepsZones old new
-IsUnformatted force old new faults.Stopped = (new.stopped ≡ true) × KeepsZones old new
+IsUnformatted force old new faults.Stopped = HasStopped new × KeepsZones old new
+IsUnformatted force old new faults.Failed = HasFailed new × KeepsZones old new
 IsUnformatted force old new faults.Memory = KeepsZones old new ⊎ AreAllEmpty new
 
 -- what is written of a format that is not done: nothing, or a beginning of `ok` where the writer failed

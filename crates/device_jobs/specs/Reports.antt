@@ -12,8 +12,9 @@ use Rattle.drive_port.specs.Drive.{DriveState, IsClosing}
 use Rattle.drive_port.specs.Step.{end_of}
 use Rattle.disk_files.specs.Output.{AppendsFront}
 use Rattle.disk_runs.specs.Run.{Known}
+use Rattle.tool_jobs.specs.Checks.{HasFailed}
 use Rattle.tool_jobs.specs.declared.fault.ToolFault.{ToolFault}
-use Rattle.tool_jobs.specs.declared.fault.ToolFault.TheVariants.{Memory, Output, Stopped}
+use Rattle.tool_jobs.specs.declared.fault.ToolFault.TheVariants.{Memory, Failed, Output, Stopped}
 
 -- which zones are reported: those in a state, or all
 abbrev pub options_for : Option ZoneState → ReportingOptions
@@ -44,4 +45,5 @@ abbrev pub IsUnreported : DriveState → ReportingOptions → ToolFault → Driv
 IsUnreported old options Output new written contents = (text : List ℕ) × IsReportText old options new text × AppendsFront written contents text
 IsUnreported old options Memory new written contents = contents ≡ written
 IsUnreported old options Stopped new written contents = GivesNoReport old new × (contents ≡ written)
+IsUnreported old options Failed new written contents = HasFailed new × (contents ≡ written)
 IsUnreported old options fault new written contents = ⊥

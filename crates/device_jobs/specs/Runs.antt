@@ -8,7 +8,7 @@ use Rattle.disk_runs.specs.Run.{Exchange, Known}
 use Rattle.disk_runs.specs.declared.fault.RunFault.{RunFault}
 use Rattle.disk_runs.specs.declared.fault.RunFault.TheVariants as runs
 use Rattle.disk_runs.specs.declared.taking.Taking.{Taking}
-use Rattle.zone_translator.specs.declared.fault.DiskFault.TheVariants.{Stopped}
+use Rattle.zone_translator.specs.declared.fault.DiskFault.TheVariants.{Failed, Stopped}
 use Rattle.job_drives.specs.Stop.{stopping}
 use Rattle.disk_jobs.specs.Mounted.{TellsMount}
 use Rattle.disk_jobs.specs.Saved.{RunsCounted, RunsTrace}
@@ -27,6 +27,7 @@ RunsAsked false takes blocks device bytes ended new = RunsTrace takes blocks dev
 abbrev pub run_fault : ToolFault → RunFault
 run_fault tools.Output = runs.Output
 run_fault tools.Memory = runs.Memory
+run_fault tools.Failed = runs.Disk Failed
 run_fault fault = runs.Disk Stopped
 
 -- A report of all zones was asked for. Why it was not shown is told as the fault of a run.

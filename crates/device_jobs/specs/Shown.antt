@@ -1,14 +1,15 @@
 -- Zones of a drive that are shown in another form than the lines of a report.
-use Rattle.std.specs.Prelude.{◌≡◌, ◌⊎◌, ℕ, true, List, [], map, replicate, ⊤}
+use Rattle.std.specs.Prelude.{◌≡◌, ◌⊎◌, ℕ, List, [], map, replicate, ⊤}
 use Rattle.zone_states.specs.Geometry.{IsInRange}
 use Rattle.zone_states.specs.Zone.{Zone}
 use Rattle.drive_port.specs.Drive.{DriveState}
 use Rattle.drive_survey.specs.Reported.{ReportsZones}
 use Rattle.drive_survey.specs.declared.reported.ReportedZone.{ReportedZone}
+use Rattle.tool_jobs.specs.Checks.{HasFailed, HasStopped}
 use Rattle.tool_jobs.specs.Pictures.{FindsLive}
 use Rattle.tool_jobs.specs.Zones.{ShowsForm}
 use Rattle.tool_jobs.specs.declared.fault.ToolFault.{ToolFault}
-use Rattle.tool_jobs.specs.declared.fault.ToolFault.TheVariants.{Memory, Stopped}
+use Rattle.tool_jobs.specs.declared.fault.ToolFault.TheVariants.{Memory, Failed, Stopped}
 use Rattle.tool_jobs.specs.declared.showing.ZonesForm.{ZonesForm}
 use Rattle.tool_jobs.specs.declared.showing.ZonesForm.TheVariants.{Svg}
 use Rattle.device_jobs.specs.declared.showing.ShownDrive.{ShownDrive}
@@ -33,8 +34,9 @@ pub record IsShownDrive (form : ZonesForm) (old : DriveState) (shown : ShownDriv
 abbrev pub ShowsDrive : ZonesForm → ShownDrive → List ℕ → Type 0
 ShowsDrive form shown text = ShowsForm form shown.geometry (map zone_like shown.zones.items) text
 
--- why they are not shown: the drive has stopped, or its shape is out of range, or memory ran out
+-- why they are not shown: the drive has stopped, or failed at a command, or its shape is out of range, or memory ran out
 abbrev pub IsUnshown : DriveState → DriveState → ToolFault → Type 0
-IsUnshown old new Stopped = (new.stopped ≡ true) ⊎ (IsInRange old.geometry → ⊥)
+IsUnshown old new Stopped = HasStopped new ⊎ (IsInRange old.geometry → ⊥)
+IsUnshown old new Failed = HasFailed new
 IsUnshown old new Memory = ⊤
 IsUnshown old new fault = ⊥

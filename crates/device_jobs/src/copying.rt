@@ -20,11 +20,12 @@ pub fn export_device<D: Device + Honest + Drop, W: Write>(
         result.1 (D.drive result.0) }
 {
     let mut disk = match mount_served(alloc, device, None) {
-        Ok(disk) => disk,
+        Ok(disk) => disk.into_any(),
         Err((fault, device)) => return (device, Err(CopyFault::Mount(fault))),
     };
     let blocks = blocks_asked(job.count, job.first, disk.blocks());
     let exported = export_blocks(alloc, &mut disk, writer, job.first, blocks);
+    disk.device().vouch();
     let device = disk.into_device();
     match exported {
         Ok(()) => (device, Ok(())),

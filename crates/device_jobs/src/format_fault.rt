@@ -46,6 +46,9 @@ pub enum FormatFault {
     /// It completes no more commands.
     #[error("the drive has stopped")]
     Stopped,
+    /// It failed at a command while it was looked at. Nothing was reset.
+    #[error("the drive failed at a command, and nothing was reset")]
+    Failed,
     /// A Reset of the zone of this number was not answered by success. The zones before it are Empty.
     #[error("the reset of zone {0} failed: {1}. The zones before it are Empty: repeat format --force")]
     Reset(u32, PortFault),

@@ -50,6 +50,7 @@ fn unlooked(fault: ToolFault) -> FormatFault
 {
     match fault {
         ToolFault::Memory => FormatFault::Memory,
+        ToolFault::Failed => FormatFault::Failed,
         _ => FormatFault::Stopped,
     }
 }
@@ -107,6 +108,7 @@ fn unreported(fault: MountFault) -> FormatFault
 {
     match fault {
         MountFault::OutOfMemory => FormatFault::Memory,
+        MountFault::Failed => FormatFault::Failed,
         _ => FormatFault::Stopped,
     }
 }

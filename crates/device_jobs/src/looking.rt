@@ -26,7 +26,9 @@ fn find_faults<D: Device + Honest>(
     ensures err { IfErr result (IsUnasked (D.drive device.new)) }
     ensures kept { KeepsZones (D.drive device.old) (D.drive device.new) }
 {
-    match check_drive(alloc, device, blocks) {
+    let checked = check_drive(alloc, device, blocks);
+    device.vouch();
+    match checked {
         Ok(findings) => Ok(findings),
         Err(fault) => Err(interrupted(fault)),
     }
@@ -63,7 +65,9 @@ pub(crate) fn look<D: Device + Honest>(
     ensures kept { KeepsZones (D.drive device.old) (D.drive device.new) }
 {
     let given = blocks_taken(&device.geometry());
-    match inspect_drive(alloc, device, given) {
+    let looked = inspect_drive(alloc, device, given);
+    device.vouch();
+    match looked {
         Ok(info) => Ok(info),
         Err(fault) => Err(interrupted(fault)),
     }

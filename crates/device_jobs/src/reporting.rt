@@ -48,6 +48,7 @@ pub fn answer_report<D: Device, W: Write>(
     match report(device, 0, options_for(state), false, dwords, &mut bytes) {
         Ok(()) => {}
         Err(PortFault::Memory) => return Err(ToolFault::Memory),
+        Err(PortFault::Failed) => return Err(ToolFault::Failed),
         // No drive that has a zone refuses a report.
         Err(_) => return Err(ToolFault::Stopped),
     }

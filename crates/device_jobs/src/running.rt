@@ -48,6 +48,7 @@ pub fn run_fault(fault: ToolFault) -> RunFault
     match fault {
         ToolFault::Output => RunFault::Output,
         ToolFault::Memory => RunFault::Memory,
+        ToolFault::Failed => RunFault::Disk(DiskFault::Failed),
         _ => RunFault::Disk(DiskFault::Stopped),
     }
 }

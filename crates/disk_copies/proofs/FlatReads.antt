@@ -14,7 +14,7 @@ use Rattle.disk_files.proofs.OutputLaws.{front_second}
 use Rattle.zone_translator.specs.Flat.{Answer, Begun, FlatCall, FlatDisk, blocks_from, may_refuse, read, with_nothing}
 use Rattle.zone_translator.specs.View.{DiskCause, DiskView, disk_array, disk_size, flat_of}
 use Rattle.zone_translator.specs.declared.fault.DiskFault.{DiskFault}
-use Rattle.zone_translator.specs.declared.fault.DiskFault.TheVariants.{OutOfRange, OutOfMemory, Stopped, Spent, Unmounted, Smaller, Reserve, Damaged}
+use Rattle.zone_translator.specs.declared.fault.DiskFault.TheVariants.{OutOfRange, OutOfMemory, Failed, Stopped, Spent, Unmounted, Smaller, Reserve, Damaged}
 use Rattle.zone_translator.specs.declared.status.DiskStatus.{DiskStatus}
 use Rattle.zone_translator.specs.declared.status.DiskStatus.TheVariants as statuses
 use Rattle.disk_copies.specs.declared.stream_fault.ExportFault.{ExportFault}
@@ -103,6 +103,7 @@ showed-both old mid new first m next n xs ys e x y =
 same-refusal : (a b c d : ℕ) (fault : DiskFault) → may_refuse (read a b) fault ≡ may_refuse (read c d) fault
 same-refusal a b c d OutOfRange = refl
 same-refusal a b c d OutOfMemory = refl
+same-refusal a b c d Failed = refl
 same-refusal a b c d Stopped = refl
 same-refusal a b c d Spent = refl
 same-refusal a b c d Smaller = refl
@@ -216,3 +217,13 @@ exports-unread old new first n written fault bytes reads cause = record {
       (shown-none (flat_of old) (flat_of new) first n fault reads.shown reads.flat) reads.flat;
   cause = cause;
 }
+
+-- all was read, and the writer failed
+pub exports-unsent : (old new : DiskView) (first n : ℕ) (written contents : Option (List ℕ)) (bytes : List ℕ) → Reads (flat_of old) first n (Ok tt) bytes (flat_of new) → AppendsFront written contents bytes
+    → Exports old first n written contents (Err Output) new
+exports-unsent old new first n written contents bytes reads front = (reads.shown, reads.flat, subst (AppendsFront written contents) reads.bytes_are front)
+
+-- all was read and written
+pub exports-all : (old new : DiskView) (first n : ℕ) (written contents : Option (List ℕ)) (bytes : List ℕ) → Reads (flat_of old) first n (Ok tt) bytes (flat_of new) → Appends written contents bytes
+    → Exports old first n written contents (Ok tt) new
+exports-all old new first n written contents bytes reads all = (reads.shown, reads.flat, subst (Appends written contents) reads.bytes_are all)

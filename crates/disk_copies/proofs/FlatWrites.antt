@@ -6,7 +6,7 @@ use Rattle.std.proofs.lemmas.Bool.Decides.{nat_tests}
 use Rattle.std.proofs.lemmas.List.{length-append, take-append-le}
 use Rattle.zone_translator.specs.Flat.{Answer, FlatCall, FlatDisk, IsFront, answer_while, known_range, may_refuse, replaced, status_after, with_nothing, write}
 use Rattle.zone_translator.specs.declared.fault.DiskFault.{DiskFault}
-use Rattle.zone_translator.specs.declared.fault.DiskFault.TheVariants.{OutOfRange, OutOfMemory, Stopped, Spent, Unmounted, Smaller, Reserve, Damaged}
+use Rattle.zone_translator.specs.declared.fault.DiskFault.TheVariants.{OutOfRange, OutOfMemory, Failed, Stopped, Spent, Unmounted, Smaller, Reserve, Damaged}
 use Rattle.zone_translator.specs.declared.status.DiskStatus.{DiskStatus}
 use Rattle.zone_translator.specs.declared.status.DiskStatus.TheVariants as statuses
 use Rattle.zone_translator.proofs.FlatLaws.{replaced-append, replaced-none}
@@ -115,6 +115,7 @@ write-more old mid new first next xs ys e x y = written old new first (xs ++ ys)
 same-refusal : (a b : ℕ) (xs ys : List (List ℕ)) (fault : DiskFault) → may_refuse (write a xs) fault ≡ may_refuse (write b ys) fault
 same-refusal a b xs ys OutOfRange = refl
 same-refusal a b xs ys OutOfMemory = refl
+same-refusal a b xs ys Failed = refl
 same-refusal a b xs ys Stopped = refl
 same-refusal a b xs ys Spent = refl
 same-refusal a b xs ys Smaller = refl

@@ -16,7 +16,7 @@ use Rattle.zone_translator.specs.Answers.{write_bytes}
 use Rattle.zone_translator.specs.Flat.{FlatCall, FlatDisk, with_nothing, write}
 use Rattle.zone_translator.specs.View.{DiskCause, DiskView, disk_size, flat_of}
 use Rattle.zone_translator.specs.declared.fault.DiskFault.{DiskFault}
-use Rattle.disk_copies.specs.Copies.{Imports, ImportsPiece, StopsImport, TakesBlocks, piece_blocks, write_result}
+use Rattle.disk_copies.specs.Copies.{ComesWhole, PieceComes, Imports, ImportsPiece, StopsImport, TakesBlocks, piece_blocks, write_result}
 use Rattle.disk_copies.specs.declared.stream_fault.ImportFault.{ImportFault}
 use Rattle.disk_copies.specs.declared.stream_fault.ImportFault.TheVariants.{Disk, Input, Memory, PastEnd, Rest}
 use Rattle.disk_copies.proofs.FlatWrites.{refuse-after, write-more, wrote, wrote-none}
@@ -288,3 +288,31 @@ imports-none old first input (Err e) is = rw is (record {
   takes = record { blocks = []; whole = tt; within = λ some. absurd (omega (arith, some)); left = []; read = Consumes-nil input; flat = wrote-none (flat_of old) first };
   ends = (refl, refl);
 })
+
+-- ---- whatever the Reads of the drive returned
+
+-- at the start nothing is given
+pub gives-none : (block : ℕ) (input : Option (List ℕ)) → ComesWhole block input input 0
+gives-none block input = record { bytes = []; read = Consumes-nil input; whole = omega arith }
+
+-- a piece more is given
+pub gives-more : (block other count more sum : ℕ) (input between rest : Option (List ℕ)) → other ≡ block → sum ≡ count + more → ComesWhole block input between count → ComesWhole other between rest more → ComesWhole block input rest sum
+gives-more block other count more sum input between rest same sum_is first next = record {
+  bytes = first.bytes ++ next.bytes;
+  read = Consumes-trans input between rest first.bytes next.bytes first.read next.read;
+  whole = omega (arith, length-append first.bytes next.bytes, first.whole, next.whole, ap (λ (k : ℕ). more * k) same, add-mul count more block, ap (λ (k : ℕ). k * block) sum_is);
+}
+
+-- a piece that is taken is given
+pub piece-gives : (old : DiskView) (first : ℕ) (piece : List ℕ) (count blocks room : ℕ) (input rest : Option (List ℕ)) → IsRead old first piece count blocks room input rest → count / old.drive.geometry.block ≤ room
+    → count % old.drive.geometry.block ≡ 0 → PieceComes old.drive.geometry.block input rest blocks
+piece-gives old first piece count blocks room input rest r fits none =
+    let b = old.drive.geometry.block in
+    let same : blocks ≡ count / b = omega (arith, r.blocks_is, fits) in
+    let whole : count ≡ blocks * b = omega (arith, ap (λ (k : ℕ). k * b) same, mod-eq-sub-div-mul count b, none, div-mul-le_self count b) in (
+      record { bytes = take count piece; read = r.consumes; whole = omega (arith, length-take count piece, r.fits, whole) },
+      λ zero_blocks.
+          let none_at : 0 * b ≡ 0 = omega arith in
+          let empty : count ≡ 0 = whole ∙ ap (λ (k : ℕ). k * b) zero_blocks ∙ none_at in
+          r.end (omega (arith, empty, r.long, r.some, times-more 1 (piece_blocks b) b (omega arith))),
+    )

@@ -7,6 +7,7 @@ use Rattle.disk_files.specs.Output.{AppendsFront}
 use Rattle.zone_translator.specs.Flat.{FlatCall, blocks_from, read, with_nothing, write}
 use Rattle.zone_translator.specs.View.{DiskCause, DiskView, disk_array, disk_size, flat_of}
 use Rattle.zone_translator.specs.declared.fault.DiskFault.{DiskFault}
+use Rattle.zone_translator.specs.declared.fault.DiskFault.TheVariants.{OutOfRange}
 use Rattle.disk_copies.specs.declared.stream_fault.ExportFault.{ExportFault}
 use Rattle.disk_copies.specs.declared.stream_fault.ExportFault.TheVariants as exports
 use Rattle.disk_copies.specs.declared.stream_fault.ImportFault.{ImportFault}
@@ -85,3 +86,23 @@ EndsPiece (Err fault) old first taken left rest new = StopsImport fault old (fir
 pub record ImportsPiece (old : DiskView) (first : ℕ) (input rest : Known) (result : Result ℕ ImportFault) (new : DiskView) : Type 0 where
   pub takes : TakesBlocks old first input rest result new
   pub ends : EndsPiece result old first (length takes.blocks) takes.left rest new
+
+-- ---- whatever the Reads of the drive returned
+
+-- the reader gave so many whole blocks, and no other byte
+pub record ComesWhole (block : ℕ) (input rest : Known) (count : ℕ) : Type 0 where
+  pub bytes : List ℕ
+  pub read : Consumes input rest bytes
+  pub whole : length bytes ≡ count * block
+
+-- of a piece: if it gave none, it is at its end
+abbrev pub PieceComes : ℕ → Known → Known → ℕ → Type 0
+PieceComes block input rest count = ComesWhole block input rest count × (count ≡ 0 → IsAtEnd rest)
+
+-- of an import that is done: it is at its end
+abbrev pub AllComes : ℕ → Known → Known → ℕ → Type 0
+AllComes block input rest count = ComesWhole block input rest count × IsAtEnd rest
+
+-- a range past the end of the disk is refused, and nothing is written
+abbrev pub RefusesPast : DiskView → Known → Known → Result (Unit {0}) ExportFault → DiskView → Type 0
+RefusesPast old written contents result new = (result ≡ Err (exports.Disk OutOfRange)) × (contents ≡ written) × (new ≡ old)

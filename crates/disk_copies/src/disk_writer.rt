@@ -10,13 +10,13 @@ use drive_port::{Device, Honest};
 use std::io;
 use std::io::{ErrorKind, Write};
 use std::marker::Model;
-use zone_translator::{Disk, DiskFault};
+use zone_translator::{AnyDisk, Disk, DiskFault};
 
 /// A disk as a writer: whole blocks that are written go to its blocks, from the first one on. Blocks of zeros are
 /// trimmed. It takes as many whole blocks as there are, and as it has room for; the rest of the bytes is not taken.
 #[derive(Drop)]
 pub struct DiskWriter<D: Device + Honest + Drop> {
-    disk: Disk<D>,
+    disk: AnyDisk<D>,
     /// The block that is written next.
     next: u64,
     /// Why the disk refused the last blocks.
@@ -37,7 +37,7 @@ impl<D: Device + Honest + Drop> DiskWriter<D> {
         ensures { result ≡ record { disk = disk; next = 0 } }
     {
         DiskWriter {
-            disk,
+            disk: disk.into_any(),
             next: 0,
             fault: None,
         }
@@ -52,7 +52,7 @@ impl<D: Device + Honest + Drop> DiskWriter<D> {
     pub fn into_disk(self) -> Disk<D>
         ensures { result ≡ self.disk }
     {
-        self.disk
+        Disk::of(self.disk)
     }
 
     /// How many blocks are taken of so many bytes: those that are whole, and for which there is room.
@@ -63,6 +63,7 @@ impl<D: Device + Honest + Drop> DiskWriter<D> {
         ensures array { self.now.disk.status ≡ Serving
             → length (disk_array self.now.disk) ≡ disk_size self.now.disk }
     {
+        self.disk.device().vouch();
         let left = self.disk.blocks().saturating_sub(self.next);
         let whole = (bytes / self.disk.block_bytes()) as u64;
         whole.min(left) as usize
@@ -75,7 +76,9 @@ impl<D: Device + Honest + Drop> Write for DiskWriter<D> {
     fn write(&mut self, bytes: &[u8]) -> io::Result<usize> {
         let blocks = self.room(bytes.len());
         let taken = blocks * self.disk.block_bytes();
-        match put(&mut self.disk, self.next, &bytes[..taken], true) {
+        let done = put(&mut self.disk, self.next, &bytes[..taken], true);
+        self.disk.device().vouch();
+        match done {
             Ok(()) => {
                 self.next += blocks as u64;
                 Ok(taken)

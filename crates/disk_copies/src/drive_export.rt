@@ -6,6 +6,7 @@ ghost use Rattle.disk_copies.specs.DriveCopies.{ExportsFile, blocks_asked};
 use crate::copy_fault::CopyFault;
 use crate::exporting::export_blocks;
 use crate::job::ExportJob;
+use drive_port::Honest;
 use job_drives::{KeepFault, mount_served, restarted_drive};
 use std::alloc::Global;
 use std::io::{Read, Write};
@@ -36,11 +37,13 @@ pub fn export_drive<I: Read, W: Write>(
         Err(fault) => return Err(CopyFault::File(KeepFault::Image(fault))),
     };
     let mut disk = match mount_served(alloc, begun.drive, None) {
-        Ok(disk) => disk,
+        Ok(disk) => disk.into_any(),
         Err((fault, _drive)) => return Err(CopyFault::Mount(fault)),
     };
     let blocks = blocks_asked(job.count, job.first, disk.blocks());
-    match export_blocks(alloc, &mut disk, writer, job.first, blocks) {
+    let exported = export_blocks(alloc, &mut disk, writer, job.first, blocks);
+    disk.device().vouch();
+    match exported {
         Ok(()) => Ok(()),
         Err(fault) => Err(CopyFault::Export(fault)),
     }

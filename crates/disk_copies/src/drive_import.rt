@@ -36,10 +36,11 @@ pub fn import_mounted<D: Device + Honest + Drop, R: Read>(
         (D.drive device) result.1 (D.drive result.0) }
 {
     let mut disk = match mount_served(alloc, device, job.blocks) {
-        Ok(disk) => disk,
+        Ok(disk) => disk.into_any(),
         Err((fault, device)) => return (device, Err(CopyFault::Mount(fault))),
     };
     let taken = import_blocks(alloc, &mut disk, reader, job.first, job.sparse);
+    disk.device().vouch();
     (disk.into_device(), import_end(taken))
 }
 

@@ -1,18 +1,18 @@
 // Blocks of a disk as flat bytes.
 
-ghost use Rattle.std.specs.Prelude.{◌≡◌, ◌+◌, ◌≤◌, ◌<◌, ◌&&◌, nat_lt, max, length};
+ghost use Rattle.std.specs.Prelude.{◌≡◌, ◌+◌, ◌≤◌, ◌<◌, ◌&&◌, nat_lt, max, length, IsTrue};
 ghost use Rattle.zone_translator.specs.Keeping.{KeepsServed};
-ghost use Rattle.zone_translator.specs.View.{disk_array, disk_size};
+ghost use Rattle.zone_translator.specs.View.{StaysAlike, disk_array, disk_size};
 ghost use Rattle.zone_translator.specs.declared.status.DiskStatus.TheVariants.{Serving};
-ghost use Rattle.disk_copies.specs.Copies.{Exports};
+ghost use Rattle.disk_copies.specs.Copies.{Exports, RefusesPast};
 
 use crate::piece::{block_of, piece_blocks};
 use crate::stream_fault::ExportFault;
 use disk_files::write_out;
-use drive_port::{Device, Honest};
+use drive_port::Device;
 use std::alloc::Global;
 use std::io::Write;
-use zone_translator::{Disk, DiskFault};
+use zone_translator::{AnyDisk, DiskFault};
 
 /// Whether a range goes past the end of a disk. One of no block does not.
 fn is_past_end(size: u64, first: u64, blocks: u64) -> bool
@@ -22,15 +22,18 @@ fn is_past_end(size: u64, first: u64, blocks: u64) -> bool
 }
 
 /// Writes one piece of an export.
-fn export_piece<D: Device + Honest + Drop, W: Write>(
-    disk: &mut Disk<D>,
+fn export_piece<D: Device + Drop, W: Write>(
+    disk: &mut AnyDisk<D>,
     writer: &mut W,
     first: u64,
     blocks: u64,
     piece: &mut Vec<u8>,
 ) -> Result<(), ExportFault>
-    ensures exports { Exports disk.old first blocks (W.contents writer.old) (W.contents writer.new) result disk.new }
-    ensures keeps { KeepsServed disk.old disk.new }
+    ensures exports { IsTrue disk.new.drive.clean
+        → Exports disk.old first blocks (W.contents writer.old) (W.contents writer.new) result disk.new }
+    ensures keeps { IsTrue disk.new.drive.clean → KeepsServed disk.old disk.new }
+    // Whatever the Reads returned, shape and size stay.
+    ensures alike { StaysAlike disk.old disk.new }
 {
     disk.read_joined(first, blocks, piece)?;
     write_out(writer, piece)?;
@@ -40,17 +43,25 @@ fn export_piece<D: Device + Honest + Drop, W: Write>(
 /// Writes the bytes of `blocks` blocks from the block `first` on, and nothing else.
 ///
 /// A range past the end is refused before anything is written. After another fault the first blocks are written, and
-/// where the writer failed a beginning of the next ones.
-pub fn export_blocks<D: Device + Honest + Drop, W: Write>(
+/// where the writer failed a beginning of the next ones. A block that the drive does not read ends the export: of the
+/// piece of up to 1 MiB that it is in nothing is written.
+pub fn export_blocks<D: Device + Drop, W: Write>(
     alloc: Global,
-    disk: &mut Disk<D>,
+    disk: &mut AnyDisk<D>,
     writer: &mut W,
     first: u64,
     blocks: u64,
 ) -> Result<(), ExportFault>
-    ensures exports { Exports disk.old first blocks (W.contents writer.old) (W.contents writer.new) result disk.new }
-    ensures array { disk_array disk.new ≡ disk_array disk.old }
-    ensures keeps { KeepsServed disk.old disk.new }
+    // While the drive is clean, these are the bytes of its blocks, and the array stays.
+    ensures exports { IsTrue disk.new.drive.clean
+        → Exports disk.old first blocks (W.contents writer.old) (W.contents writer.new) result disk.new }
+    ensures array { IsTrue disk.new.drive.clean → disk_array disk.new ≡ disk_array disk.old }
+    ensures keeps { IsTrue disk.new.drive.clean → KeepsServed disk.old disk.new }
+    // Whatever the Reads returned, shape and size stay.
+    ensures alike { StaysAlike disk.old disk.new }
+    // Whatever they returned, a range past the end is refused before anything is written.
+    ensures past { 0 < blocks → disk_size disk.old < first + blocks
+        → RefusesPast disk.old (W.contents writer.old) (W.contents writer.new) result disk.new }
 {
     if is_past_end(disk.blocks(), first, blocks) {
         return Err(ExportFault::Disk(DiskFault::OutOfRange));

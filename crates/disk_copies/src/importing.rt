@@ -1,17 +1,18 @@
 // Flat bytes as blocks of a disk.
 
-ghost use Rattle.std.specs.Prelude.{◌≡◌, ◌*◌, ◌<◌, IfOk, length};
+ghost use Rattle.std.specs.Prelude.{◌≡◌, ◌+◌, ◌*◌, ◌<◌, ◌≤◌, IfOk, IsTrue, length};
 ghost use Rattle.zone_translator.specs.Keeping.{KeepsServed};
-ghost use Rattle.disk_copies.specs.Copies.{Imports, ImportsPiece, piece_blocks};
+ghost use Rattle.zone_translator.specs.View.{StaysAlike, disk_size};
+ghost use Rattle.disk_copies.specs.Copies.{AllComes, PieceComes, Imports, ImportsPiece, piece_blocks};
 
 use crate::piece::{block_of, piece_blocks};
 use crate::putting::put;
 use crate::stream_fault::ImportFault;
 use disk_files::fill;
-use drive_port::{Device, Honest};
+use drive_port::Device;
 use std::alloc::{AllocError, Global};
 use std::io::Read;
-use zone_translator::Disk;
+use zone_translator::AnyDisk;
 
 /// A buffer for a piece of blocks of so many bytes.
 fn piece_buffer(alloc: Global, block: u32) -> Result<Vec<u8>, AllocError>
@@ -25,8 +26,8 @@ fn piece_buffer(alloc: Global, block: u32) -> Result<Vec<u8>, AllocError>
 }
 
 /// Reads a piece, and writes its blocks from the block `first` on. It tells how many: none only at the end.
-fn import_piece<D: Device + Honest + Drop, R: Read>(
-    disk: &mut Disk<D>,
+fn import_piece<D: Device + Drop, R: Read>(
+    disk: &mut AnyDisk<D>,
     reader: &mut R,
     piece: &mut [u8],
     first: u64,
@@ -34,8 +35,14 @@ fn import_piece<D: Device + Honest + Drop, R: Read>(
 ) -> Result<u64, ImportFault>
     requires { length piece.old
         ≡ piece_blocks disk.old.drive.geometry.block * disk.old.drive.geometry.block }
-    ensures imports { ImportsPiece disk.old first (R.remaining reader.old) (R.remaining reader.new) result disk.new }
-    ensures keeps { KeepsServed disk.old disk.new }
+    ensures imports { IsTrue disk.new.drive.clean
+        → ImportsPiece disk.old first (R.remaining reader.old) (R.remaining reader.new) result disk.new }
+    ensures keeps { IsTrue disk.new.drive.clean → KeepsServed disk.old disk.new }
+    // Whatever the Reads returned, shape and size stay, and the blocks that it tells are the disk's.
+    ensures alike { StaysAlike disk.old disk.new }
+    ensures within { IfOk result (λ count. 0 < count → first + count ≤ disk_size disk.old) }
+    ensures gives { IfOk result (PieceComes disk.old.drive.geometry.block (R.remaining reader.old)
+        (R.remaining reader.new)) }
     ensures length { length piece.new ≡ length piece.old }
 {
     let block = disk.block_bytes();
@@ -58,15 +65,21 @@ fn import_piece<D: Device + Honest + Drop, R: Read>(
 ///
 /// After a fault the blocks before are written. If the reader failed, those are missing that were read with the last
 /// bytes, less than 1 MiB of them; if the disk refused, a front of the last ones is written.
-pub fn import_blocks<D: Device + Honest + Drop, R: Read>(
+pub fn import_blocks<D: Device + Drop, R: Read>(
     alloc: Global,
-    disk: &mut Disk<D>,
+    disk: &mut AnyDisk<D>,
     reader: &mut R,
     first: u64,
     sparse: bool,
 ) -> Result<u64, ImportFault>
-    ensures imports { Imports disk.old first (R.remaining reader.old) (R.remaining reader.new) result disk.new }
-    ensures keeps { KeepsServed disk.old disk.new }
+    // While the drive is clean, its array has the blocks that were read.
+    ensures imports { IsTrue disk.new.drive.clean
+        → Imports disk.old first (R.remaining reader.old) (R.remaining reader.new) result disk.new }
+    ensures keeps { IsTrue disk.new.drive.clean → KeepsServed disk.old disk.new }
+    // Whatever the Reads returned, shape and size stay. Done, the reader is at its end, and gave so many whole blocks.
+    ensures alike { StaysAlike disk.old disk.new }
+    ensures gives { IfOk result (AllComes disk.old.drive.geometry.block (R.remaining reader.old)
+        (R.remaining reader.new)) }
 {
     let mut piece = piece_buffer(alloc, block_of(disk))?;
     // A disk has few blocks, so that their numbers can be added.

@@ -14,7 +14,8 @@
 //!
 //! # What is promised
 //!
-//! Over every reader, writer and device (`specs/Copies.antt`):
+//! Over every reader, writer and device, while the drive is clean: as long as each Read returned what the drive holds
+//! (`specs/Copies.antt`):
 //!
 //! * [`export_blocks`] writes exactly the bytes that one read of these blocks shows. If the writer fails, a beginning
 //!   of them is written; if the disk refuses, the bytes of the first blocks. The array stays as it is (`Exports`).
@@ -28,7 +29,9 @@
 //! * A refusal of the disk has its cause. Each drive has the same geometry, can be mounted again if it could before,
 //!   and refused no command.
 //!
-//! The bytes are promised where reader and writer say by contract which bytes they have left and hold.
+//! The bytes are promised where reader and writer say by contract which bytes they have left and hold. Whatever the
+//! Reads returned, each copy ends, and geometry and size stay (`StaysAlike`). A [`DiskWriter`] is for a device that is
+//! always clean.
 //!
 //! Over every file and store, too (`specs/DriveCopies.antt`):
 //!

@@ -3,14 +3,14 @@
 ghost use Rattle.std.specs.Prelude.{◌≡◌, ◌<◌, ◌*◌, ◌^◌, max};
 ghost use Rattle.disk_copies.specs.Copies.{piece_blocks};
 
-use drive_port::{Device, Honest};
-use zone_translator::Disk;
+use drive_port::Device;
+use zone_translator::AnyDisk;
 
 /// How many bytes are copied at a time. A block is not longer.
 const PIECE_BYTES: u32 = 1_048_576;
 
 /// How many bytes a block of a disk has.
-pub(crate) fn block_of<D: Device + Honest + Drop>(disk: &Disk<D>) -> u32
+pub(crate) fn block_of<D: Device + Drop>(disk: &AnyDisk<D>) -> u32
     ensures size { result ≡ disk.now.drive.geometry.block }
     ensures some { 0 < result }
 {

@@ -1,13 +1,13 @@
 // Whole blocks that are written to a disk, those of zeros by trims if that is asked for.
 
-ghost use Rattle.std.specs.Prelude.{◌≡◌, ◌+◌, ◌*◌, ◌^◌, ◌≤◌, ◌<◌, ℕ, IfErr, length, replicate, take, true};
+ghost use Rattle.std.specs.Prelude.{◌≡◌, ◌+◌, ◌*◌, ◌^◌, ◌≤◌, ◌<◌, ℕ, IfErr, IsTrue, length, replicate, take, true};
 ghost use Rattle.zone_translator.specs.Answers.{AreBlocksOf, count_of_blocks, write_bytes};
 ghost use Rattle.zone_translator.specs.Flat.{FlatCall, with_nothing};
 ghost use Rattle.zone_translator.specs.Keeping.{KeepsServed};
-ghost use Rattle.zone_translator.specs.View.{DiskCause, disk_size, flat_of};
+ghost use Rattle.zone_translator.specs.View.{DiskCause, StaysAlike, disk_size, flat_of};
 
-use drive_port::{Device, Honest};
-use zone_translator::{Disk, DiskFault};
+use drive_port::Device;
+use zone_translator::{AnyDisk, DiskFault};
 
 /// Whether all bytes of a block are zeros.
 fn is_zero(block: &[u8]) -> bool
@@ -44,18 +44,20 @@ fn first_run(bytes: &[u8], block: usize) -> Run
 }
 
 /// Writes a run of blocks, or trims it.
-fn put_run<D: Device + Honest + Drop>(
-    disk: &mut Disk<D>,
+fn put_run<D: Device + Drop>(
+    disk: &mut AnyDisk<D>,
     first: u64,
     bytes: &[u8],
     zeros: bool,
 ) -> Result<(), DiskFault>
     requires whole { AreBlocksOf disk.old bytes.now }
     requires zeros { zeros ≡ true → bytes.now ≡ replicate (length bytes.now) 0 }
-    ensures flat { FlatCall (flat_of disk.old) (write_bytes disk.old first bytes.now)
-        (with_nothing result) (flat_of disk.new) }
-    ensures cause { IfErr result (DiskCause disk.new) }
-    ensures keeps { KeepsServed disk.old disk.new }
+    ensures flat { IsTrue disk.new.drive.clean
+        → FlatCall (flat_of disk.old) (write_bytes disk.old first bytes.now) (with_nothing result) (flat_of disk.new) }
+    ensures cause { IsTrue disk.new.drive.clean → IfErr result (DiskCause disk.new) }
+    ensures keeps { IsTrue disk.new.drive.clean → KeepsServed disk.old disk.new }
+    // Whatever the Reads returned, shape and size stay.
+    ensures alike { StaysAlike disk.old disk.new }
 {
     if !zeros {
         return disk.write(first, bytes);
@@ -66,8 +68,8 @@ fn put_run<D: Device + Honest + Drop>(
 
 /// Writes whole blocks from the block `first` on. If it is sparse, those of zeros are trimmed. After a refusal a front
 /// of the blocks is written.
-pub(crate) fn put<D: Device + Honest + Drop>(
-    disk: &mut Disk<D>,
+pub(crate) fn put<D: Device + Drop>(
+    disk: &mut AnyDisk<D>,
     first: u64,
     bytes: &[u8],
     sparse: bool,
@@ -76,10 +78,12 @@ pub(crate) fn put<D: Device + Honest + Drop>(
     requires room { 0 < count_of_blocks disk.old bytes.now
         → first + count_of_blocks disk.old bytes.now ≤ disk_size disk.old }
     requires few { disk_size disk.old ≤ 2 ^ 31 }
-    ensures flat { FlatCall (flat_of disk.old) (write_bytes disk.old first bytes.now)
-        (with_nothing result) (flat_of disk.new) }
-    ensures cause { IfErr result (DiskCause disk.new) }
-    ensures keeps { KeepsServed disk.old disk.new }
+    ensures flat { IsTrue disk.new.drive.clean
+        → FlatCall (flat_of disk.old) (write_bytes disk.old first bytes.now) (with_nothing result) (flat_of disk.new) }
+    ensures cause { IsTrue disk.new.drive.clean → IfErr result (DiskCause disk.new) }
+    ensures keeps { IsTrue disk.new.drive.clean → KeepsServed disk.old disk.new }
+    // Whatever the Reads returned, shape and size stay.
+    ensures alike { StaysAlike disk.old disk.new }
 {
     if !sparse {
         return disk.write(first, bytes);

@@ -13,6 +13,7 @@ use disk_runs::RunFault;
 use drive_images::ImageFault;
 use drive_inspection::find_written;
 use drive_journal::ReadFault;
+use drive_port::Honest;
 use job_drives::{Backing, FileFault, Saved, restarted_drive};
 use std::alloc::Global;
 use std::io::{Read, Write};
@@ -40,7 +41,9 @@ fn refuse_written<I: Read>(alloc: Global, bytes: &mut I) -> Result<(), ProgramFa
         Ok(begun) => begun.drive,
         Err(fault) => return Err(unread(fault)),
     };
-    match find_written(alloc, &mut drive) {
+    let found = find_written(alloc, &mut drive);
+    drive.vouch();
+    match found {
         Ok(None) => Ok(()),
         Ok(Some(written)) => Err(ProgramFault::Holds(FileHolding::Drive(written))),
         Err(MountFault::OutOfMemory) => Err(ProgramFault::Run(RunFault::Memory)),

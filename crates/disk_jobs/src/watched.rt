@@ -77,6 +77,16 @@ impl Progress {
         }
     }
 
+    /// How much there was in each of so many seconds, and in which unit: a rate below one MiB is in KiB.
+    fn rate(self, seconds: u64) -> (u64, &'static str) {
+        let bytes = self.bytes / seconds.max(1);
+        match self.counted {
+            Counted::Lines => (self.lines / seconds.max(1), "lines"),
+            Counted::Mebibytes if bytes < 1 << 20 => (bytes >> 10, "KiB"),
+            Counted::Mebibytes => (bytes >> 20, "MiB"),
+        }
+    }
+
     /// Of 100 bytes how many there were, if it is known how many there are.
     fn percent(self) -> Option<u64> {
         let total = self.total?;
@@ -91,12 +101,12 @@ impl Progress {
     fn show<E: Eprint>(self, errors: &E, now: Duration, end: &str) {
         let (amount, name) = (self.amount(), self.counted.name());
         let seconds = now.saturating_sub(self.begun).as_secs().max(1);
-        let rate = amount / seconds;
+        let (rate, unit) = self.rate(seconds);
         let _ = match self.percent() {
             Some(percent) => {
-                eprint!(errors; "{amount} {name}, {percent} percent, {rate} {name}/s{end}")
+                eprint!(errors; "{amount} {name}, {percent} percent, {rate} {unit}/s{end}")
             }
-            None => eprint!(errors; "{amount} {name}, {rate} {name}/s{end}"),
+            None => eprint!(errors; "{amount} {name}, {rate} {unit}/s{end}"),
         };
     }
 }

@@ -3,15 +3,16 @@ use Rattle.std.proofs.Common.{◌≡◌, ℕ, zero, suc, ◌+◌, ◌<◌, ◌�
 use Rattle.std.specs.Prelude.{nat_lt, ◌&&◌}
 use Rattle.std.specs.List.{concat}
 use Rattle.std.proofs.lemmas.Bool.Decides.{nat_tests}
-use Rattle.std.proofs.lemmas.List.{append-nil, drop-drop, length-drop}
+use Rattle.std.proofs.lemmas.List.{append-nil, drop-drop, length-append, length-drop}
 use Rattle.disk_files.specs.Reply.{block_line, block_lines, ok_text, out_of_range_text}
 use Rattle.zone_translator.specs.Calls.{Reads}
 use Rattle.zone_translator.specs.Flat.{Answer, FlatCall, FlatDisk, answer_while, blocks_from, known_answer, may_refuse, read, with_nothing}
 use Rattle.zone_translator.specs.declared.fault.DiskFault.{DiskFault}
-use Rattle.zone_translator.specs.declared.fault.DiskFault.TheVariants.{OutOfRange, OutOfMemory, Stopped, Spent, Unmounted, Smaller, Reserve, Damaged}
+use Rattle.zone_translator.specs.declared.fault.DiskFault.TheVariants.{OutOfRange, OutOfMemory, Failed, Stopped, Spent, Unmounted, Smaller, Reserve, Damaged}
 use Rattle.zone_translator.specs.declared.status.DiskStatus.{DiskStatus}
 use Rattle.zone_translator.specs.declared.status.DiskStatus.TheVariants as statuses
 use Rattle.zone_translator.specs.View.{CompletesAtMost, DiskCause, DiskView, disk_turns}
+use Rattle.disk_runs.specs.AnyDevice.{PutsLines}
 use Rattle.disk_runs.specs.FlatLines.{IsRefused, RepliesTo, refusal_reply, single}
 use Rattle.disk_runs.specs.Trace.{EndCause, ReadsFew}
 use Rattle.disk_runs.specs.declared.fault.RunFault.TheVariants.{Disk}
@@ -62,6 +63,7 @@ shows_block old new at bytes fits reads = of old.status refl
 same_refusal : (a b c d : ℕ) (fault : DiskFault) → may_refuse (read a b) fault ≡ may_refuse (read c d) fault
 same_refusal a b c d OutOfRange = refl
 same_refusal a b c d OutOfMemory = refl
+same_refusal a b c d Failed = refl
 same_refusal a b c d Stopped = refl
 same_refusal a b c d Spent = refl
 same_refusal a b c d Smaller = refl
@@ -73,6 +75,7 @@ same_refusal a b c d Unmounted = refl
 no_reply : (first n : ℕ) (fault : DiskFault) → may_refuse (read first n) fault ≡ true → refusal_reply fault ≡ None
 no_reply first n OutOfRange may = absurd (cc)
 no_reply first n OutOfMemory may = refl
+no_reply first n Failed may = refl
 no_reply first n Stopped may = refl
 no_reply first n Spent may = refl
 no_reply first n Smaller may = absurd (cc)
@@ -140,6 +143,7 @@ shows_all disk first (suc n) fits serves =
 pub cause_of : (disk : DiskView) (fault : DiskFault) → refusal_reply fault ≡ None → DiskCause disk fault → EndCause disk (Disk fault)
 cause_of disk OutOfRange none cause = absurd (cc)
 cause_of disk OutOfMemory none cause = cause
+cause_of disk Failed none cause = cause
 cause_of disk Stopped none cause = cause
 cause_of disk Spent none cause = cause
 cause_of disk Smaller none cause = absurd (cc)
@@ -209,3 +213,24 @@ line_more array size first i n before reply new bytes long lt fits shown so e =
     ap (λ (k : ℕ). block_lines first (take k here)) next
     ∙ more ∙ ap (λ (xs : List (List ℕ)). block_lines first (take i here) ++ block_line (first + i) (concat (take 1 xs))) joined in
     e ∙ rw (so, shown) (append_assoc before (block_lines first (take i here)) last) ∙ ap (λ (xs : List ℕ). before ++ xs) (sym grown)
+
+-- the lines of blocks and of one more
+lines-append : (first : ℕ) (xs : List (List ℕ)) (x : List ℕ) (at : ℕ) → at ≡ first + length xs → block_lines first (xs ++ x ∷ []) ≡ block_lines first xs ++ block_line at x
+lines-append first [] x at e =
+    let same : at ≡ first = omega (arith, e) in
+    rw same (append-nil (block_line first x))
+lines-append first (y ∷ ys) x at e =
+    let more = lines-append (first + 1) ys x at (omega (arith, e)) in
+    ap (λ (zs : List ℕ). block_line first y ++ zs) more ∙ sym (append_assoc (block_line first y) (block_lines (first + 1) ys) (block_line at x))
+
+-- whatever the bytes of the block are
+pub puts_more : (first i : ℕ) (before reply new bytes : List ℕ) → PutsLines first i before reply → new ≡ reply ++ block_line (first + i) bytes → PutsLines first (i + 1) before new
+puts_more first i before reply new bytes so_far e =
+    let last = block_line (first + i) bytes in
+    let here : first + i ≡ first + length so_far.shown = omega (arith, so_far.long) in
+    record {
+      shown = so_far.shown ++ bytes ∷ [];
+      long = omega (arith, length-append so_far.shown (bytes ∷ []), so_far.long);
+      after_is = e ∙ ap (λ (xs : List ℕ). xs ++ last) so_far.after_is ∙ append_assoc before (block_lines first so_far.shown) last
+          ∙ ap (λ (xs : List ℕ). before ++ xs) (sym (lines-append first so_far.shown bytes (first + i) here));
+    }

@@ -4,7 +4,7 @@ use Rattle.std.specs.Prelude.{MatchOption, Option, Result}
 use Rattle.zone_translator.specs.Flat.{Answer, Begun, FlatCall, FlatDisk, answer_while, flush, known_answer, may_refuse, with_nothing}
 use Rattle.zone_translator.specs.View.{DiskView, disk_array, flat_of}
 use Rattle.zone_translator.specs.declared.fault.DiskFault.{DiskFault}
-use Rattle.zone_translator.specs.declared.fault.DiskFault.TheVariants.{OutOfRange, OutOfMemory, Stopped, Spent, Unmounted, Smaller, Reserve, Damaged}
+use Rattle.zone_translator.specs.declared.fault.DiskFault.TheVariants.{OutOfRange, OutOfMemory, Failed, Stopped, Spent, Unmounted, Smaller, Reserve, Damaged}
 use Rattle.zone_translator.specs.declared.status.DiskStatus.{DiskStatus}
 use Rattle.zone_translator.specs.declared.status.DiskStatus.TheVariants as statuses
 use Rattle.disk_runs.specs.FlatLines.{refusal_reply}
@@ -37,6 +37,7 @@ flush_untold old new fault answered = by old.status refl
     may : (fault : DiskFault) → may_refuse flush fault ≡ true → refusal_reply fault ≡ None
     may OutOfRange m = absurd (cc)
     may OutOfMemory m = refl
+    may Failed m = refl
     may Stopped m = refl
     may Spent m = absurd (cc)
     may Unmounted m = refl

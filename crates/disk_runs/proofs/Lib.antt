@@ -1,3 +1,4 @@
+pub mod AnyLaws
 pub mod CallLaws
 pub mod FlushLaws
 pub mod LossLaws

@@ -7,7 +7,8 @@ use Rattle.disk_files.specs.declared.trace_line.TraceLine.TheVariants.{Read, Fil
 use Rattle.zone_cleaner.specs.Clean.{CleanView}
 use Rattle.zone_translator.specs.View.{CompletesAtMost, DiskView, disk_turns}
 use Rattle.zone_translator.specs.declared.fault.DiskFault.{DiskFault}
-use Rattle.disk_runs.specs.Laws.{CleansEnd, CommandsAreFew, LastIsFew, Pauses, PausesAmong, PausesAt, PausesWith, TurnsAreFew, all_commands, all_turns, most_commands, mounts, turns_asked, with_flush}
+use Rattle.disk_runs.specs.Costs.{all_commands, most_commands, mounts, with_flush}
+use Rattle.disk_runs.specs.Laws.{CleansEnd, CommandsAreFew, LastIsFew, Pauses, PausesAmong, PausesAt, PausesWith, TurnsAreFew, all_turns, turns_asked}
 use Rattle.disk_runs.specs.Run.{AnswersAll}
 use Rattle.disk_runs.specs.Taken.{AnswersWith, RefusesWith, disk_lines, is_flushed}
 use Rattle.disk_runs.specs.Trace.{Does, DoesSaid, StopsSaid, TakesFewer, TakesOne, TakesTurns, TurnsBy, said_by}
@@ -72,7 +73,7 @@ answer_keep : (flushed : Bool) (old new : DiskView) (line reply : List ℕ) → 
 answer_keep false old new line reply a = said_keep (said_by line) old new a.does
 answer_keep true old new line reply a = a.flushed.answers.kept.geometry ∙ said_keep (said_by line) old a.middle a.answers.does
 
-pub commands_are_few : CommandsAreFew
+pub commands_are_few : CommandsAreFew disk_lines
 commands_are_few taking old new [] text all none = rw all.1 (omega arith)
 commands_are_few taking old new (line ∷ lines) text all none =
     let first = answer_few (is_flushed taking line) old all.middle line all.reply none.0 all.answers in
@@ -94,7 +95,7 @@ refusal_few false fault old new line none r = refused_few (said_by line) fault o
 refusal_few true fault old new line none (inl r) = omega (arith, refused_few (said_by line) fault old new none r.does)
 refusal_few true fault old new line none (inr u) = omega (arith, said_few (said_by line) old u.1.middle none u.1.answers.does, u.1.flushed.completed)
 
-pub last_is_few : LastIsFew
+pub last_is_few : LastIsFew disk_lines
 last_is_few taking Output left number old shown new s = λ none. answer_few (is_flushed taking s.line) old new s.line s.does.reply none s.does.answers
 last_is_few taking (Disk fault) left number old shown new s = λ none. refusal_few (is_flushed taking s.1.line) fault old new s.1.line none s.1.does
 last_is_few taking (Mount fault) left number old shown new s = tt

@@ -119,6 +119,7 @@ idle_untold old new fault answered = by old.status refl
     may : (fault : DiskFault) → may_refuse idle fault ≡ true → refusal_reply fault ≡ None
     may faults.OutOfRange m = absurd (cc)
     may faults.OutOfMemory m = refl
+    may faults.Failed m = refl
     may faults.Stopped m = refl
     may faults.Spent m = refl
     may faults.Unmounted m = refl
@@ -161,7 +162,7 @@ pub on-ok : {T : Type 0} {P Q : Type 0} (r : Result T RunFault) → (P → Q) �
 on-ok (Ok x) f h = f h
 on-ok (Err fault) f h = tt
 
-nothing-shown : (first : ℕ) (done : Result (Unit {0}) DiskFault) → reply_of first [] done ≡ reply_of 0 [] done
+pub nothing-shown : (first : ℕ) (done : Result (Unit {0}) DiskFault) → reply_of first [] done ≡ reply_of 0 [] done
 nothing-shown first (Ok done) = refl
 nothing-shown first (Err fault) = refl
 
@@ -187,11 +188,30 @@ pub never_memory : (result : Result (Unit {0}) RunFault) (P : Type 0) → IfErr 
 never_memory (Ok done) P other = tt
 never_memory (Err fault) P other = λ e. absurd (other e)
 
+-- what is so in any case is so for each fault
+pub whenever : (result : Result (Unit {0}) RunFault) (P : Type 0) → P → IfErr result (λ fault. fault ≡ Memory → P)
+whenever (Ok done) P p = tt
+whenever (Err fault) P p = λ e. p
+
+-- a refusal of the disk is no lack of memory
+pub not_memory : (done : Result (Unit {0}) DiskFault) (result : Result (Unit {0}) RunFault) (P : Type 0) → IfErr result (IsUntold done) → IfErr result (λ fault. fault ≡ Memory → P)
+not_memory done (Ok told) P untold = tt
+not_memory (Ok done) (Err fault) P untold = absurd untold
+not_memory (Err refused) (Err (Disk fault)) P untold = λ e. absurd (cc)
+not_memory (Err refused) (Err (runs.Mount fault)) P untold = absurd untold
+not_memory (Err refused) (Err (runs.Geometry fault)) P untold = absurd untold
+not_memory (Err refused) (Err (runs.Line n)) P untold = absurd untold
+not_memory (Err refused) (Err (runs.Long n)) P untold = absurd untold
+not_memory (Err refused) (Err runs.Input) P untold = absurd untold
+not_memory (Err refused) (Err runs.Output) P untold = absurd untold
+not_memory (Err refused) (Err Memory) P untold = absurd untold
+
 -- ---- what a line does that is answered
 
 -- no call is refused midway by a fault that has a reply
 untold : (call : Call) (fault : DiskFault) → may_refuse call fault ≡ true → refusal_reply fault ≡ None
 untold call faults.OutOfMemory may = refl
+untold call faults.Failed may = refl
 untold call faults.Stopped may = refl
 untold call faults.Spent may = refl
 untold call faults.Unmounted may = refl

@@ -1,14 +1,14 @@
 -- A line that is taken is answered, or not.
 use Rattle.std.proofs.Common.{◌≡◌, ℕ, true, false, List, Some, Ok, Err, inl, inr, refl, subst, sym}
-use Rattle.std.specs.Prelude.{Bool, IfErr, IsErrAnd, IsTrue, Result}
+use Rattle.std.specs.Prelude.{Bool, IfErr, IsErrAnd, Result}
 use Rattle.disk_files.specs.TraceLine.{is_skipped, trace_line}
 use Rattle.disk_files.specs.declared.trace_line.TraceLine.{TraceLine}
 use Rattle.drive_survey.specs.declared.fault.MountFault.{MountFault}
 use Rattle.zone_translator.specs.View.{DiskView, flat_of}
 use Rattle.zone_translator.specs.declared.fault.DiskFault.{DiskFault}
-use Rattle.disk_runs.specs.FlatLines.{AnswersRequest, IsOfDisk, RequestStops, asked}
+use Rattle.disk_runs.specs.FlatLines.{AnswersRequest, RequestStops, asked}
 use Rattle.disk_runs.specs.Run.{IsAnswered, LineStops}
-use Rattle.disk_runs.specs.Taken.{AnswersWith, FlushesIf, RefusesWith, any_lines, disk_lines, flushes, is_flushed, takes, takes_call}
+use Rattle.disk_runs.specs.Taken.{AnswersWith, FlushesIf, RefusesWith, disk_lines, flushes, is_flushed, takes, takes_call}
 use Rattle.disk_runs.specs.Trace.{AnswersLine, Does, EndCause, HasCause, KeepsFault, RefusesLine, StopsBy}
 use Rattle.disk_runs.specs.declared.fault.RunFault.{RunFault}
 use Rattle.disk_runs.specs.declared.fault.RunFault.TheVariants as runs
@@ -28,7 +28,7 @@ taken_by_call All size line call bytes s = rw (s.some, s.said) refl
 taken_by_call Reads size line call bytes s = rw (s.some, s.said) refl
 taken_by_call Synced size line call bytes s = rw (s.some, s.said) refl
 
-flushed_by_call : (taking : Taking) (line : List ℕ) (call : TraceLine) (bytes : List ℕ) → Says line call bytes → is_flushed taking line ≡ flushes taking call
+pub flushed_by_call : (taking : Taking) (line : List ℕ) (call : TraceLine) (bytes : List ℕ) → Says line call bytes → is_flushed taking line ≡ flushes taking call
 flushed_by_call All line call bytes s = refl
 flushed_by_call Reads line call bytes s = refl
 flushed_by_call Synced line call bytes s = rw (s.some, s.said) refl
@@ -36,7 +36,7 @@ flushed_by_call Synced line call bytes s = rw (s.some, s.said) refl
 pub not_taken : (taking : Taking) (size : ℕ) (line bytes : List ℕ) (call : TraceLine) → Says line call bytes → takes_call taking size call bytes ≡ false → takes taking size line ≡ false
 not_taken taking size line bytes call says not = rw (taken_by_call taking size line call bytes says) not
 
-taken_legal : (taking : Taking) (size : ℕ) (line bytes : List ℕ) (call : TraceLine) → Says line call bytes → takes_call taking size call bytes ≡ true → takes taking size line ≡ true
+pub taken_legal : (taking : Taking) (size : ℕ) (line bytes : List ℕ) (call : TraceLine) → Says line call bytes → takes_call taking size call bytes ≡ true → takes taking size line ≡ true
 taken_legal taking size line bytes call says taken = rw (taken_by_call taking size line call bytes says) taken
 
 -- ---- what is answered
@@ -122,25 +122,3 @@ refused taking number old new line bytes call (runs.Long m) n = absurd n.flat
 refused taking number old new line bytes call (runs.Geometry f) n = absurd n.flat
 refused taking number old new line bytes call runs.Input n = absurd n.flat
 refused taking number old new line bytes call runs.Output n = absurd n.flat
-
--- ---- over any device
-
--- a line is answered as long as the drive is clean
-pub any_answered : (taking : Taking) (old new : DiskView) (line reply bytes : List ℕ) (call : TraceLine) → Says line call bytes → takes_call taking old.drive.geometry.block call bytes ≡ true
-    → (IsTrue new.drive.clean → IsTrue old.drive.clean) → (IsTrue new.drive.clean → IsAnswered (disk_lines taking) old line reply new) → IsAnswered (any_lines taking) old line reply new
-any_answered taking old new line reply bytes call says taken before does = record {
-  legal = taken_legal taking old.drive.geometry.block line bytes call says taken;
-  answers = record { before = before; does = λ clean. (does clean).answers };
-}
-
--- or has no reply
-pub any_stopped : (taking : Taking) (number : ℕ) (old new : DiskView) (line bytes : List ℕ) (call : TraceLine) (fault : RunFault) → Says line call bytes → takes_call taking old.drive.geometry.block call bytes ≡ true → IsOfDisk fault
-    → (IsTrue new.drive.clean → IsTrue old.drive.clean) → (IsTrue new.drive.clean → LineStops (disk_lines taking) number old line fault new) → LineStops (any_lines taking) number old line fault new
-any_stopped taking number old new line bytes call (Disk f) says taken kind before stops = (taken_legal taking old.drive.geometry.block line bytes call says taken, record { before = before; does = λ clean. (stops clean).1 })
-any_stopped taking number old new line bytes call (Mount f) says taken kind before stops = (taken_legal taking old.drive.geometry.block line bytes call says taken, record { before = before; does = λ clean. (stops clean).1 })
-any_stopped taking number old new line bytes call Memory says taken kind before stops = record { before = before; does = stops }
-any_stopped taking number old new line bytes call (Line m) says taken kind before stops = absurd kind
-any_stopped taking number old new line bytes call (runs.Long m) says taken kind before stops = absurd kind
-any_stopped taking number old new line bytes call (runs.Geometry f) says taken kind before stops = absurd kind
-any_stopped taking number old new line bytes call runs.Input says taken kind before stops = absurd kind
-any_stopped taking number old new line bytes call runs.Output says taken kind before stops = absurd kind

@@ -213,6 +213,7 @@ kept_run taking bytes first last (Err fault) can r =
 call_cause : (fault : DiskFault) (old new : DiskView) → KeepsDisk old new → (old.status ≡ statuses.Unmounted → ⊥) → EndCause new (Disk fault) → IsCause new.drive (next_sequence new) fault
 call_cause faults.OutOfRange old new kept serves cause = cause
 call_cause faults.OutOfMemory old new kept serves cause = cause
+call_cause faults.Failed old new kept serves cause = cause
 call_cause faults.Stopped old new kept serves cause = cause
 call_cause faults.Spent old new kept serves cause = cause
 call_cause faults.Smaller old new kept serves cause = cause

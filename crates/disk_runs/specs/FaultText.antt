@@ -30,6 +30,7 @@ disk_refusal disk.Unmounted = record { number = 5; name = codes "Unmounted" }
 disk_refusal disk.Smaller = record { number = 7; name = codes "Smaller" }
 disk_refusal disk.Reserve = record { number = 8; name = codes "Reserve" }
 disk_refusal disk.Damaged = record { number = 9; name = codes "Damaged" }
+disk_refusal disk.Failed = record { number = 10; name = codes "Failed" }
 
 abbrev pub mount_refusal : MountFault → Refusal
 mount_refusal mount.Reserve = record { number = 1; name = codes "Reserve" }
@@ -45,6 +46,7 @@ mount_refusal mount.Halted = record { number = 10; name = codes "Halted" }
 mount_refusal mount.OutOfMemory = record { number = 11; name = codes "OutOfMemory" }
 mount_refusal (mount.TornZone zone) = record { number = 13; name = codes "TornZone" }
 mount_refusal mount.Damaged = record { number = 14; name = codes "Damaged" }
+mount_refusal mount.Failed = record { number = 15; name = codes "Failed" }
 
 -- why a zone holds no log
 abbrev pub log_refusal : LogFault → Refusal

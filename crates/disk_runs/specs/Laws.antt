@@ -1,20 +1,18 @@
 -- What holds of runs.
-use Rattle.std.specs.Prelude.{◌≡◌, ◌⊎◌, ℕ, zero, suc, ◌+◌, ◌*◌, ◌<◌, ◌≤◌, Bool, true, false, List, [], ◌∷◌, Contains, Option, Some, None, Result, Ok, Err, ⊤}
-use Rattle.std.specs.Int.{div_ceil}
+use Rattle.std.specs.Prelude.{◌≡◌, ◌⊎◌, ℕ, zero, suc, ◌+◌, ◌<◌, ◌≤◌, Bool, true, false, List, [], ◌∷◌, Contains, Option, Some, None, Result, Ok, Err, ⊤}
 use Rattle.std.specs.List.{AllByRecursion}
 use Rattle.zone_states.specs.Zone.{Zone}
-use Rattle.zone_states.specs.declared.geometry.Geometry.{Geometry}
-use Rattle.drive_port.specs.Calls.{block_count}
 use Rattle.drive_port.specs.Drive.{DriveState}
-use Rattle.drive_array.specs.Reserve.{batch_most}
 use Rattle.disk_files.specs.declared.trace_line.TraceLine.{TraceLine}
-use Rattle.disk_files.specs.declared.trace_line.TraceLine.TheVariants.{Read, Fill, Write, Trim, Idle, Grow, Remount}
+use Rattle.disk_files.specs.declared.trace_line.TraceLine.TheVariants.{Idle}
 use Rattle.remount.specs.Kept.{KeepsMountable}
-use Rattle.zone_translator.specs.Changes.{batch_commands}
+use Rattle.zone_choice.specs.Sane.{KeepsShape}
 use Rattle.zone_translator.specs.Laws.{CanMountAgain, LeavesDisk}
 use Rattle.zone_translator.specs.Mount.{MountsDisk}
 use Rattle.zone_translator.specs.View.{CompletesAtMost, DiskView, disk_array, disk_size, disk_turns, given_size}
-use Rattle.disk_runs.specs.Run.{AnswersAll, Exchange, IsNextLine, Known, Runs, StopsAt}
+use Rattle.disk_runs.specs.AnyDevice.{NoneResizes, any_lines}
+use Rattle.disk_runs.specs.Costs.{NoneMounts, all_commands, line_commands, mounts}
+use Rattle.disk_runs.specs.Run.{AnswersAll, Exchange, IsNextLine, Known, Language, Runs, StopsAt}
 use Rattle.disk_runs.specs.Taken.{AnswersWith, disk_lines, is_flushed, reads, synced}
 use Rattle.disk_runs.specs.Trace.{AnswersLine, DoesSaid, RunKeeps, TakesTurns, said_by}
 use Rattle.disk_runs.specs.declared.fault.RunFault.{RunFault}
@@ -31,69 +29,36 @@ ReadsKeepArray =
 
 -- ---- progress
 
--- at most how many commands a line takes: one for each block that it reads, those of each batch of a write and of a growth, and two a turn
-abbrev pub most_commands : Geometry → Option (TraceLine × List ℕ) → ℕ
-most_commands geometry None = 0
-most_commands geometry (Some (Read first n, bytes)) = n
-most_commands geometry (Some (Fill first n byte, bytes)) = n * batch_commands geometry
-most_commands geometry (Some (Write first, bytes)) = block_count geometry bytes * batch_commands geometry
-most_commands geometry (Some (Trim first n, bytes)) = div_ceil n (batch_most geometry) * batch_commands geometry
-most_commands geometry (Some (Idle n, bytes)) = 2 * n
-most_commands geometry (Some (Grow size, bytes)) = batch_commands geometry
-most_commands geometry (Some (Remount, bytes)) = 0
-
 -- how many turns of cleaning it asks for
 abbrev pub turns_asked : Option (TraceLine × List ℕ) → ℕ
 turns_asked (Some (Idle n, bytes)) = n
 turns_asked said = 0
 
--- whether it mounts the drive again, which takes as many commands as the drive needs
-abbrev pub mounts : Option (TraceLine × List ℕ) → Bool
-mounts (Some (Remount, bytes)) = true
-mounts said = false
-
--- one more where a flush follows
-abbrev pub with_flush : Bool → ℕ → ℕ
-with_flush true n = n + 1
-with_flush false n = n
-
--- the same of a line, with its flush
-abbrev pub line_commands : Taking → Geometry → List ℕ → ℕ
-line_commands taking geometry line = with_flush (is_flushed taking line) (most_commands geometry (said_by line))
-
--- all of these lines
-abbrev pub all_commands : Taking → Geometry → List (List ℕ) → ℕ
-all_commands taking geometry [] = 0
-all_commands taking geometry (line ∷ lines) = line_commands taking geometry line + all_commands taking geometry lines
-
 abbrev pub all_turns : List (List ℕ) → ℕ
 all_turns [] = 0
 all_turns (line ∷ lines) = turns_asked (said_by line) + all_turns lines
 
-abbrev pub NoneMounts : List (List ℕ) → Type 0
-NoneMounts lines = AllByRecursion (λ (line : List ℕ). mounts (said_by line) ≡ false) lines
-
 -- Whatever lines of a run are answered, they take no more commands than each may, if none of them mounts the drive again.
-abbrev pub CommandsAreFew : Type 0
-CommandsAreFew =
-    (taking : Taking) (old new : DiskView) (lines : List (List ℕ)) (text : List ℕ) → AnswersAll (disk_lines taking) old lines text new → NoneMounts lines
+abbrev pub CommandsAreFew : (Taking → Language DiskView) → Type 0
+CommandsAreFew lines_of =
+    (taking : Taking) (old new : DiskView) (lines : List (List ℕ)) (text : List ℕ) → AnswersAll (lines_of taking) old lines text new → NoneMounts lines
     → CompletesAtMost old (all_commands taking old.drive.geometry lines) new
 
 -- and the line that ends a run takes no more than one that is answered; nothing is said of one that mounts the drive again
-abbrev pub LastCosts : (taking : Taking) (fault : RunFault) (left : Known) (number : ℕ) (old : DiskView) (shown : List ℕ) (new : DiskView)
-    → StopsAt (disk_lines taking) fault left number old shown new → Type 0
-LastCosts taking Output left number old shown new s =
+abbrev pub LastCosts : (language : Language DiskView) (taking : Taking) (fault : RunFault) (left : Known) (number : ℕ) (old : DiskView) (shown : List ℕ)
+    (new : DiskView) → StopsAt language fault left number old shown new → Type 0
+LastCosts language taking Output left number old shown new s =
     mounts (said_by s.line) ≡ false → CompletesAtMost old (line_commands taking old.drive.geometry s.line) new
-LastCosts taking (Disk fault) left number old shown new s =
+LastCosts language taking (Disk fault) left number old shown new s =
     mounts (said_by s.1.line) ≡ false → CompletesAtMost old (line_commands taking old.drive.geometry s.1.line) new
-LastCosts taking (Mount fault) left number old shown new s = ⊤
-LastCosts taking Memory left number old shown new s = CompletesAtMost old (disk_size old) new
-LastCosts taking fault left number old shown new s = CompletesAtMost old 0 new
+LastCosts language taking (Mount fault) left number old shown new s = ⊤
+LastCosts language taking Memory left number old shown new s = CompletesAtMost old (disk_size old) new
+LastCosts language taking fault left number old shown new s = CompletesAtMost old 0 new
 
-abbrev pub LastIsFew : Type 0
-LastIsFew =
+abbrev pub LastIsFew : (Taking → Language DiskView) → Type 0
+LastIsFew lines_of =
     (taking : Taking) (fault : RunFault) (left : Known) (number : ℕ) (old : DiskView) (shown : List ℕ) (new : DiskView)
-    (s : StopsAt (disk_lines taking) fault left number old shown new) → LastCosts taking fault left number old shown new s
+    (s : StopsAt (lines_of taking) fault left number old shown new) → LastCosts (lines_of taking) taking fault left number old shown new s
 
 -- From a mount on, a clean that runs has always fewer turns left than a zone has blocks.
 abbrev pub TurnsAreFew : Type 0
@@ -129,6 +94,20 @@ abbrev pub CleansEnd : Type 0
 CleansEnd =
     (taking : Taking) (old new : DiskView) (lines : List (List ℕ)) (text : List ℕ) (all : AnswersAll (disk_lines taking) old lines text new)
     → disk_turns old ≤ all_turns lines → Pauses taking old lines text new all
+
+-- ---- over any device
+
+-- A run keeps the shape of its drive, whatever the Reads of the drive returned, and however it ends.
+abbrev pub RunKeepsShape : Type 0
+RunKeepsShape =
+    (taking : Taking) (bytes : Exchange) (old new : DiskView) (ended : Result (Unit {0}) RunFault) → Runs (any_lines taking) bytes old ended new
+    → KeepsShape old.drive new.drive
+
+-- the lines that it answers keep the size of the disk, if none of them is a growth or mounts the drive again
+abbrev pub LinesKeepSize : Type 0
+LinesKeepSize =
+    (taking : Taking) (old new : DiskView) (lines : List (List ℕ)) (text : List ℕ) → AnswersAll (any_lines taking) old lines text new → NoneResizes lines
+    → disk_size new ≡ disk_size old
 
 -- ---- a loss of power in a synced run
 

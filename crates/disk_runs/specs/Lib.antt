@@ -2,6 +2,8 @@ pub mod Run
 pub mod FlatLines
 pub mod Trace
 pub mod Taken
+pub mod Costs
+pub mod AnyDevice
 pub mod KeepingLaws
 pub mod RawLines
 pub mod FaultText

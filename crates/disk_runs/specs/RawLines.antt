@@ -8,7 +8,7 @@ use Rattle.drive_port.specs.declared.device.Halt.TheVariants as halts
 use Rattle.drive_port.specs.declared.device.Halt.TheVariants.{Memory}
 use Rattle.disk_files.specs.RawLine.{raw_line, raw_reply_text}
 use Rattle.disk_files.specs.TraceLine.{is_skipped}
-use Rattle.zone_translator.specs.declared.fault.DiskFault.TheVariants.{OutOfMemory, Stopped}
+use Rattle.zone_translator.specs.declared.fault.DiskFault.TheVariants.{OutOfMemory, Failed, Stopped}
 use Rattle.disk_runs.specs.Run.{Language}
 use Rattle.disk_runs.specs.declared.fault.RunFault.{RunFault}
 use Rattle.disk_runs.specs.declared.fault.RunFault.TheVariants.{Disk}
@@ -36,6 +36,7 @@ AnswersEntry old (Some call) reply new = RepliesToEntry old call.0 call.1 reply 
 -- only a line that asks to submit an entry is refused: the drive halted
 abbrev pub RefusesEntry : DriveState → Option (List ℕ × List ℕ) → RunFault → DriveState → Type 0
 RefusesEntry old (Some call) (Disk OutOfMemory) new = Halts old (decode_of call.0) call.1 Memory new
+RefusesEntry old (Some call) (Disk Failed) new = Halts old (decode_of call.0) call.1 halts.Failed new
 RefusesEntry old (Some call) (Disk Stopped) new = Halts old (decode_of call.0) call.1 halts.Stopped new
 RefusesEntry old call fault new = ⊥
 

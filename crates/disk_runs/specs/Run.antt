@@ -28,18 +28,19 @@ pub record Language (S : Type 0) : Type 1 where
   pub Refuses : S → List ℕ → RunFault → S → Type 0
   pub Same : S → S → Type 0
 
--- Something is done. As long as this holds of the state, which once lost does not come back, it is this.
-pub record AsLongAs {S : Type 0} (holds : S → Bool) (old : S) (Does : Type 0) (new : S) : Type 0 where
+-- Something is done. It is this in any case. As long as something holds of the state, which once lost does not come back, it is that, too.
+pub record AsLongAs {S : Type 0} (holds : S → Bool) (old : S) (Always Does : Type 0) (new : S) : Type 0 where
   pub before : IsTrue (holds new) → IsTrue (holds old)
+  pub always : Always
   pub does : IsTrue (holds new) → Does
 
--- a language of which it is promised what lines do as long as something holds
-abbrev pub while : {S : Type 0} → (S → Bool) → Language S → Language S
-while holds language = record {
+-- The lines of a language, of which it is promised what they do as long as something holds. What another language says of them is promised in any case.
+abbrev pub while : {S : Type 0} → (S → Bool) → Language S → Language S → Language S
+while holds always language = record {
   is_legal = language.is_legal;
-  Answers = λ old line reply new. AsLongAs holds old (language.Answers old line reply new) new;
-  Refuses = λ old line fault new. AsLongAs holds old (language.Refuses old line fault new) new;
-  Same = λ old new. AsLongAs holds old (language.Same old new) new;
+  Answers = λ old line reply new. AsLongAs holds old (always.Answers old line reply new) (language.Answers old line reply new) new;
+  Refuses = λ old line fault new. AsLongAs holds old (always.Refuses old line fault new) (language.Refuses old line fault new) new;
+  Same = λ old new. AsLongAs holds old (always.Same old new) (language.Same old new) new;
 }
 
 -- a line that may be answered

@@ -8,7 +8,7 @@ use Rattle.zone_translator.specs.Flat.{FlatCall, FlatDisk, flush, with_nothing}
 use Rattle.zone_translator.specs.View.{CompletesAtMost, DiskView, disk_turns}
 use Rattle.zone_translator.specs.declared.fault.DiskFault.{DiskFault}
 use Rattle.disk_runs.specs.FlatLines.{AnswersRequest, RefusesRequest, asked, flat, is_legal, request_of}
-use Rattle.disk_runs.specs.Run.{Language, while}
+use Rattle.disk_runs.specs.Run.{Language}
 use Rattle.disk_runs.specs.Trace.{AnswersLine, RefusesLine, trace}
 use Rattle.disk_runs.specs.declared.fault.RunFault.{RunFault}
 use Rattle.disk_runs.specs.declared.fault.RunFault.TheVariants.{Disk}
@@ -100,14 +100,6 @@ disk_lines taking = record trace {
   Answers = λ old line reply new. AnswersWith (is_flushed taking line) old line reply new;
   Refuses = λ old line fault new. RefusesWith (is_flushed taking line) old line fault new;
 }
-
--- whether each Read so far returned what the drive holds
-abbrev pub is_clean : DiskView → Bool
-is_clean disk = disk.drive.clean
-
--- The same lines over a drive whose Reads may lie: so they are answered as long as each Read returned what the drive holds.
-abbrev pub any_lines : Taking → Language DiskView
-any_lines taking = while is_clean (disk_lines taking)
 
 -- only the lines that are skipped or ask for a read: none of them changes the array
 abbrev pub reads : Language DiskView

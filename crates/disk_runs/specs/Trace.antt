@@ -128,7 +128,7 @@ abbrev pub KeepsFault : RunFault → DiskView → DiskView → Type 0
 KeepsFault (Mount fault) old new = IsMountable old.drive (given_size old) → KeepsDrive old new
 KeepsFault fault old new = KeepsServed old new
 
--- why a disk ends a run; a drive that could be mounted is not mounted again only where an allocation failed or the drive has stopped
+-- why a disk ends a run; a drive that could be mounted is not mounted again only where an allocation failed or the drive halted
 abbrev pub EndCause : DiskView → RunFault → Type 0
 EndCause disk (Disk Unmounted) = disk.status ≡ statuses.Unmounted
 EndCause disk (Disk fault) = IsCause disk.drive (next_sequence disk) fault

@@ -26,6 +26,7 @@ fn disk_refusal(fault: DiskFault) -> (u8, &'static str)
         DiskFault::Smaller => (7, "Smaller"),
         DiskFault::Reserve => (8, "Reserve"),
         DiskFault::Damaged => (9, "Damaged"),
+        DiskFault::Failed => (10, "Failed"),
     }
 }
 
@@ -48,6 +49,7 @@ fn mount_refusal(fault: MountFault) -> (u8, &'static str)
         MountFault::OutOfMemory => (11, "OutOfMemory"),
         MountFault::TornZone(_) => (13, "TornZone"),
         MountFault::Damaged => (14, "Damaged"),
+        MountFault::Failed => (15, "Failed"),
     }
 }
 

@@ -54,6 +54,7 @@ impl<D: Device + Honest + Drop> Answerer for RawAnswerer<D> {
                 Ok(())
             }
             Err(Halt::Memory) => Err(RunFault::Disk(DiskFault::OutOfMemory)),
+            Err(Halt::Failed) => Err(RunFault::Disk(DiskFault::Failed)),
             Err(Halt::Stopped) => Err(RunFault::Disk(DiskFault::Stopped)),
         }
     }
@@ -70,7 +71,7 @@ impl<D: Device + Honest + Drop> Answerer for RawAnswerer<D> {
 /// the data that came back, until the lines end. The device is given back.
 ///
 /// After a fault the replies of all lines before stand and, where the writer failed, a beginning of the
-/// next one. A device that halts is the fault `Disk`, with `OutOfMemory` or `Stopped`.
+/// next one. A device that halts is the fault `Disk`, with `OutOfMemory`, `Failed` or `Stopped`.
 pub fn run_raw<R: Read + Drop, W: Write, D: Device + Honest + Drop>(
     alloc: Global,
     reader: &mut LineReader<R>,

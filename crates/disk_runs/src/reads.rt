@@ -1,12 +1,13 @@
 ghost use Rattle.std.specs.Prelude.{◌≡◌, ◌+◌, ◌^◌, ◌<◌, ◌≤◌, ◌++◌, ◌&&◌, [], IfErr, IsTrue, OnOk};
 ghost use Rattle.std.specs.Prelude.{Some, length, nat_lt, vec_capacity, vec_len};
 ghost use Rattle.disk_files.specs.Reply.{block_lines};
-ghost use Rattle.zone_choice.specs.Sane.{KeepsShape};
+ghost use Rattle.disk_files.specs.declared.trace_line.TraceLine.TheVariants.{Read};
 ghost use Rattle.zone_translator.specs.Flat.{blocks_from, read};
 ghost use Rattle.zone_translator.specs.Keeping.{KeepsServed};
-ghost use Rattle.zone_translator.specs.View.{disk_array, disk_size, flat_of};
+ghost use Rattle.zone_translator.specs.View.{StaysAlike, disk_array, disk_size, flat_of};
 ghost use Rattle.zone_translator.specs.declared.status.DiskStatus.TheVariants.{Serving};
 ghost use Rattle.disk_runs.specs.declared.fault.RunFault.TheVariants.{Memory};
+ghost use Rattle.disk_runs.specs.AnyDevice.{HasForm, PutsLines};
 ghost use Rattle.disk_runs.specs.FlatLines.{IsFull, IsOfDisk, RepliesTo, RequestStops, single};
 ghost use Rattle.disk_runs.specs.Trace.{EndCause, HasCause, ReadsFew};
 
@@ -50,12 +51,14 @@ fn show_blocks<D: Device + Drop>(
     ensures full { IfErr result (λ fault. fault ≡ Memory →
         IsFull (vec_capacity reply.new) (vec_len reply.new) (vec_len block.new)) }
     ensures kind { IfErr result IsOfDisk }
-    // Then, whatever it answers, a drive that could be mounted still can be, and what is durable is the same. A block takes
-    // one command at most in any case.
+    // While it is clean, done or refused, a drive that could be mounted still can be, and what is durable is the same.
     ensures keeps { IsTrue disk.new.drive.clean → KeepsServed disk.old disk.new }
-    ensures costs { ReadsFew blocks disk.old disk.new }
-    ensures shape { KeepsShape disk.old.drive disk.new.drive }
     ensures durable { IsTrue disk.new.drive.clean → disk.new.drive.durable ≡ disk.old.drive.durable }
+    // Whatever the Reads returned, shape and size stay, and a block takes one command at most. Done, the reply has a line
+    // for each block.
+    ensures alike { StaysAlike disk.old disk.new }
+    ensures costs { ReadsFew blocks disk.old disk.new }
+    ensures form { OnOk result (PutsLines first blocks reply.old.items reply.new.items) }
 {
     for i in 0..blocks {
         if let Err(fault) = disk.read(first + i, 1, block) {
@@ -90,13 +93,14 @@ pub(crate) fn read_blocks<D: Device + Drop>(
     ensures full { IfErr result (λ fault. fault ≡ Memory →
         IsFull (vec_capacity reply.new) (vec_len reply.new) (vec_len block.new)) }
     ensures kind { IfErr result IsOfDisk }
-    // Then, whatever it answers, a drive that could be mounted still can be, and what is durable is the same. A block takes
-    // one command at most in any case.
+    // While it is clean, done or refused, a drive that could be mounted still can be, and what is durable is the same.
     ensures keeps { IsTrue disk.new.drive.clean → KeepsServed disk.old disk.new }
-    ensures costs { ReadsFew blocks disk.old disk.new }
-    ensures shape { KeepsShape disk.old.drive disk.new.drive }
-    ensures few { ReadsFew (disk_size disk.old) disk.old disk.new }
     ensures durable { IsTrue disk.new.drive.clean → disk.new.drive.durable ≡ disk.old.drive.durable }
+    // Whatever the Reads returned, shape and size stay, and a block takes one command at most. Done, the reply has its form.
+    ensures alike { StaysAlike disk.old disk.new }
+    ensures costs { ReadsFew blocks disk.old disk.new }
+    ensures form { OnOk result (HasForm (Read first blocks) reply.new.items) }
+    ensures few { ReadsFew (disk_size disk.old) disk.old disk.new }
 {
     if is_past_end(disk.blocks(), first, blocks) {
         out_of_range_reply(reply).unwrap();

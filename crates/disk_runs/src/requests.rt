@@ -1,8 +1,11 @@
-ghost use Rattle.std.specs.Prelude.{◌≡◌, ◌≢◌, ◌<◌, ◌≤◌, [], IfErr, IsTrue, Ok, OnOk, Some, is_some, true};
+ghost use Rattle.std.specs.Prelude.{◌≡◌, ◌≢◌, ◌<◌, ◌≤◌, ◌*◌, [], IfErr, IsTrue, Ok, OnOk, Some, false, is_some, true};
 ghost use Rattle.std.specs.Prelude.{vec_capacity, vec_len};
+ghost use Rattle.disk_files.specs.Reply.{ok_text};
 ghost use Rattle.zone_choice.specs.Sane.{KeepsShape};
 ghost use Rattle.zone_translator.specs.Keeping.{KeepsServed};
-ghost use Rattle.zone_translator.specs.View.{DiskCause, flat_of};
+ghost use Rattle.zone_translator.specs.View.{CompletesAtMost, DiskCause, StaysAlike, flat_of};
+ghost use Rattle.disk_runs.specs.AnyDevice.{HasForm, StaysBy, StaysRead};
+ghost use Rattle.disk_runs.specs.Costs.{with_flush};
 ghost use Rattle.disk_runs.specs.FlatLines.{AnswersRequest, IsFull, IsOfDisk, IsUntold, RepliesTo, RequestStops};
 ghost use Rattle.disk_runs.specs.FlatLines.{Turns, asked, remount, reply_of};
 ghost use Rattle.disk_runs.specs.Taken.{FlushesIf};
@@ -56,10 +59,12 @@ fn clean<D: Device + Drop>(disk: &mut AnyDisk<D>, turns: u32) -> Result<(), Disk
     ensures flat { IsTrue disk.new.drive.clean → Turns turns (flat_of disk.old) result (flat_of disk.new) }
     ensures turns { IsTrue disk.new.drive.clean → TurnsBy result turns disk.old disk.new }
     ensures cause { IsTrue disk.new.drive.clean → IfErr result (DiskCause disk.new) }
-    // Then, whatever it answers, a drive that could be mounted still can be, and what is durable is the same.
+    // While it is clean, done or refused, a drive that could be mounted still can be, and what is durable is the same.
     ensures keeps { IsTrue disk.new.drive.clean → KeepsServed disk.old disk.new }
     ensures durable { IsTrue disk.new.drive.clean → disk.new.drive.durable ≡ disk.old.drive.durable }
-    ensures shape { KeepsShape disk.old.drive disk.new.drive }
+    // Whatever the Reads returned, shape and size stay, and a turn takes two commands at most.
+    ensures alike { StaysAlike disk.old disk.new }
+    ensures completed { CompletesAtMost disk.old (2 * turns) disk.new }
 {
     for _turn in 0..turns {
         let ran = disk.is_cleaning();
@@ -84,12 +89,14 @@ fn mount_again<D: Device + Drop>(disk: &mut AnyDisk<D>, reply: &mut Vec<u8>) -> 
     ensures cause { IsTrue disk.new.drive.clean → IfErr result (HasCause (EndCause disk.new)) }
     ensures no_memory { IfErr result (λ fault. fault ≢ Memory) }
     ensures kind { IfErr result IsOfDisk }
-    // Done, the drive was mounted again. Whatever it answers, a drive that could be mounted still can be, and what is
-    // durable is the same.
+    // While it is clean: done, the drive was mounted again. Refused, a drive that could be mounted still can be. In both
+    // cases what is durable is the same.
     ensures keeps { IsTrue disk.new.drive.clean → OnOk result (MountsAgain disk.old disk.new) }
     ensures leaves { IsTrue disk.new.drive.clean → IfErr result (λ fault. KeepsFault fault disk.old disk.new) }
     ensures durable { IsTrue disk.new.drive.clean → disk.new.drive.durable ≡ disk.old.drive.durable }
+    // Whatever the Reads returned, the drive has the same shape. Done, the reply is `ok`.
     ensures shape { KeepsShape disk.old.drive disk.new.drive }
+    ensures form { OnOk result (reply.new.items ≡ ok_text) }
 {
     if let Err(fault) = disk.remount() {
         return Err(RunFault::Mount(fault));
@@ -123,14 +130,18 @@ pub(crate) fn answer_request<D: Device + Drop>(
     ensures full { IfErr result (λ fault. fault ≡ Memory →
         IsFull (vec_capacity reply.new) (vec_len reply.new) (vec_len block.new)) }
     ensures kind { IfErr result IsOfDisk }
-    // Done, the line did what it says. A drive that could be mounted still can be.
+    // While it is clean: done, the line did what it says. Refused, a drive that could be mounted still can be.
     ensures does { IsTrue disk.new.drive.clean → OnOk result (Does line bytes.now (Ok tt) disk.old disk.new) }
     ensures leaves { IsTrue disk.new.drive.clean → IfErr result (λ fault. KeepsFault fault disk.old disk.new) }
-    // Refused, it takes no more commands than one that is done, and the clean that ran is not thrown back.
+    // A line that was refused takes no more commands then than one that is done, and the clean that ran is not thrown back.
     ensures stops { IsTrue disk.new.drive.clean → IfErr result (λ fault. StopsBy fault line bytes.now disk.old disk.new) }
-    // Then, in any case, what is durable of the drive is the same.
+    // While it is clean, done or refused, what is durable of the drive is the same.
     ensures durable { IsTrue disk.new.drive.clean → disk.new.drive.durable ≡ disk.old.drive.durable }
-    ensures shape { KeepsShape disk.old.drive disk.new.drive }
+    // Whatever the Reads returned, the drive keeps its shape, and the line takes no more commands than it may. Done, the
+    // reply has its form. For `Memory`, blocks were read at most.
+    ensures stays { StaysBy false (Some (line, bytes.now)) disk.old disk.new }
+    ensures form { OnOk result (HasForm line reply.new.items) }
+    ensures memory { IfErr result (λ fault. fault ≡ Memory → StaysRead disk.old disk.new) }
 {
     match line {
         TraceLine::Read { first, blocks } => read_blocks(disk, first, blocks, block, reply),
@@ -153,7 +164,9 @@ pub(crate) fn flush_if<D: Device + Drop>(
     flushes: bool,
 ) -> Result<(), DiskFault>
     ensures flushes { IsTrue disk.new.drive.clean → FlushesIf flushes disk.old result disk.new }
-    ensures shape { KeepsShape disk.old.drive disk.new.drive }
+    // Whatever the Reads returned, shape and size stay, and a flush takes one command at most.
+    ensures alike { StaysAlike disk.old disk.new }
+    ensures completed { CompletesAtMost disk.old (with_flush flushes 0) disk.new }
 {
     if !flushes {
         return Ok(());

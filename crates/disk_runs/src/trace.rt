@@ -1,10 +1,10 @@
-ghost use Rattle.std.specs.Prelude.{IsTrue};
 ghost use Rattle.zone_choice.specs.Sane.{KeepsShape};
 ghost use Rattle.zone_translator.specs.View.{DiskView};
+ghost use Rattle.disk_runs.specs.AnyDevice.{any_lines};
 ghost use Rattle.disk_runs.specs.FlatLines.{flat};
 ghost use Rattle.disk_runs.specs.KeepingLaws.{any_same};
 ghost use Rattle.disk_runs.specs.Run.{Runs, exchange};
-ghost use Rattle.disk_runs.specs.Taken.{any_lines, disk_lines};
+ghost use Rattle.disk_runs.specs.Taken.{disk_lines};
 ghost use Rattle.disk_runs.specs.Trace.{RunGives, RunLeaves, trace};
 ghost use Rattle.disk_runs.specs.declared.taking.Taking.{Taking};
 
@@ -83,8 +83,9 @@ impl<D: Device + Drop> Answerer for TraceAnswerer<D> {
 /// Answers each line of the reader by the calls of a disk over any device, as [`answer_trace`] does. The disk is given
 /// back.
 ///
-/// Whatever the device's Reads return, each line is answered or ends the run. As long as they returned what it holds, the
-/// answers are those of `answer_trace`: so are all replies before the first Read that lied.
+/// Whatever the device's Reads return, each line is answered or ends the run, each reply has its form, the drive keeps its
+/// shape, and each line takes no more commands than it may. As long as they returned what it holds, the answers are those
+/// of `answer_trace`: so are all replies before the first Read that lied.
 pub fn answer_any_trace<R: Read + Drop, W: Write, D: Device + Drop>(
     alloc: Global,
     taking: Taking,
@@ -92,8 +93,10 @@ pub fn answer_any_trace<R: Read + Drop, W: Write, D: Device + Drop>(
     writer: &mut W,
     disk: AnyDisk<D>,
 ) -> (AnyDisk<D>, Result<(), RunFault>)
-    ensures { Runs (any_lines taking) (exchange reader.old.left (W.contents writer.old) (W.contents writer.new))
+    ensures runs { Runs (any_lines taking) (exchange reader.old.left (W.contents writer.old) (W.contents writer.new))
         disk result.1 result.0 }
+    // Whatever the Reads returned.
+    ensures shape { KeepsShape disk.drive result.0.drive }
 {
     let mut answerer = TraceAnswerer {
         disk,

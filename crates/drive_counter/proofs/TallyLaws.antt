@@ -14,7 +14,7 @@ use Rattle.drive_port.specs.Drive.{DriveState, IsLawful}
 use Rattle.drive_port.proofs.StopLaws.{hardens-by, may_harden-by}
 use Rattle.drive_port.specs.Halting.{SubmitGives}
 use Rattle.drive_port.specs.declared.device.Halt.{Halt}
-use Rattle.drive_port.specs.declared.device.Halt.TheVariants.{Memory, Stopped}
+use Rattle.drive_port.specs.declared.device.Halt.TheVariants.{Memory, Failed, Stopped}
 use Rattle.drive_counter.specs.declared.counts.Counts.{Counts}
 use Rattle.drive_counter.specs.Counting.{Counting, commands_of, counting_batch, counting_data, counts_after, kind_said, tallied, with_action, with_command}
 
@@ -78,6 +78,7 @@ still-in-step before old new counts after entry bytes (Ok completion) returned s
     let one = ap commands_of counted ∙ one-more counts entry bytes completion small in
     omega (arith, one, gives.1.performs.completed)
 still-in-step before old new counts after entry bytes (Err Memory) returned step lawful gives counted halted = rw (halted, gives.1.1) step
+still-in-step before old new counts after entry bytes (Err Failed) returned step lawful gives counted halted = rw (halted, ap (λ (d : DriveState). d.completed) gives.1.others) step
 still-in-step before old new counts after entry bytes (Err Stopped) returned step lawful gives counted halted = rw halted (omega (arith, gives.1.counts.completed))
 
 -- and the tally gives what the drive within gives
@@ -99,6 +100,7 @@ tally-gives before old new counts after entry bytes (Ok completion) returned was
           length_is = p.length_is;
           trusted = p.trusted;
           fair = p.fair;
+          unfailing = p.unfailing;
           geometry = p.geometry;
           completed = omega (arith, p.completed);
           refused = p.refused;
@@ -108,6 +110,7 @@ tally-gives before old new counts after entry bytes (Ok completion) returned was
       },
     )
 tally-gives before old new counts after entry bytes (Err Memory) returned was is halted gives = (gives.0, (gives.1.0, rw (gives.1.1, halted) refl))
+tally-gives before old new counts after entry bytes (Err Failed) returned was is halted gives = (gives.0, record { running = gives.1.running; closing = gives.1.closing; others = rw (gives.1.others, halted) refl })
 tally-gives before old new counts after entry bytes (Err Stopped) returned was is halted gives =
     let s = gives.1 in (
       gives.0,
@@ -117,6 +120,7 @@ tally-gives before old new counts after entry bytes (Err Stopped) returned was i
         geometry = s.geometry;
         trusted = s.trusted;
         fair = s.fair;
+        unfailing = s.unfailing;
         counts = record { completed = ap commands_of halted; refused = s.counts.refused; appended = s.counts.appended };
         left = s.left;
         hardens = may_harden-by (decode_of entry) old new (tallied (tally_of old counts)) (tallied (tally_of new after)) refl refl refl s.hardens;

@@ -1,67 +1,26 @@
 -- What a check knows of a drive.
-use Rattle.std.proofs.Common.{◌≡◌, ◌≢◌, ℕ, zero, suc, ◌+◌, Bool, true, false, List, [], ◌∷◌, ◌++◌, length, Option, Some, None, refl, inl, inr, sym, ap, subst, ◌∙◌, length-append, arith}
-use Rattle.std.specs.Prelude.{slice_get, is_some, IsNone, IsSome, IfOk, Result, Ok, Err, not, nat_le, if◌then◌else◌, ◌^◌}
-use Rattle.std.specs.List.{list_any}
-use Rattle.std.specs.Ordering.{nat_cmp}
-use Rattle.std.specs.BTreeSet.{insert_key}
-use Rattle.std.specs.BTreeMap.{is_at}
+use Rattle.std.proofs.Common.{◌≡◌, ◌≢◌, ℕ, zero, suc, ◌+◌, Bool, true, false, List, [], ◌∷◌, ◌++◌, length, Option, Some, refl, sym, ap, subst, ◌∙◌, length-append, arith}
+use Rattle.std.specs.Prelude.{slice_get, is_some, IsNone, IfErr, IfOk, IfSome, Result, Ok, Err, not}
+use Rattle.std.specs.List.{AllByRecursion}
 use Rattle.zone_states.specs.declared.geometry.Geometry.{Geometry}
 use Rattle.zone_states.specs.Geometry.{IsInRange}
 use Rattle.zone_states.specs.Zone.{Zone}
 use Rattle.drive_port.specs.Contents.{Content, content_of, contents, is_usable, usage_of}
 use Rattle.drive_port.specs.Drive.{DriveState}
 use Rattle.drive_port.proofs.ClosingLaws.{contents-closing, length-closing}
-use Rattle.batch_log.specs.Ending.{Ending, ended, failed, torn}
-use Rattle.batch_log.specs.Log.{Batch}
 use Rattle.drive_survey.specs.declared.fault.MountFault.{MountFault}
-use Rattle.drive_survey.specs.declared.fault.MountFault.TheVariants.{Reserve, Limits, ZoneUnusable, Log, SequenceRepeated, BlockOutOfRange, TooManyPartial, NoSpare, Spent, Halted, OutOfMemory, TornZone, Damaged}
 use Rattle.drive_survey.specs.declared.reported.ReportedZone.{ReportedZone}
 use Rattle.drive_survey.specs.declared.scan.ScannedZone.{ScannedZone}
 use Rattle.drive_survey.specs.Reported.{AreReported, KeepsZones, ReportsZones}
-use Rattle.drive_survey.specs.Scan.{FailsBy, FailsIn, IsInterruption, ending_fault, fault_or, heading_fault, log_fault}
 use Rattle.drive_survey.specs.Survey.{AreReportedUsable}
 use Rattle.drive_survey.proofs.ReadLaws.{kept-contents}
-use Rattle.remount.specs.Mount.{IsToMount, MountFails}
+use Rattle.remount.specs.Mount.{MountFails}
 use Rattle.drive_inspection.specs.declared.finding.Findings.{Findings}
-use Rattle.drive_inspection.specs.Findings.{AreFindings, ListsNothing, ListsBy, ListsFaults, ListsNone, ListsZones, Refuses, unusable_zones}
-use Rattle.drive_inspection.specs.Lists.{found_from, found_in, is_unusable, listed_if, unusable_at, unusable_reported}
-use Rattle.drive_inspection.specs.Reads.{AreReads, ReadsAlone}
-
--- ---- a zone by itself is not halted
-
-heading-at : (a b : Bool) → (if a then Some Spent else if b then Some SequenceRepeated else None) ≡ Some Halted → ⊥
-heading-at true b e = absurd (cc)
-heading-at false true e = absurd (cc)
-heading-at false false e = absurd (cc)
-
--- where the first batch has no fault that was halted, and the others have none
-log-step : (f rest : Option MountFault) → (f ≡ Some Halted → ⊥) → (rest ≡ Some Halted → ⊥) → fault_or f rest ≡ Some Halted → ⊥
-log-step None rest first others e = others e
-log-step (Some f) rest first others e = first e
-
-log-never : (seen : List ℕ) (log : List Batch) → log_fault seen log ≡ Some Halted → ⊥
-log-never seen [] e = absurd (cc)
-log-never seen (b ∷ bs) e =
-    log-step (heading_fault seen b.heading) (log_fault (insert_key nat_cmp seen b.heading.sequence) bs)
-    (λ h. heading-at (nat_le (2 ^ 63) b.heading.sequence) (list_any (is_at (nat_cmp b.heading.sequence)) seen) h)
-    (λ h. log-never (insert_key nat_cmp seen b.heading.sequence) bs h) e
-
-ending-never : (zone offset : ℕ) (e : Ending) → ending_fault zone offset e ≡ Some Halted → ⊥
-ending-never zone offset ended e = absurd (cc)
-ending-never zone offset torn e = absurd (cc)
-ending-never zone offset (failed cause) e = absurd (cc)
-
-never-halted : (geometry : Geometry) (content : Content) (zone : ℕ) (seen : List ℕ) → FailsIn geometry content zone seen Halted → ⊥
-never-halted geometry content zone seen fails = elim fails.first as (λ _. ⊥) [
-  | inl batch ↦ log-never seen fails.log batch
-  | inr ends ↦ ending-never zone _ _ ends.2
-]
-
--- a scan that was halted says that the drive has stopped
-pub halted-alone : (drive : DriveState) (geometry : Geometry) (content : Content) (zone : ℕ) (seen : List ℕ) → FailsBy (FailsIn geometry content zone seen) drive Halted → IsInterruption drive Halted
-halted-alone drive geometry content zone seen (inl memory) = inl memory
-halted-alone drive geometry content zone seen (inr (inl halted)) = inr (inl halted)
-halted-alone drive geometry content zone seen (inr (inr fails)) = absurd (never-halted geometry content zone seen fails)
+use Rattle.drive_inspection.specs.Findings.{AreByReport, AreFindings, ListsByReport, ListsNothing, ListsBy, ListsFaults, ListsNone, ListsZones, Refuses, unusable_zones}
+use Rattle.drive_inspection.specs.Lists.{fault_at, found_from, found_in, is_unusable, listed_if, unusable_at, unusable_reported}
+use Rattle.drive_inspection.specs.declared.finding.ZoneFault.{ZoneFault}
+use Rattle.drive_inspection.specs.Found.{IsRefusal}
+use Rattle.drive_inspection.specs.Reads.{AreReads, AreTelling, ReadsAlone}
 
 -- ---- zone after zone is read
 
@@ -95,6 +54,17 @@ pub reads-more : (first now : DriveState) (reads more : List (Result ScannedZone
 reads-more first now reads more read zone k count is each one =
     let here : ReadsAlone first (length reads) read = rw count (read-before first now zone read k one) in
     rw is (each-append (ReadsAlone first) reads read each here)
+
+-- one read more tells something, too
+pub tells-more : (reads : List (Result ScannedZone MountFault)) (read : Result ScannedZone MountFault) → AreTelling reads → IfErr read IsRefusal → AreTelling (reads ++ read ∷ [])
+tells-more [] read tell one = (one, tt)
+tells-more (r ∷ rs) read tell one = (tell.0, tells-more rs read tell.1 one)
+
+-- and so do the faults that are listed of them
+pub faults-tell : (zone : ℕ) (reads : List (Result ScannedZone MountFault)) → AreTelling reads → AllByRecursion (λ (found : ZoneFault). IsRefusal found.fault) (found_from fault_at zone reads)
+faults-tell zone [] tell = tt
+faults-tell zone (Ok scanned ∷ reads) tell = faults-tell (zone + 1) reads tell.1
+faults-tell zone (Err fault ∷ reads) tell = (tell.0, faults-tell (zone + 1) reads tell.1)
 
 -- the reads of all zones were the same before controllers closed zones
 reads-before : (old new : DriveState) (reads : List (Result ScannedZone MountFault)) → KeepsZones old new → AreReads new reads → AreReads old reads
@@ -132,12 +102,6 @@ all-usable i (r ∷ rs) e =
     (not-false (is_usable (usage_of r.state)) both.0, all-usable (i + 1) rs both.1)
 
 -- ---- the refusal
-
--- what no interruption is
-pub mount-refused : (drive last : DriveState) (n : ℕ) (fault : MountFault) → FailsBy (MountFails drive n) last fault → fault ≢ Halted → fault ≢ OutOfMemory → MountFails drive n fault
-mount-refused drive last n fault (inl memory) a b = absurd (b memory)
-mount-refused drive last n fault (inr (inl halted)) a b = absurd (a halted.0)
-mount-refused drive last n fault (inr (inr fails)) a b = fails
 
 -- of a result that is done, two facts give a third
 pub both-ok : {V E : Type 0} (r : Result V E) (P Q R : V → Type 0) → IfOk r P → IfOk r Q → ((v : V) → P v → Q v → R v) → IfOk r R
@@ -183,3 +147,41 @@ faults-before old new n findings k is = record {
     by : (zones : List ℕ) → ListsBy new n findings zones → ListsBy old n findings zones
     by [] lists = lists-before old new n findings k lists
     by (z ∷ zs) lists = lists
+
+-- ---- what is found whatever the Reads returned
+
+-- what reports tell was the same before controllers closed zones
+report-before : (old new : DriveState) (findings : Findings) → KeepsZones old new → ListsByReport new findings → ListsByReport old findings
+report-before old new findings k is = record {
+  unusable = is.unusable ∙ ap (λ (cs : List Content). found_in unusable_at cs) (kept-contents old new k);
+  none = is.none;
+  partly_written = λ nil. (rw (kept-contents old new k) at is.partly_written nil);
+  tells = is.tells;
+}
+
+-- a refusal and what reports tell are found
+pub found-by-report : (old new : DriveState) (findings : Findings) (fault : MountFault) → KeepsZones old new → IsInRange old.geometry → findings.refusal ≡ Some fault → IsRefusal fault → ListsByReport new findings → AreByReport old findings
+found-by-report old new findings fault k range is tells lists = record {
+  tells = subst (λ (r : Option MountFault). IfSome r IsRefusal) (sym is) tells;
+  clean = λ none. let bad : is_some (Some fault) ≡ false = subst IsNone is none in absurd (cc);
+  unread = λ out. absurd (out range);
+  listed = λ in_range some. report-before old new findings k lists;
+}
+
+-- nothing is listed beside the refusal of a drive whose geometry is out of range
+pub found-nothing : (drive : DriveState) (findings : Findings) (fault : MountFault) → (IsInRange drive.geometry → ⊥) → findings.refusal ≡ Some fault → IsRefusal fault → ListsNothing findings → AreByReport drive findings
+found-nothing drive findings fault out is tells nothing = record {
+  tells = subst (λ (r : Option MountFault). IfSome r IsRefusal) (sym is) tells;
+  clean = λ none. nothing;
+  unread = λ outside. nothing;
+  listed = λ range some. absurd (out range);
+}
+
+-- and so it is with all of its faults
+pub no-faults : (drive : DriveState) (n : ℕ) (findings : Findings) (fault : MountFault) → (IsInRange drive.geometry → ⊥) → findings.refusal ≡ Some fault → MountFails drive n fault → ListsNothing findings → AreFindings drive n findings
+no-faults drive n findings fault out is fails nothing = record {
+  refuses = subst (Refuses drive n) (sym is) fails;
+  clean = λ none. nothing;
+  unread = λ outside. nothing;
+  listed = λ range some. absurd (out range);
+}

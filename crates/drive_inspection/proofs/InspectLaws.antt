@@ -1,5 +1,5 @@
 -- What is found of a drive that is looked at.
-use Rattle.std.proofs.Common.{◌≡◌, ◌^◌, inl, inr, ℕ, List, sym, subst, ◌∙◌, arith}
+use Rattle.std.proofs.Common.{◌≡◌, ◌^◌, ℕ, List, sym, subst, ◌∙◌, arith}
 use Rattle.std.specs.Prelude.{IfErr, IfOk, Result, Ok, Err}
 use Rattle.zone_states.specs.declared.geometry.Geometry.{Geometry}
 use Rattle.zone_states.specs.Geometry.{IsInRange}
@@ -16,7 +16,6 @@ use Rattle.drive_survey.specs.Survey.{Surveys}
 use Rattle.drive_survey.proofs.ReadLaws.{keeps-both}
 use Rattle.remount.specs.declared.plan.Plan.{Plan}
 use Rattle.remount.specs.Mount.{IsPlanned, MountFails}
-use Rattle.remount.specs.Torn.{WasSurveyed}
 use Rattle.remount.proofs.StepLaws.{known-own, survey-knows, to-mount}
 use Rattle.drive_inspection.specs.declared.info.Holdings.{Holdings}
 use Rattle.drive_inspection.specs.declared.info.Info.{Info}
@@ -24,19 +23,11 @@ use Rattle.drive_inspection.specs.declared.info.MountWork.{MountWork}
 use Rattle.drive_inspection.specs.Found.{IsRefusal, IsWorkOf}
 use Rattle.drive_inspection.specs.declared.info.Rehearsal.{Rehearsal}
 use Rattle.drive_inspection.specs.Info.{AreHoldings, IsInfo, InfoOrRefusal, IsRehearsed, Rehearses, WereReported}
+use Rattle.drive_inspection.proofs.FaultLaws.{refuses}
 use Rattle.drive_inspection.proofs.HoldLaws.{holds-before}
 use Rattle.drive_inspection.proofs.WorkLaws.{foretells, foretells-before}
 
 -- ---- a drive that can be mounted
-
--- a survey that was made is the survey of a drive with this geometry
-pub was-surveyed : (old middle : DriveState) (n : ℕ) (survey : Survey) (geometry : Geometry) → geometry ≡ old.geometry → KeepsZones old middle → Surveys old middle n survey → WasSurveyed geometry survey.given survey
-was-surveyed old middle n survey geometry same k is = record {
-  drive = middle;
-  logs = drive_logs middle;
-  geometry_is = k.geometry ∙ sym same;
-  knows = known-own middle n (drive_logs middle) survey (survey-knows old middle n survey k is);
-}
 
 -- holdings by a survey, and the work of a planned mount, are the info of a drive
 pub info-found : (old middle last : DriveState) (n : ℕ) (first second : Survey) (geometry : Geometry) (plan : Plan) (holdings : Holdings) (work : MountWork) → geometry ≡ old.geometry → IsLawful old
@@ -54,12 +45,6 @@ info-found old middle last n first second geometry plan holdings work same lawfu
     }
 
 -- ---- a drive that is refused
-
--- a refusal is the mount's
-pub refuses : (drive last : DriveState) (n : ℕ) (fault : MountFault) → FailsBy (MountFails drive n) last fault → IsRefusal fault → MountFails drive n fault
-refuses drive last n fault (inl memory) is = absurd (is.0 memory)
-refuses drive last n fault (inr (inl halted)) is = absurd (is.1 halted.0)
-refuses drive last n fault (inr (inr fails)) is = fails
 
 -- if its error is a refusal, what was found is the drive's info or the mount's fault
 pub found-so : (drive last : DriveState) (n : ℕ) (found same : Result Info MountFault) → IfOk found (IsInfo drive n) → IfErr found (FailsBy (MountFails drive n) last) → same ≡ found → IfErr same IsRefusal → InfoOrRefusal drive n same

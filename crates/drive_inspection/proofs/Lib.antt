@@ -1,4 +1,5 @@
 pub mod ListLaws
+pub mod FaultLaws
 pub mod CheckLaws
 pub mod CountLaws
 pub mod HoldLaws

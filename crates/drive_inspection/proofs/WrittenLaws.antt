@@ -13,8 +13,8 @@ use Rattle.drive_port.proofs.ClosingLaws.{contents-closing}
 use Rattle.drive_survey.specs.declared.reported.ReportedZone.{ReportedZone}
 use Rattle.drive_survey.specs.Reported.{AreReported}
 use Rattle.drive_survey.proofs.ReadLaws.{keeps-none}
-use Rattle.drive_inspection.specs.Info.{IsDriveInfo, WereReported}
-use Rattle.drive_inspection.specs.Written.{AreAllEmpty, IsWritten, ShowsWritten, is_used, is_written, written_count}
+use Rattle.drive_inspection.specs.Info.{IsDriveInfo, IsReportInfo, WereReported}
+use Rattle.drive_inspection.specs.Written.{AreAllEmpty, CountsWritten, IsWritten, ShowsWritten, is_used, is_written, written_count}
 use Rattle.drive_inspection.specs.declared.info.DriveInfo.{DriveInfo}
 use Rattle.drive_inspection.specs.declared.written.Written.{Written}
 
@@ -82,14 +82,19 @@ pub is-written : (drive : DriveState) (blocks : ℕ) (info : DriveInfo) → IsIn
     → (found : Option Written) → IfSome found (ShowsWritten info) → IfSome found (IsWritten drive)
 is-written drive blocks info range lawful most is None shows = shows
 is-written drive blocks info range lawful most is (Some written) shows = record {
-  count = shows.count ∙ were-written drive info.zones.items (is.reported range);
+  count = shows.count ∙ were-written drive info.zones.items (is.report.reported range);
   some = shows.some;
   seen = drive;
   keeps = keeps-none drive lawful;
   holding = record { info = info; holds = record { blocks = blocks; most = λ _. most; is_info = is }; shows = shows.shows };
 }
 
-pub none-written : (drive : DriveState) (blocks : ℕ) (info : DriveInfo) → IsInRange drive.geometry → IsDriveInfo drive blocks info
+-- by the report alone, so many zones are not Empty
+pub counts-written : (drive : DriveState) (info : DriveInfo) → IsInRange drive.geometry → IsReportInfo drive info → (found : Option Written) → IfSome found (ShowsWritten info) → IfSome found (CountsWritten drive)
+counts-written drive info range is None shows = shows
+counts-written drive info range is (Some written) shows = record { count = shows.count ∙ were-written drive info.zones.items (is.reported range); some = shows.some }
+
+pub none-written : (drive : DriveState) (info : DriveInfo) → IsInRange drive.geometry → IsReportInfo drive info
     → (found : Option Written) → IfNone found (count_by is_written info.zones.items ≡ 0) → IfNone found (AreAllEmpty drive)
-none-written drive blocks info range is None none = all-empty drive (sym (were-written drive info.zones.items (is.reported range)) ∙ none)
-none-written drive blocks info range is (Some written) none = none
+none-written drive info range is None none = all-empty drive (sym (were-written drive info.zones.items (is.reported range)) ∙ none)
+none-written drive info range is (Some written) none = none

@@ -1,5 +1,6 @@
 -- All faults of a drive, taken as n logical blocks if no header says how many.
-use Rattle.std.specs.Prelude.{◌≡◌, ℕ, List, [], ◌∷◌, Option, Some, None, IsNone, IsSome, Result, count_by}
+use Rattle.std.specs.Prelude.{◌≡◌, ◌≢◌, ℕ, List, [], ◌∷◌, Option, Some, None, IfSome, IsNone, IsSome, Result, count_by}
+use Rattle.std.specs.List.{AllByRecursion}
 use Rattle.zone_states.specs.Geometry.{IsInRange}
 use Rattle.drive_port.specs.Contents.{contents}
 use Rattle.drive_port.specs.Drive.{DriveState}
@@ -8,8 +9,10 @@ use Rattle.drive_survey.specs.declared.fault.MountFault.{MountFault}
 use Rattle.drive_survey.specs.declared.scan.ScannedZone.{ScannedZone}
 use Rattle.remount.specs.Mount.{IsPlanned, IsToMount, MountFails}
 use Rattle.drive_inspection.specs.declared.finding.Findings.{Findings}
+use Rattle.drive_inspection.specs.declared.finding.ZoneFault.{ZoneFault}
 use Rattle.drive_inspection.specs.declared.foreseen.Foreseen.{Foreseen}
 use Rattle.drive_inspection.specs.Lists.{fault_at, found_in, past_end_at, repeats_from, size_read, torn_read_at, unusable_at}
+use Rattle.drive_inspection.specs.Found.{IsRefusal}
 use Rattle.drive_inspection.specs.Reads.{AreReads}
 
 -- The drive can be mounted, and this is what a mount would do. The zones of the drive that is left may have been closed.
@@ -65,3 +68,21 @@ pub record AreFindings (drive : DriveState) (n : ℕ) (findings : Findings) : Ty
   pub clean : IsNone findings.refusal → ListsNothing findings
   pub unread : (IsInRange drive.geometry → ⊥) → ListsNothing findings
   pub listed : IsInRange drive.geometry → IsSome findings.refusal → ListsFaults drive n findings
+
+-- ---- what is found whatever the Reads returned
+
+-- The zones that cannot be used are listed. If there are any, nothing else is. If there are none, it is counted how many
+-- are partly written. The faults of batches tell something of what the drive holds.
+pub record ListsByReport (drive : DriveState) (findings : Findings) : Type 0 where
+  pub unusable : findings.unusable.items ≡ unusable_zones drive
+  pub none : findings.unusable.items ≢ [] → ListsNone findings
+  pub partly_written : findings.unusable.items ≡ [] → findings.partly_written ≡ count_by is_partly_written (contents drive.zones)
+  pub tells : AllByRecursion (λ (found : ZoneFault). IsRefusal found.fault) findings.batches.items
+
+-- Nothing is found where nothing refuses a mount, or where the geometry is out of range; else what reports tell. The
+-- refusal tells something of what the drive holds.
+pub record AreByReport (drive : DriveState) (findings : Findings) : Type 0 where
+  pub tells : IfSome findings.refusal IsRefusal
+  pub clean : IsNone findings.refusal → ListsNothing findings
+  pub unread : (IsInRange drive.geometry → ⊥) → ListsNothing findings
+  pub listed : IsInRange drive.geometry → IsSome findings.refusal → ListsByReport drive findings

@@ -1,5 +1,5 @@
 -- What is counted of a drive, by the tables and the headers that are kept.
-use Rattle.std.specs.Prelude.{◌≡◌, ◌≢◌, ℕ, ◌+◌, Bool, true, false, List, length, slice_get, Option, None, Some}
+use Rattle.std.specs.Prelude.{◌≡◌, ◌≢◌, ◌⊎◌, ℕ, ◌+◌, Bool, true, false, List, length, slice_get, Option, None, Some}
 use Rattle.zone_states.specs.declared.geometry.Geometry.{Geometry}
 use Rattle.logical_map.specs.Live.{blocks_in}
 use Rattle.logical_map.specs.Places.{MapView}
@@ -8,7 +8,7 @@ use Rattle.logical_map.specs.declared.place.Place.TheVariants as places
 use Rattle.drive_array.specs.Repair.{moves}
 use Rattle.drive_array.specs.Reserve.{batch_most}
 use Rattle.drive_survey.specs.declared.fault.MountFault.{MountFault}
-use Rattle.drive_survey.specs.declared.fault.MountFault.TheVariants.{Halted, OutOfMemory}
+use Rattle.drive_survey.specs.declared.fault.MountFault.TheVariants.{Damaged, Failed, Halted, OutOfMemory}
 use Rattle.drive_survey.specs.declared.scan.ScannedZone.{ScannedZone}
 use Rattle.remount.specs.Torn.{data_in, is_torn_zone}
 use Rattle.remount.specs.declared.plan.Plan.{Plan}
@@ -61,6 +61,13 @@ pub record IsWorkOf (geometry : Geometry) (plan : Plan) (work : MountWork) : Typ
   pub half_clean : work.half_clean ≡ plan.half_clean
   pub torn : TellsRepair geometry plan.repair work.torn
 
--- a fault that tells something of what the drive holds
+-- ---- faults
+
+-- A fault that tells nothing of what the drive holds: memory ran out, the drive has stopped, it failed at a command, or
+-- what it returned does not fit together.
+abbrev pub IsNoFinding : MountFault → Type 0
+IsNoFinding fault = (fault ≡ OutOfMemory) ⊎ (fault ≡ Halted) ⊎ (fault ≡ Failed) ⊎ (fault ≡ Damaged)
+
+-- a fault that tells something of it
 abbrev pub IsRefusal : MountFault → Type 0
-IsRefusal fault = (fault ≢ OutOfMemory) × (fault ≢ Halted)
+IsRefusal fault = (fault ≢ OutOfMemory) × (fault ≢ Halted) × (fault ≢ Failed) × (fault ≢ Damaged)

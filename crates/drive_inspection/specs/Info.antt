@@ -1,6 +1,6 @@
 -- What a drive holds and what a mount does to it, as n logical blocks if no header says how many.
 use Rattle.std.specs.Prelude.{◌≡◌, ◌≢◌, ◌⊎◌, ℕ, ◌+◌, ◌-◌, ◌<◌, ◌^◌, Bool, true, false, List, length, count_by}
-use Rattle.std.specs.Prelude.{slice_get, Contains, Option, Some, None, is_none, is_some, Result, Ok, Err}
+use Rattle.std.specs.Prelude.{slice_get, Contains, Option, Some, None, is_none, is_some, Result, Ok, Err, IfErr, IfOk}
 use Rattle.std.specs.List.{AllByRecursion, range_with_len}
 use Rattle.zone_states.specs.declared.geometry.Geometry.{Geometry}
 use Rattle.zone_states.specs.Geometry.{IsInRange}
@@ -17,6 +17,7 @@ use Rattle.drive_array.specs.ZoneLogs.{drive_logs, log_at, sequences, zone_tails
 use Rattle.zone_choice.specs.Tables.{TablesView}
 use Rattle.drive_counter.specs.Counting.{commands_of}
 use Rattle.drive_survey.specs.declared.fault.MountFault.{MountFault}
+use Rattle.drive_survey.specs.declared.fault.MountFault.TheVariants.{Damaged}
 use Rattle.drive_survey.specs.declared.reported.ReportedZone.{ReportedZone}
 use Rattle.drive_survey.specs.Heads.{greatest_sequence}
 use Rattle.drive_survey.specs.Reported.{AreReported, KeepsZones}
@@ -32,6 +33,7 @@ use Rattle.drive_inspection.specs.declared.info.MountWork.{MountWork}
 use Rattle.drive_inspection.specs.declared.info.Rehearsal.{Rehearsal}
 use Rattle.drive_inspection.specs.declared.info.TornRepair.{TornRepair}
 use Rattle.drive_inspection.specs.declared.info.ZoneInfo.{ZoneInfo}
+use Rattle.drive_inspection.specs.Found.{IsRefusal}
 
 -- ---- live records
 
@@ -122,9 +124,16 @@ pub record WereReported (drive : DriveState) (reported : List ReportedZone) : Ty
   pub before : IsClosing drive.zones zones
   pub are : AreReported drive.geometry zones reported
 
-pub record IsDriveInfo (drive : DriveState) (n : ℕ) (info : DriveInfo) : Type 0 where
+-- What is known of it whatever the Reads returned: its geometry and, if that is in range, its zones. If a mount is
+-- refused, that tells something of what it holds.
+pub record IsReportInfo (drive : DriveState) (info : DriveInfo) : Type 0 where
   pub geometry_is : info.geometry ≡ drive.geometry
   pub reported : IsInRange drive.geometry → WereReported drive info.zones.items
+  pub tells : IfErr info.found IsRefusal
+
+-- that, and what the drive holds
+pub record IsDriveInfo (drive : DriveState) (n : ℕ) (info : DriveInfo) : Type 0 where
+  pub report : IsReportInfo drive info
   pub found : InfoOrRefusal drive n info.found
 
 -- ---- a rehearsal
@@ -133,13 +142,17 @@ pub record IsDriveInfo (drive : DriveState) (n : ℕ) (info : DriveInfo) : Type 
 abbrev pub batches_left : Geometry → ℕ → ℕ
 batches_left geometry next = 2 ^ 63 - geometry.capacity - next
 
--- The drive was mounted: so many commands that took, and this is the next sequence.
+-- So many commands a mount took, and so many batches are left from the sequence that is told as the next one.
+pub record CountsMount (old new : DriveState) (rehearsal : Rehearsal) : Type 0 where
+  pub commands : rehearsal.commands ≡ new.completed - old.completed
+  pub left : rehearsal.left ≡ batches_left old.geometry rehearsal.next
+
+-- The drive was mounted, and this is the next sequence.
 pub record Rehearses (old new : DriveState) (n : ℕ) (rehearsal : Rehearsal) : Type 0 where
   pub tables : TablesView
   pub mounts : Mounts old new n tables
-  pub commands : rehearsal.commands ≡ new.completed - old.completed
+  pub counts : CountsMount old new rehearsal
   pub next : rehearsal.next ≡ tables.next
-  pub left : rehearsal.left ≡ batches_left old.geometry tables.next
 
 -- so it was; or the mount was refused
 abbrev pub IsRehearsed : DriveState → DriveState → ℕ → Result Rehearsal MountFault → Type 0
@@ -155,7 +168,15 @@ pub record IsInspected (drive : DriveState) (n : ℕ) (inspected : InspectedDriv
   pub mounted : IsRehearsed seen last n inspected.mounted
   pub counted : commands_of inspected.counts ≡ last.completed - seen.completed
 
--- the look was given up: memory ran out, or the drive has stopped
+-- Whatever the Reads returned: the report is true. Of a mount that was done as many commands were counted as it is told
+-- to take. One that was refused was not refused for what does not fit together.
+pub record CountsInspected (drive : DriveState) (inspected : InspectedDrive) : Type 0 where
+  pub report : IsReportInfo drive inspected.info
+  pub counted : IfOk inspected.mounted (λ rehearsal. commands_of inspected.counts ≡ rehearsal.commands)
+  pub left : IfOk inspected.mounted (λ rehearsal. rehearsal.left ≡ batches_left drive.geometry rehearsal.next)
+  pub fits : IfErr inspected.mounted (λ fault. fault ≢ Damaged)
+
+-- the look was given up: memory ran out, or the drive halted
 pub record IsGivenUp (drive : DriveState) (fault : MountFault) : Type 0 where
   pub last : DriveState
   pub keeps : KeepsZones drive last

@@ -1,6 +1,6 @@
+pub mod Found
 pub mod Reads
 pub mod Lists
 pub mod Findings
-pub mod Found
 pub mod Info
 pub mod Written

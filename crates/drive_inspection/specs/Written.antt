@@ -56,6 +56,11 @@ pub record IsHolding (drive : DriveState) (holding : Holding) : Type 0 where
   pub holds : HoldsInfo drive info
   pub shows : ShowsHolding info.found holding
 
+-- this many zones are not Empty, and there is one
+pub record CountsWritten (drive : DriveState) (written : Written) : Type 0 where
+  pub count : written.zones ≡ written_count drive
+  pub some : 0 < written.zones
+
 -- How many zones are not Empty, and what they hold. The drive was looked at, which keeps its zones.
 pub record IsWritten (drive : DriveState) (written : Written) : Type 0 where
   pub count : written.zones ≡ written_count drive

@@ -1,5 +1,6 @@
-ghost use Rattle.std.specs.Prelude.{◌≡◌, ◌≢◌, ◌⊎◌, ◌<◌, ◌^◌, [], Some, count_by, length};
+ghost use Rattle.std.specs.Prelude.{◌≡◌, ◌<◌, ◌^◌, [], Some, count_by, length};
 ghost use Rattle.std.specs.Prelude.{IfErr, IfOk, IsFalse, IsTrue, OnOk};
+ghost use Rattle.std.specs.List.{AllByRecursion};
 ghost use Rattle.zone_states.specs.Geometry.{IsInRange};
 ghost use Rattle.drive_port.specs.Contents.{contents};
 ghost use Rattle.drive_port.specs.Drive.{IsLawful};
@@ -7,7 +8,10 @@ ghost use Rattle.drive_array.specs.Mountable.{is_partly_written};
 ghost use Rattle.drive_survey.specs.Reported.{KeepsZones};
 ghost use Rattle.drive_survey.specs.Scan.{AreKnown, IsInterruption};
 ghost use Rattle.drive_survey.specs.Survey.{is_partly_reported};
-ghost use Rattle.drive_inspection.specs.Findings.{AreFindings, ListsNothing, ListsFaults, ListsZones};
+ghost use Rattle.drive_inspection.specs.Findings.{AreByReport, AreFindings, ListsByReport, ListsFaults, ListsNothing};
+ghost use Rattle.drive_inspection.specs.Findings.{ListsZones};
+ghost use Rattle.drive_inspection.specs.Found.{IsNoFinding, IsRefusal};
+ghost use Rattle.drive_inspection.specs.declared.finding.ZoneFault.{ZoneFault};
 ghost use Rattle.drive_inspection.specs.Lists.{fault_at, found_in, past_end_at, repeats_from, size_read, torn_read_at};
 
 use crate::finding::Findings;
@@ -16,7 +20,7 @@ use crate::lists::{
     batch_faults, repeated_sequences, size_read, torn_zones, unusable_zones, zones_past_end,
 };
 use crate::reading::{ZoneReading, read_zones};
-use drive_port::{Device, Honest};
+use drive_port::Device;
 use drive_survey::{MountFault, ReportedZone, count_partly_written, report_zones};
 use std::alloc::{AllocError, Global};
 
@@ -63,7 +67,7 @@ fn list_reads(
 }
 
 /// What is found of the zones of a drive, none of which is Read Only or Offline. The other findings stay.
-fn list_zones<D: Device + Honest>(
+fn list_zones<D: Device>(
     alloc: Global,
     device: &mut D,
     zones: &[ReportedZone],
@@ -74,11 +78,20 @@ fn list_zones<D: Device + Honest>(
     requires known { AreKnown (D.drive device.old) zones.now }
     requires partly { count_by is_partly_reported zones.now
         ≡ count_by is_partly_written (contents (D.drive device.old).zones) }
-    // Done, the lists have exactly the faults of the zones.
-    ensures ok { OnOk result (ListsZones (D.drive device.old) given findings.new) }
-    // It fails only if the drive stops or memory runs out.
-    ensures err { IfErr result (IsInterruption (D.drive device.new)) }
-    // Whatever it answers, the other findings stay, and the zones hold what they held.
+    // While the drive is clean: done, the lists have exactly the faults of the zones. It fails only if the drive halts
+    // or memory runs out.
+    ensures ok { IsTrue (D.drive device.new).clean
+        → OnOk result (ListsZones (D.drive device.old) given findings.new) }
+    ensures err { IsTrue (D.drive device.new).clean → IfErr result (IsInterruption (D.drive device.new)) }
+    // Whatever the Reads returned: done, it is counted how many zones are partly written, and the faults of batches
+    // tell something of what the drive holds.
+    ensures counted { OnOk result (findings.new.partly_written
+        ≡ count_by is_partly_written (contents (D.drive device.old).zones)) }
+    ensures tells { OnOk result (AllByRecursion (λ (found : ZoneFault). IsRefusal found.fault)
+        findings.new.batches.items) }
+    // Whatever it answers, a failure tells nothing of what the drive holds, the other findings stay, and the zones hold
+    // what they held.
+    ensures kinds { IfErr result IsNoFinding }
     ensures refusal { findings.new.refusal ≡ findings.old.refusal }
     ensures unusable { findings.new.unusable ≡ findings.old.unusable }
     ensures kept { KeepsZones (D.drive device.old) (D.drive device.new) }
@@ -90,7 +103,7 @@ fn list_zones<D: Device + Honest>(
 }
 
 /// All faults of a drive that a mount refuses, whose geometry is in range.
-fn list_faults<D: Device + Honest>(
+fn list_faults<D: Device>(
     alloc: Global,
     device: &mut D,
     given: u64,
@@ -98,11 +111,15 @@ fn list_faults<D: Device + Honest>(
 ) -> Result<Findings, MountFault>
     requires in_range { IsInRange (D.drive device.old).geometry }
     requires lawful { IsLawful (D.drive device.old) }
-    // Done, the unusable zones are listed; without any, all other faults. The refusal is told.
-    ensures ok { IfOk result (ListsFaults (D.drive device.old) given) }
+    // While the drive is clean: done, the unusable zones are listed; without any, all other faults. It fails only if
+    // the drive halts or memory runs out.
+    ensures ok { IsTrue (D.drive device.new).clean → IfOk result (ListsFaults (D.drive device.old) given) }
+    ensures err { IsTrue (D.drive device.new).clean → IfErr result (IsInterruption (D.drive device.new)) }
+    // Whatever the Reads returned: done, what reports tell is listed, and the refusal is told.
+    ensures reported { IfOk result (ListsByReport (D.drive device.old)) }
     ensures refusal { IfOk result (λ findings. findings.refusal ≡ Some refusal) }
-    // It fails only if the drive stops or memory runs out. Whatever it answers, zones hold what they held.
-    ensures err { IfErr result (IsInterruption (D.drive device.new)) }
+    // Whatever it answers, a failure tells nothing of what the drive holds, and zones hold what they held.
+    ensures kinds { IfErr result IsNoFinding }
     ensures kept { KeepsZones (D.drive device.old) (D.drive device.new) }
 {
     let zones = report_zones(alloc, device)?;
@@ -117,35 +134,31 @@ fn list_faults<D: Device + Honest>(
 
 /// Whether a fault tells nothing of what the drive holds.
 fn is_interruption(fault: MountFault) -> bool
-    ensures yes { IsTrue result → (fault ≡ MountFault.OutOfMemory) ⊎ (fault ≡ MountFault.Halted) }
-    ensures no { IsFalse result → (fault ≢ MountFault.OutOfMemory) × (fault ≢ MountFault.Halted) }
+    ensures yes { IsTrue result → IsNoFinding fault }
+    ensures no { IsFalse result → IsRefusal fault }
 {
     match fault {
-        MountFault::OutOfMemory | MountFault::Halted => true,
-        _ => false,
-    }
-}
-
-/// Whether a fault says that the geometry is out of range.
-fn is_limits(fault: MountFault) -> bool
-    ensures yes { IsTrue result → fault ≡ MountFault.Limits }
-    ensures no { IsFalse result → fault ≢ MountFault.Limits }
-{
-    match fault {
-        MountFault::Limits => true,
+        MountFault::OutOfMemory | MountFault::Halted | MountFault::Failed | MountFault::Damaged =>
+            true,
         _ => false,
     }
 }
 
 /// Finds all faults of a drive, taken as `given` logical blocks if no header says how many. Reports and Reads are sent.
-/// The fault is `Halted` (the drive has stopped) or `OutOfMemory`.
-pub fn check_drive<D: Device + Honest>(
+/// The fault is `Halted` (the drive has stopped), `Failed` (it failed at a command) or `OutOfMemory`; or `Damaged`, which
+/// never comes while the drive is clean. After `Failed` the check can be made again.
+pub fn check_drive<D: Device>(
     alloc: Global,
     device: &mut D,
     given: u64,
 ) -> Result<Findings, MountFault>
-    ensures ok { IfOk result (AreFindings (D.drive device.old) given) }
-    ensures err { IfErr result (IsInterruption (D.drive device.new)) }
+    // While the drive is clean: done, these are all of its faults. It fails only if the drive halts or memory runs out.
+    ensures ok { IsTrue (D.drive device.new).clean → IfOk result (AreFindings (D.drive device.old) given) }
+    ensures err { IsTrue (D.drive device.new).clean → IfErr result (IsInterruption (D.drive device.new)) }
+    // Whatever the Reads returned, what reports tell is found.
+    ensures reported { IfOk result (AreByReport (D.drive device.old)) }
+    // Whatever it answers, a failure tells nothing of what the drive holds, and zones hold what they held.
+    ensures kinds { IfErr result IsNoFinding }
     ensures kept { KeepsZones (D.drive device.old) (D.drive device.new) }
 {
     let Err(refusal) = foresee_mount(alloc, device, given) else {
@@ -154,8 +167,8 @@ pub fn check_drive<D: Device + Honest>(
     if is_interruption(refusal) {
         return Err(refusal);
     }
-    if is_limits(refusal) {
+    let Ok(()) = device.geometry().check() else {
         return Ok(no_findings(alloc, Some(refusal)));
-    }
+    };
     list_faults(alloc, device, given, refusal)
 }

@@ -1,14 +1,13 @@
-ghost use Rattle.std.specs.Prelude.{IfErr, IfOk};
+ghost use Rattle.std.specs.Prelude.{IfErr, IfOk, IsTrue};
 ghost use Rattle.drive_survey.specs.Reported.{KeepsZones};
 ghost use Rattle.drive_survey.specs.Scan.{FailsBy};
+ghost use Rattle.drive_survey.specs.Survey.{CanScan};
 ghost use Rattle.remount.specs.Mount.{MountFails};
 ghost use Rattle.drive_inspection.specs.Findings.{ForeseesMount};
 
-use drive_port::{Device, Honest};
-use drive_survey::honest::survey_drive;
-use drive_survey::{MountFault, Survey};
-use remount::Plan;
-use remount::honest::plan_mount;
+use drive_port::Device;
+use drive_survey::{MountFault, Survey, survey_drive};
+use remount::{Plan, plan_mount};
 use std::alloc::Global;
 use zone_states::Geometry;
 
@@ -24,13 +23,20 @@ pub struct Foreseen {
 }
 
 /// Goes as far as a mount does before it changes the drive.
-pub fn foresee_mount<D: Device + Honest>(
+pub fn foresee_mount<D: Device>(
     alloc: Global,
     device: &mut D,
     given: u64,
 ) -> Result<Foreseen, MountFault>
-    ensures ok { IfOk result (ForeseesMount (D.drive device.old) (D.drive device.new) given) }
-    ensures err { IfErr result (FailsBy (MountFails (D.drive device.old) given) (D.drive device.new)) }
+    // While the drive is clean: done, it can be mounted, and this is what a mount would do. A fault is the one by which
+    // a mount is refused, unless the drive halts or memory runs out.
+    ensures ok { IsTrue (D.drive device.new).clean
+        → IfOk result (ForeseesMount (D.drive device.old) (D.drive device.new) given) }
+    ensures err { IsTrue (D.drive device.new).clean
+        → IfErr result (FailsBy (MountFails (D.drive device.old) given) (D.drive device.new)) }
+    // Whatever the Reads returned: done, nothing that a report tells refuses a mount.
+    ensures can { IfOk result (λ _. CanScan (D.drive device.old) given) }
+    // Whatever it answers, zones hold what they held.
     ensures kept { KeepsZones (D.drive device.old) (D.drive device.new) }
 {
     let geometry = device.geometry();

@@ -1,13 +1,14 @@
 //! What the batches of a drive hold, by their headers.
 
 ghost use Rattle.std.specs.Prelude.{◌≡◌, ◌≤◌, ◌<◌, ◌^◌, length, IfOk};
+ghost use Rattle.zone_states.specs.Geometry.{IsInRange};
 ghost use Rattle.drive_port.specs.Drive.{DriveState};
 ghost use Rattle.drive_array.specs.ZoneLogs.{drive_logs};
 ghost use Rattle.drive_survey.specs.Known.{Knows};
 ghost use Rattle.drive_survey.specs.Scan.{heads_in};
 ghost use Rattle.drive_survey.specs.Survey.{greatest_in};
 ghost use Rattle.zone_choice.specs.Tables.{size_of};
-ghost use Rattle.remount.specs.Torn.{WasSurveyed, is_torn_zone};
+ghost use Rattle.remount.specs.Torn.{is_torn_zone};
 ghost use Rattle.drive_inspection.specs.Found.{TellZones, TellsZone};
 ghost use Rattle.drive_inspection.specs.Info.{AreHoldings};
 
@@ -80,7 +81,8 @@ fn zone_infos(
 
 /// What the batches of a drive hold whose headers are kept.
 pub fn holdings(alloc: Global, survey: &Survey, geometry: &Geometry) -> Result<Holdings, AllocError>
-    requires surveyed { WasSurveyed geometry.now survey.now.given survey.now }
+    requires range { IsInRange geometry.now }
+    requires long { length survey.now.scanned.items ≡ geometry.now.zones }
     ensures { IfOk result (λ holdings. (drive : DriveState) → drive.geometry ≡ geometry.now
         → Knows drive survey.now.given (drive_logs drive) survey.now → AreHoldings drive survey.now.given holdings) }
 {

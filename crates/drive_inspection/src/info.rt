@@ -93,7 +93,7 @@ pub struct Rehearsal {
 #[derive(Drop)]
 pub struct InspectedDrive {
     pub info: DriveInfo,
-    /// What a mount takes, or why it is refused.
+    /// What a mount takes, or why it is refused. Or what ended it: `Halted` or `Failed`.
     pub mounted: Result<Rehearsal, MountFault>,
     /// The commands of that mount, by their kinds.
     pub counts: Counts,

@@ -1,30 +1,29 @@
 //! A drive is looked at.
 
-ghost use Rattle.std.specs.Prelude.{◌≡◌, Err, IfErr, IfOk};
+ghost use Rattle.std.specs.Prelude.{◌≡◌, Err, IfErr, IfOk, IsTrue};
 ghost use Rattle.zone_states.specs.Geometry.{IsInRange};
 ghost use Rattle.drive_survey.specs.Reported.{KeepsZones};
 ghost use Rattle.drive_survey.specs.Scan.{FailsBy, IsInterruption};
 ghost use Rattle.remount.specs.Mount.{MountFails};
-ghost use Rattle.drive_inspection.specs.Found.{IsRefusal};
-ghost use Rattle.drive_inspection.specs.Info.{IsDriveInfo, IsInfo, WereReported};
+ghost use Rattle.drive_inspection.specs.Found.{IsNoFinding, IsRefusal};
+ghost use Rattle.drive_inspection.specs.Info.{IsDriveInfo, IsInfo, IsReportInfo, WereReported};
 
 use crate::holding::holdings;
 use crate::info::{DriveInfo, Info};
 use crate::work::work_of;
-use drive_port::{Device, Honest};
-use drive_survey::honest::survey_drive;
-use drive_survey::{MountFault, ReportedZone, report_zones};
-use remount::honest::plan_mount;
+use drive_port::Device;
+use drive_survey::{MountFault, ReportedZone, report_zones, survey_drive};
+use remount::plan_mount;
 use std::alloc::Global;
 
 /// What a drive holds that can be mounted, and what a mount does to it.
-fn find_info<D: Device + Honest>(
-    alloc: Global,
-    device: &mut D,
-    given: u64,
-) -> Result<Info, MountFault>
-    ensures ok { IfOk result (IsInfo (D.drive device.old) given) }
-    ensures err { IfErr result (FailsBy (MountFails (D.drive device.old) given) (D.drive device.new)) }
+fn find_info<D: Device>(alloc: Global, device: &mut D, given: u64) -> Result<Info, MountFault>
+    // While the drive is clean: done, it can be mounted, and this is what it holds. A fault is the one by which a mount
+    // is refused, unless the drive halts or memory runs out.
+    ensures ok { IsTrue (D.drive device.new).clean → IfOk result (IsInfo (D.drive device.old) given) }
+    ensures err { IsTrue (D.drive device.new).clean
+        → IfErr result (FailsBy (MountFails (D.drive device.old) given) (D.drive device.new)) }
+    // Whatever it answers, zones hold what they held.
     ensures kept { KeepsZones (D.drive device.old) (D.drive device.new) }
 {
     let geometry = device.geometry();
@@ -49,29 +48,38 @@ fn zones_reported<D: Device>(alloc: Global, device: &mut D) -> Result<Vec<Report
     report_zones(alloc, device)
 }
 
-/// What was found, unless that is only that memory ran out or that the drive has stopped.
+/// What was found, unless that tells nothing of what the drive holds.
 fn found_or_interrupted(
     found: Result<Info, MountFault>,
 ) -> Result<Result<Info, MountFault>, MountFault>
     ensures ok { IfOk result (λ same. (same ≡ found) × IfErr same IsRefusal) }
-    ensures err { IfErr result (λ fault. (found ≡ Err fault) × (IsRefusal fault → ⊥)) }
+    ensures err { IfErr result (λ fault. (found ≡ Err fault) × IsNoFinding fault) }
 {
     match found {
         Err(MountFault::OutOfMemory) => Err(MountFault::OutOfMemory),
         Err(MountFault::Halted) => Err(MountFault::Halted),
+        Err(MountFault::Failed) => Err(MountFault::Failed),
+        Err(MountFault::Damaged) => Err(MountFault::Damaged),
         found => Ok(found),
     }
 }
 
 /// Looks at a drive, taken as `given` logical blocks if no header says how many. Reports and Reads are sent.
-/// The fault is `Halted` (the drive has stopped) or `OutOfMemory`.
-pub fn inspect_drive<D: Device + Honest>(
+/// The fault is `Halted` (the drive has stopped), `Failed` (it failed at a command) or `OutOfMemory`; or `Damaged`, which
+/// never comes while the drive is clean. After `Failed` the drive can be looked at again.
+pub fn inspect_drive<D: Device>(
     alloc: Global,
     device: &mut D,
     given: u64,
 ) -> Result<DriveInfo, MountFault>
-    ensures ok { IfOk result (IsDriveInfo (D.drive device.old) given) }
-    ensures err { IfErr result (IsInterruption (D.drive device.new)) }
+    // While the drive is clean: done, this is what it holds, or by what a mount is refused. It fails only if the drive
+    // halts or memory runs out.
+    ensures ok { IsTrue (D.drive device.new).clean → IfOk result (IsDriveInfo (D.drive device.old) given) }
+    ensures err { IsTrue (D.drive device.new).clean → IfErr result (IsInterruption (D.drive device.new)) }
+    // Whatever the Reads returned, the geometry and the report are true.
+    ensures reported { IfOk result (IsReportInfo (D.drive device.old)) }
+    // Whatever it answers, a failure tells nothing of what the drive holds, and zones hold what they held.
+    ensures kinds { IfErr result IsNoFinding }
     ensures kept { KeepsZones (D.drive device.old) (D.drive device.new) }
 {
     let geometry = device.geometry();

@@ -14,6 +14,8 @@
 //!
 //! # What is promised
 //!
+//! What is said here of batches holds while the drive is clean: as long as each Read returned what the drive holds.
+//!
 //! Of a check:
 //!
 //! * The refusal is the fault by which a mount is refused, the first in its order, or none exactly where the drive can
@@ -40,18 +42,28 @@
 //!   it repairs, and how many live records that moves in how many Moves (`Foretells`).
 //! * A rehearsal mounts the drive. It tells how many commands that takes, the next sequence, and for how many batches
 //!   of the host sequences are left (`Rehearses`).
-//! * `inspect_and_rehearse` does both (`IsInspected`), and drops the drive. The commands that it counts are as many as
-//!   the mount completes, whether it is done or refused.
+//! * `inspect_and_rehearse` does both (`IsInspected`), and gives back what is left of the drive. The commands that it
+//!   counts are as many as the mount completes, whether it is done or refused.
 //!
 //! Of what a format would destroy (`specs/Written.antt`):
 //!
 //! * [`find_written`] tells how many zones are not Empty, and what they hold (`IsWritten`). It tells nothing exactly
 //!   where each zone is Empty.
 //!
-//! Of all these:
+//! Of all these, but of the rehearsals:
 //!
 //! * No command was refused and nothing was appended. The zones are as before, but that the controller may have closed
-//!   some (`KeepsZones` in drive_survey/specs/Reported). Each ends early only by a stop or a failed allocation.
+//!   some (`KeepsZones` in drive_survey/specs/Reported).
+//!
+//! Of all of them:
+//!
+//! * Each ends early only by a stop, a command that the drive failed at, or a failed allocation. A failed command had no
+//!   effect, and is told by `Failed`: the drive is not unfailing then. The call can be made again.
+//! * Whatever the Reads returned, each call ends, and what a report tells is true: the states of the zones, which of
+//!   them cannot be used and how many are partly written (`AreByReport` in specs/Findings, `IsReportInfo` in
+//!   specs/Info, `CountsWritten` in specs/Written). The commands of a rehearsal are counted (`CountsMount`). A call
+//!   that fails tells nothing of what the drive holds (`IsNoFinding` in specs/Found). Where what the drive returned
+//!   does not fit together, the fault is `Damaged`.
 //!
 //! # What is not proved
 //!

@@ -1,17 +1,18 @@
 // What a drive holds that a format of it would destroy.
 
-ghost use Rattle.std.specs.Prelude.{◌≡◌, IfErr, IfNone, IfOk, IfSome, count_by};
+ghost use Rattle.std.specs.Prelude.{◌≡◌, ◌⊎◌, IfErr, IfNone, IfOk, IfSome, IsTrue, count_by};
 ghost use Rattle.zone_states.specs.Geometry.{IsInRange};
 ghost use Rattle.drive_array.specs.Reserve.{most_size};
 ghost use Rattle.drive_survey.specs.Reported.{KeepsZones};
 ghost use Rattle.drive_survey.specs.Scan.{FailsBy};
-ghost use Rattle.drive_inspection.specs.Written.{AreAllEmpty, IsUnlookedAt, IsWritten, ShowsHolding};
+ghost use Rattle.drive_inspection.specs.Found.{IsNoFinding};
+ghost use Rattle.drive_inspection.specs.Written.{AreAllEmpty, CountsWritten, IsUnlookedAt, IsWritten, ShowsHolding};
 ghost use Rattle.drive_inspection.specs.Written.{ShowsWritten, is_written};
 
 use crate::info::{DriveInfo, Info};
 use crate::inspecting::inspect_drive;
 use drive_array::most_blocks;
-use drive_port::{Device, Honest};
+use drive_port::Device;
 use drive_survey::{MountFault, ReportedZone};
 use nvme_wire::ZoneState;
 use std::alloc::Global;
@@ -123,14 +124,21 @@ fn written_of(info: &DriveInfo) -> Option<Written>
 }
 
 /// What a format of a drive destroys, if a zone of it is not Empty. The fault is `Limits` (the geometry is out of
-/// range), `Halted` (the drive has stopped) or `OutOfMemory`.
-pub fn find_written<D: Device + Honest>(
-    alloc: Global,
-    device: &mut D,
-) -> Result<Option<Written>, MountFault>
-    ensures some { IfOk result (λ found. IfSome found (IsWritten (D.drive device.old))) }
+/// range), `Halted` (the drive has stopped), `Failed` (it failed at a command) or `OutOfMemory`; or `Damaged`, which
+/// never comes while the drive is clean. After `Failed` the call can be made again.
+pub fn find_written<D: Device>(alloc: Global, device: &mut D) -> Result<Option<Written>, MountFault>
+    // While the drive is clean, this is what its zones hold. It fails only if the geometry is out of range, the drive
+    // halts or memory runs out.
+    ensures some { IsTrue (D.drive device.new).clean
+        → IfOk result (λ found. IfSome found (IsWritten (D.drive device.old))) }
+    ensures err { IsTrue (D.drive device.new).clean
+        → IfErr result (FailsBy (IsUnlookedAt (D.drive device.old)) (D.drive device.new)) }
+    // Whatever the Reads returned, the zones that are not Empty are counted, and nothing is told where each is Empty.
+    ensures counts { IfOk result (λ found. IfSome found (CountsWritten (D.drive device.old))) }
     ensures none { IfOk result (λ found. IfNone found (AreAllEmpty (D.drive device.old))) }
-    ensures err { IfErr result (FailsBy (IsUnlookedAt (D.drive device.old)) (D.drive device.new)) }
+    // Whatever it answers, a failure tells nothing of what the drive holds but its geometry, and zones hold what they
+    // held.
+    ensures kinds { IfErr result (λ fault. IsNoFinding fault ⊎ IsUnlookedAt (D.drive device.old) fault) }
     ensures kept { KeepsZones (D.drive device.old) (D.drive device.new) }
 {
     let geometry = device.geometry();

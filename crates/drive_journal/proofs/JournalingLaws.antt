@@ -14,7 +14,7 @@ use Rattle.drive_port.specs.Drive.{DriveState, IsLawful}
 use Rattle.drive_port.specs.Halting.{SubmitAdds, SubmitGives}
 use Rattle.drive_port.specs.Step.{Effect, Outcome, is_success}
 use Rattle.drive_port.specs.declared.device.Halt.{Halt}
-use Rattle.drive_port.specs.declared.device.Halt.TheVariants.{Memory, Stopped}
+use Rattle.drive_port.specs.declared.device.Halt.TheVariants.{Memory, Failed, Stopped}
 use Rattle.drive_port.proofs.CallLaws.{adds-also, adds-nothing}
 use Rattle.drive_port.proofs.ClosingLaws.{IsClosing-refl}
 use Rattle.drive_port.proofs.HaltLaws.{success_or}
@@ -157,6 +157,14 @@ answers-plain inner new contents sum entry bytes held items (Err Memory) long ru
   was_kept = kept;
   kept = rw same kept;
 }
+answers-plain inner new contents sum entry bytes held items (Err Failed) long runs was lawful gives none same kept = record {
+  gives = gives;
+  was_lawful = was;
+  lawful = lawful;
+  writes = record { held = contents; sum = sum; renewed = inl (refl, refl); written = (refl, refl, refl) };
+  was_kept = kept;
+  kept = rw same kept;
+}
 answers-plain inner new contents sum entry bytes held items (Err Stopped) long runs was lawful gives none same kept =
     absurd (true-false (sym gives.given.1.stopped ∙ ap (λ (d : DriveState). d.stopped) same ∙ runs))
 
@@ -212,6 +220,7 @@ module _ (inner : DriveState) (contents before : Option (List ℕ)) (sum from : 
         geometry = refl;
         trusted = λ clean. clean;
         fair = λ clean. clean;
+        unfailing = refl;
         counts = record { completed = refl; refused = refl; appended = refl };
         left = inl (IsClosing-refl inner.zones);
         hardens = may_harden-same inner (given_up inner inner.zones now from).drive (decode_of entry) refl;
@@ -256,6 +265,7 @@ module _ (inner : DriveState) (contents before : Option (List ℕ)) (sum from : 
           geometry = refl;
           trusted = λ clean. clean;
           fair = λ clean. clean;
+          unfailing = refl;
           counts = record { completed = refl; refused = refl; appended = refl };
           left = inr (inl (record { status = given.status; value = given.value; returned = given.returned; effect = can.effect }));
           hardens = may_harden-same inner (given_up inner given.zones now next).drive (decode_of entry) refl;

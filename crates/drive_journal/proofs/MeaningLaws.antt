@@ -61,11 +61,11 @@ read-rest geometry zones [] = refl
 read-rest geometry zones (change ∷ changes) = rest-rest (replayed geometry zones (change ∷ changes))
 
 -- drives that are restarted are the same if their geometry is, and their zones at rest, once both say nothing of a loss of power
-same-restart : (a b : DriveState) → a.geometry ≡ b.geometry → at_rest a.zones ≡ at_rest b.zones → a.durable ≡ [] → a.clean ≡ true → restarted a ≡ record (restarted b) { durable = []; clean = true }
-same-restart a b geometry zones silent clean = rw (geometry, zones, silent, clean) refl
+same-restart : (a b : DriveState) → a.geometry ≡ b.geometry → at_rest a.zones ≡ at_rest b.zones → a.durable ≡ [] → a.clean ≡ true → a.unfailing ≡ true → restarted a ≡ record (restarted b) { durable = []; clean = true; unfailing = true }
+same-restart a b geometry zones silent clean unfailing = rw (geometry, zones, silent, clean, unfailing) refl
 
 -- the drive that is read is the stored one, up to a restart, and it says nothing of a loss of power
-pub stored-read : (bytes : List ℕ) (drive opened : DriveState) (whole : ℕ) (sum : Sum) → IsStored bytes drive → IsDriveFile bytes opened whole sum → restarted opened ≡ record (restarted drive) { durable = []; clean = true }
+pub stored-read : (bytes : List ℕ) (drive opened : DriveState) (whole : ℕ) (sum : Sum) → IsStored bytes drive → IsDriveFile bytes opened whole sum → restarted opened ≡ record (restarted drive) { durable = []; clean = true; unfailing = true }
 stored-read bytes drive opened whole sum stored file =
     let same = one-file bytes file.parts stored.parts file.has stored.has in
     let mine = file.parts in
@@ -74,7 +74,7 @@ stored-read bytes drive opened whole sum stored file =
     ap (λ (d : DriveState). at_rest d.zones) file.drive_is ∙ read-rest mine.saved.geometry mine.saved.zones mine.changes
     ∙ ap (λ (d : DriveState). at_rest (replayed d.geometry d.zones mine.changes)) same.saved
     ∙ ap (λ (cs : List Change). at_rest (replayed stored.parts.saved.geometry stored.parts.saved.zones cs)) same.changes ∙ sym stored.zones in
-    same-restart opened drive geometry zones (ap (λ (d : DriveState). d.durable) file.drive_is) (ap (λ (d : DriveState). d.clean) file.drive_is)
+    same-restart opened drive geometry zones (ap (λ (d : DriveState). d.durable) file.drive_is) (ap (λ (d : DriveState). d.clean) file.drive_is) (ap (λ (d : DriveState). d.unfailing) file.drive_is)
 
 -- and as many bytes are whole
 pub stored-length : (bytes : List ℕ) (drive opened : DriveState) (whole : ℕ) (sum : Sum) → (stored : IsStored bytes drive) → IsDriveFile bytes opened whole sum → whole ≡ whole_length stored.parts

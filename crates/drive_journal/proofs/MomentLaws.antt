@@ -6,7 +6,7 @@ use Rattle.std.proofs.Math.Seq.{take-append-add}
 use Rattle.std.proofs.lemmas.Bool.{leb-false, leb-true, ltb-false, ltb-true}
 use Rattle.std.proofs.lemmas.List.{length-append, length-take, take-append-le, take-take, take_all}
 use Rattle.drive_port.specs.declared.device.Halt.{Halt}
-use Rattle.drive_port.specs.declared.device.Halt.TheVariants.{Memory, Stopped}
+use Rattle.drive_port.specs.declared.device.Halt.TheVariants.{Memory, Failed, Stopped}
 use Rattle.drive_journal.specs.File.{IsStored, IsStoredWhole}
 use Rattle.drive_journal.specs.Journaling.{AreCutOff, IsInStep, Journaled, Writes, written_by}
 use Rattle.drive_journal.specs.Change.{Sum, written_for}
@@ -102,6 +102,7 @@ module _ (first mid last : Journaled) (held : List ℕ) (runs : RunsTo first mid
         by : (result : Result (List ℕ) Halt) → Writes mid (Some held) submits.sum submits.entry submits.bytes result last → Holds first since last
         by (Ok completion) writes = added (written_by submits.sum completion submits.entry submits.bytes) writes.2.0 writes.2.1
         by (Err Memory) writes = same writes.2
+        by (Err Failed) writes = same writes.2
         by (Err Stopped) (inl writes) = same writes
         by (Err Stopped) (inr (lost, inl front)) =
             let all = written_for submits.sum submits.entry submits.bytes in

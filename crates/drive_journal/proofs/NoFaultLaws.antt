@@ -131,7 +131,7 @@ saved-lawful image drive is = record {
 }
 
 -- a lawful drive is lawful also if it says nothing of a loss of power
-lawful-silent : (drive : DriveState) → IsLawful drive → IsLawful (record drive { durable = []; clean = true })
+lawful-silent : (drive : DriveState) → IsLawful drive → IsLawful (record drive { durable = []; clean = true; unfailing = true })
 lawful-silent drive lawful = record {
   geometry = lawful.geometry;
   count = lawful.count;
@@ -149,7 +149,7 @@ read-lawful bytes drive stored lawful = by stored.parts.changes refl
     by [] e = rw e (saved-lawful stored.parts.image stored.parts.saved stored.has.is_image)
     by (change ∷ changes) e =
         let rest = lawful-silent (restarted drive) (lawful-restarted drive lawful) in
-        let same : record (restarted drive) { durable = []; clean = true } ≡ unused stored.parts.saved.geometry (at_rest (remade stored.parts)) = rw (stored.geometry, stored.zones) refl in
+        let same : record (restarted drive) { durable = []; clean = true; unfailing = true } ≡ unused stored.parts.saved.geometry (at_rest (remade stored.parts)) = rw (stored.geometry, stored.zones) refl in
         rw e (rw e at (subst (λ (d : DriveState). IsLawful d) same rest))
 
 -- ---- the law

@@ -88,7 +88,7 @@ module _ (bytes : List ℕ) (parts : Parts) (has : HasParts bytes parts) (drive 
       let text : bytes ≡ parts.image =
       has.text ∙ ap (λ (cs : List Change). parts.image ++ (journal_bytes start cs ++ parts.cut)) none ∙ ap (λ (l : List ℕ). parts.image ++ l) all ∙ append-nil parts.image in
       let rests : at_rest drive.zones ≡ drive.zones = rw zones_are (all-rest parts.saved.geometry.block zones shut) in
-      let silent : restarted drive ≡ unused drive.geometry (at_rest drive.zones) = rw (ap (λ (d : DriveState). d.durable) drive_is, ap (λ (d : DriveState). d.clean) drive_is) refl in
+      let silent : restarted drive ≡ unused drive.geometry (at_rest drive.zones) = rw (ap (λ (d : DriveState). d.durable) drive_is, ap (λ (d : DriveState). d.clean) drive_is, ap (λ (d : DriveState). d.unfailing) drive_is) refl in
       let is : restarted drive ≡ parts.saved =
       silent ∙ ap (λ (zs : List Zone). unused drive.geometry zs) (rests ∙ saved-zones none)
       ∙ ap (λ (d : DriveState). unused d.geometry parts.saved.zones) drive_is ∙ sym has.is_image.unused in

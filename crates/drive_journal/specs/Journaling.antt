@@ -8,7 +8,7 @@ use Rattle.disk_files.specs.Output.{AppendsFront}
 use Rattle.drive_port.specs.Drive.{DriveState, IsLawful}
 use Rattle.drive_port.specs.Halting.{SubmitAdds}
 use Rattle.drive_port.specs.declared.device.Halt.{Halt}
-use Rattle.drive_port.specs.declared.device.Halt.TheVariants.{Memory, Stopped}
+use Rattle.drive_port.specs.declared.device.Halt.TheVariants.{Memory, Failed, Stopped}
 use Rattle.zone_states.specs.Zone.{Zone}
 use Rattle.zone_states.specs.declared.geometry.Geometry.{Geometry}
 use Rattle.drive_journal.specs.Change.{Sum, changes, start, sum_for, written_for}
@@ -84,12 +84,13 @@ WritesFront geometry sum held bytes new = AppendsFront held new.contents bytes �
 abbrev pub WritesSome : Geometry → Sum → Option (List ℕ) → List ℕ → Journaled → Type 0
 WritesSome geometry sum held bytes new = WritesFront geometry sum held bytes new ⊎ WritesAll geometry sum held bytes new
 
--- A submit writes the change of a command that was completed, and nothing where it is out of memory. The sum goes on over what was written.
+-- A submit writes the change of a command that was completed, and nothing where memory is missing or the device fails. The sum goes on over what was written.
 -- Where the device stops, nothing was written; or the store failed, and has a beginning of the change; or it has the change, and the completion was lost.
 abbrev pub Writes : Journaled → Option (List ℕ) → Sum → List ℕ → List ℕ → Result (List ℕ) Halt → Journaled → Type 0
 Writes old held sum entry bytes (Ok completion) new =
     (new.lost ≡ false) × (new.sum ≡ sum_by sum completion entry bytes) × WritesAll old.drive.geometry sum held (written_by sum completion entry bytes) new
 Writes old held sum entry bytes (Err Memory) new = (new.lost ≡ false) × (new.sum ≡ sum) × (new.contents ≡ held)
+Writes old held sum entry bytes (Err Failed) new = (new.lost ≡ false) × (new.sum ≡ sum) × (new.contents ≡ held)
 Writes old held sum entry bytes (Err Stopped) new =
     (new.contents ≡ held) ⊎ ((new.lost ≡ true) × WritesSome old.drive.geometry sum held (written_for sum entry bytes) new)
 

@@ -83,7 +83,7 @@ pub fn opened_is_stored()
 pub fn stored_is_read()
     ensures drive { (bytes : List ℕ) (drive opened : DriveState) (whole : ℕ) (sum : Sum) →
         IsStored bytes drive → IsDriveFile bytes opened whole sum →
-        restarted opened ≡ record (restarted drive) { durable = []; clean = true } }
+        restarted opened ≡ record (restarted drive) { durable = []; clean = true; unfailing = true } }
     ensures whole { (bytes : List ℕ) (drive opened : DriveState) (whole : ℕ) (sum : Sum) →
         (stored : IsStored bytes drive) → IsDriveFile bytes opened whole sum → whole ≡ whole_length stored.parts }
 {}

@@ -12,14 +12,14 @@ use Rattle.zone_states.specs.declared.geometry.Geometry.{Geometry}
 use Rattle.zone_states.specs.Zone.{Zone, cut_blocks, opened_by_write, written_zone}
 use Rattle.zone_states.proofs.Cutting.{length-cut, cut-front}
 use Rattle.drive_port.specs.declared.calls.PortFault.{PortFault}
-use Rattle.drive_port.specs.declared.calls.PortFault.TheVariants.{Refused, Memory, Stopped}
+use Rattle.drive_port.specs.declared.calls.PortFault.TheVariants.{Refused, Memory, Failed, Stopped}
 use Rattle.drive_port.specs.Drive.{ClosesOne, DriveState, IsClosing, IsLawful}
 use Rattle.drive_port.specs.Step.{Effect, Performs, append_checks, end_of, zone_at}
 use Rattle.drive_port.specs.Contents.{Appends, Content, content_at, content_of, contents, filled, full, active, is_writable, usage_of}
 use Rattle.drive_port.specs.Halting.{LeftBy, TornAppend}
 use Rattle.drive_port.specs.Calls.{Appended, AppendGives, AppendKeeps, AppendLeaves, CanAppend, IsNotRefused, IsWholeBlocks, block_count}
 use Rattle.drive_port.proofs.ClosingLaws.{IsClosing-set_after, content_at-closing, content_of-closes, zone_at-closing}
-use Rattle.drive_port.proofs.StepLaws.{counts-success, outcome-passes, refused-closing, same_contents-closing, same_contents-same, succeeded, succeeds}
+use Rattle.drive_port.proofs.StepLaws.{counts-success, outcome-passes, refused-closing, same_contents-closing, same_contents-failed, same_contents-same, succeeded, succeeds}
 use Rattle.drive_port.proofs.HaltLaws.{left-front}
 use Rattle.drive_port.proofs.CheckLaws.{AllPass, data-pass, resource-pass, state-pass, state-passed}
 
@@ -121,6 +121,7 @@ append-leaves old new start bytes (Ok value) whole gives =
     effect-written old.geometry old.zones new.zones start (block_count old.geometry bytes) bytes gives.1.1.held value gives.1.1.effect
 append-leaves old new start bytes (Err (Refused status)) whole gives = refused-closing old new (Append start (block_count old.geometry bytes)) bytes gives.0 status gives.1
 append-leaves old new start bytes (Err Memory) whole gives = gives.1.1.1
+append-leaves old new start bytes (Err Failed) whole gives = gives.1.1.closing
 append-leaves old new start bytes (Err Stopped) whole gives =
     let n = block_count old.geometry bytes in
     elim (front-of old new.zones start bytes whole gives.1.1.left) [
@@ -141,6 +142,7 @@ append-keeps old new start bytes (Ok value) lawful geometry whole gives = tt
 append-keeps old new start bytes (Err (Refused status)) lawful geometry whole gives =
     same_contents-closing old new geometry (refused-closing old new (Append start (block_count old.geometry bytes)) bytes gives.0 status gives.1)
 append-keeps old new start bytes (Err Memory) lawful geometry whole gives = same_contents-same old new gives.1.1.1
+append-keeps old new start bytes (Err Failed) lawful geometry whole gives = same_contents-failed old new gives.1.1
 append-keeps old new start bytes (Err Stopped) lawful geometry whole gives =
     let n = block_count old.geometry bytes in
     elim (front-of old new.zones start bytes whole gives.1.1.left) [
@@ -188,4 +190,5 @@ append-is_taken old new start bytes (Err (Refused status)) lawful whole gives ca
     let step = gives.1.3 in
     gives.1.1 (succeeds old.geometry old.zones new.zones (Ok (Append start (block_count old.geometry bytes))) bytes step.held status gives.1.2 step.effect (append-passes old start bytes step.effect.middle lawful step.effect.before whole can))
 append-is_taken old new start bytes (Err Memory) lawful whole gives can = tt
+append-is_taken old new start bytes (Err Failed) lawful whole gives can = tt
 append-is_taken old new start bytes (Err Stopped) lawful whole gives can = tt

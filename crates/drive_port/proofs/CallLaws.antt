@@ -7,7 +7,7 @@ use Rattle.nvme_wire.specs.declared.command.Command.{Command}
 use Rattle.nvme_wire.specs.declared.command.Command.TheVariants.{Flush, Read, Write, Append, Send, Receive}
 use Rattle.nvme_wire.specs.declared.completion.Completion.{Completion}
 use Rattle.drive_port.specs.declared.calls.PortFault.{PortFault}
-use Rattle.drive_port.specs.declared.calls.PortFault.TheVariants.{Refused, Memory, Stopped}
+use Rattle.drive_port.specs.declared.calls.PortFault.TheVariants.{Refused, Memory, Failed, Stopped}
 use Rattle.drive_port.specs.Drive.{DriveState, IsLawful}
 use Rattle.drive_port.specs.Durable.{Hardens, MayHarden, is_flush}
 use Rattle.drive_port.specs.Step.{Completes}
@@ -86,6 +86,8 @@ call-obeys old new command bytes returned (Ok value) other was lawful gives = re
   counts = λ e. absurd (cc e);
   completed = omega (arith, gives.1.completed);
   trusted = gives.1.trusted;
+  unfailing = λ is. sym gives.1.unfailing ∙ is;
+  fails = λ e. absurd (cc e);
 }
 call-obeys old new command bytes returned (Err (Refused status)) other was lawful gives = record {
   was_lawful = was;
@@ -97,6 +99,8 @@ call-obeys old new command bytes returned (Err (Refused status)) other was lawfu
   counts = λ e. absurd (cc e);
   completed = omega (arith, gives.3.completed);
   trusted = gives.3.trusted;
+  unfailing = λ is. sym gives.3.unfailing ∙ is;
+  fails = λ e. absurd (cc e);
 }
 call-obeys old new command bytes returned (Err Memory) other was lawful gives = record {
   was_lawful = was;
@@ -108,6 +112,21 @@ call-obeys old new command bytes returned (Err Memory) other was lawful gives = 
   counts = λ e. absurd (cc e);
   completed = rw gives.1.1 (omega arith);
   trusted = rw gives.1.1 (λ clean. clean);
+  unfailing = rw gives.1.1 (λ is. is);
+  fails = λ e. absurd (cc e);
+}
+call-obeys old new command bytes returned (Err Failed) other was lawful gives = record {
+  was_lawful = was;
+  lawful = lawful;
+  geometry = ap (λ (d : DriveState). d.geometry) gives.1.others;
+  durable = ap (λ (d : DriveState). d.durable) gives.1.others;
+  already = λ e. absurd (cc (e, gives.1.running));
+  stops = λ e. absurd (cc e);
+  counts = λ e. absurd (cc e);
+  completed = rw gives.1.others (omega arith);
+  trusted = rw gives.1.others (λ clean. clean);
+  unfailing = rw gives.1.others (λ is. absurd (cc is));
+  fails = λ e. rw gives.1.others (refl, record { completed = refl; refused = refl; appended = refl });
 }
 call-obeys old new command bytes returned (Err Stopped) other was lawful gives = record {
   was_lawful = was;
@@ -119,4 +138,6 @@ call-obeys old new command bytes returned (Err Stopped) other was lawful gives =
   counts = λ e. gives.1.counts;
   completed = omega (arith, gives.1.counts.completed);
   trusted = gives.1.trusted;
+  unfailing = λ is. sym gives.1.unfailing ∙ is;
+  fails = λ e. absurd (cc e);
 }

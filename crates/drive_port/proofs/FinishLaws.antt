@@ -11,13 +11,13 @@ use Rattle.nvme_wire.specs.declared.zone_state.ZoneState.TheVariants.{Empty, Imp
 use Rattle.zone_states.specs.Transition.{state_after}
 use Rattle.zone_states.specs.Zone.{Zone}
 use Rattle.drive_port.specs.declared.calls.PortFault.{PortFault}
-use Rattle.drive_port.specs.declared.calls.PortFault.TheVariants.{Refused, Memory, Stopped}
+use Rattle.drive_port.specs.declared.calls.PortFault.TheVariants.{Refused, Memory, Failed, Stopped}
 use Rattle.drive_port.specs.Drive.{DriveState, IsClosing, IsLawful}
 use Rattle.drive_port.specs.Step.{Effect, is_refusal, send_checks, zone_after, zone_at}
 use Rattle.drive_port.specs.Contents.{Content, Finishes, content_at, content_of, contents, finished, is_usable, usage_of}
 use Rattle.drive_port.specs.Calls.{CanFinish, Finished, FinishGives, FinishKeeps, FinishLeaves, IsNotRefused}
 use Rattle.drive_port.proofs.ClosingLaws.{content_at-closing, content_of-closes, zone_at-closing}
-use Rattle.drive_port.proofs.StepLaws.{counts-success, refused-closing, same_contents-closing, same_contents-same, succeeded, succeeds}
+use Rattle.drive_port.proofs.StepLaws.{counts-success, refused-closing, same_contents-closing, same_contents-failed, same_contents-same, succeeded, succeeds}
 use Rattle.drive_port.proofs.HaltLaws.{left-done}
 use Rattle.drive_port.proofs.CheckLaws.{AllPass}
 use Rattle.drive_port.proofs.AppendLaws.{zone-in_range}
@@ -87,6 +87,7 @@ finish-keeps old new start (Ok value) lawful geometry gives = tt
 finish-keeps old new start (Err (Refused status)) lawful geometry gives =
     same_contents-closing old new geometry (refused-closing old new (Send start actions.Finish false) [] gives.0 status gives.1)
 finish-keeps old new start (Err Memory) lawful geometry gives = same_contents-same old new gives.1.1.1
+finish-keeps old new start (Err Failed) lawful geometry gives = same_contents-failed old new gives.1.1
 finish-keeps old new start (Err Stopped) lawful geometry gives =
     elim (left-done old.geometry old.zones new.zones (Send start actions.Finish false) [] refl gives.1.1.left) [
       | inl closing ↦ inl (same_contents-closing old new geometry closing)
@@ -117,4 +118,5 @@ finish-is_taken old new start (Err (Refused status)) gives can =
     let step = gives.1.3 in
     gives.1.1 (succeeds old.geometry old.zones new.zones (Ok (Send start actions.Finish false)) [] step.held status gives.1.2 step.effect (finish-passes old start step.effect.middle step.effect.before can))
 finish-is_taken old new start (Err Memory) gives can = tt
+finish-is_taken old new start (Err Failed) gives can = tt
 finish-is_taken old new start (Err Stopped) gives can = tt

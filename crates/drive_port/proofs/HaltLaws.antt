@@ -7,7 +7,7 @@ use Rattle.nvme_wire.specs.declared.status.Status.TheVariants.{Success, InvalidC
 use Rattle.zone_states.specs.declared.geometry.Geometry.{Geometry}
 use Rattle.zone_states.specs.Zone.{Zone}
 use Rattle.drive_port.specs.declared.calls.PortFault.{PortFault}
-use Rattle.drive_port.specs.declared.calls.PortFault.TheVariants.{Refused, Memory, Stopped}
+use Rattle.drive_port.specs.declared.calls.PortFault.TheVariants.{Refused, Memory, Failed, Stopped}
 use Rattle.drive_port.specs.Drive.{DriveState, IsClosing}
 use Rattle.drive_port.specs.Step.{Effect, Outcome, is_append, is_success}
 use Rattle.drive_port.specs.Halting.{LeftBy, Torn, TornAppend}
@@ -117,6 +117,7 @@ query-closing : (old new : DriveState) (command : Command) (bytes returned : Lis
 query-closing old new command bytes returned (Ok value) query gives = done_closing old.geometry old.zones new.zones command bytes gives.1.held value query gives.1.effect
 query-closing old new command bytes returned (Err (Refused status)) query gives = refused-closing old new command bytes returned status gives
 query-closing old new command bytes returned (Err Memory) query gives = rw gives.1.1 (IsClosing-refl old.zones)
+query-closing old new command bytes returned (Err Failed) query gives = gives.1.closing
 query-closing old new command bytes returned (Err Stopped) query gives =
     elim (left-done old.geometry old.zones new.zones command bytes (query_other command query) gives.1.left) [
       | inl closing ↦ closing

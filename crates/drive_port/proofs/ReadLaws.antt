@@ -9,7 +9,7 @@ use Rattle.nvme_wire.specs.declared.zone_state.ZoneState.TheVariants.{Offline}
 use Rattle.zone_states.specs.declared.geometry.Geometry.{Geometry}
 use Rattle.zone_states.specs.Zone.{Zone, IsLawfulZone}
 use Rattle.drive_port.specs.declared.calls.PortFault.{PortFault}
-use Rattle.drive_port.specs.declared.calls.PortFault.TheVariants.{Refused, Memory, Stopped}
+use Rattle.drive_port.specs.declared.calls.PortFault.TheVariants.{Refused, Memory, Failed, Stopped}
 use Rattle.drive_port.specs.Drive.{DriveState, ClosesOne, IsClosing, IsLawful}
 use Rattle.drive_port.specs.Step.{Performs, block_in, bytes_from, is_state, read_checks, zone_at}
 use Rattle.drive_port.specs.Contents.{bytes_at, contents}
@@ -82,4 +82,5 @@ read-is_taken old new address blocks returned (Err (Refused status)) gives can =
     let step = gives.3 in
     gives.1 (succeeds old.geometry old.zones new.zones (Ok (Read address blocks)) [] step.held status gives.2 step.effect (read-passes old address blocks step.effect.middle step.effect.before can))
 read-is_taken old new address blocks returned (Err Memory) gives can = tt
+read-is_taken old new address blocks returned (Err Failed) gives can = tt
 read-is_taken old new address blocks returned (Err Stopped) gives can = tt

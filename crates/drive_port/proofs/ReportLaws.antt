@@ -13,7 +13,7 @@ use Rattle.zone_states.specs.Zone.{Zone}
 use Rattle.zone_report.specs.Report.{descriptor_room, matching, report}
 use Rattle.zone_report.proofs.ReportLaws.{length-descriptors}
 use Rattle.drive_port.specs.declared.calls.PortFault.{PortFault}
-use Rattle.drive_port.specs.declared.calls.PortFault.TheVariants.{Refused, Memory, Stopped}
+use Rattle.drive_port.specs.declared.calls.PortFault.TheVariants.{Refused, Memory, Failed, Stopped}
 use Rattle.drive_port.specs.Drive.{DriveState}
 use Rattle.drive_port.specs.Step.{Performs, end_of}
 use Rattle.drive_port.specs.Calls.{IsNotRefused, ReportGives, Reported}
@@ -65,4 +65,5 @@ report-is_taken old new address options partial dwords returned (Ok value) gives
 report-is_taken old new address options partial dwords returned (Err (Refused status)) gives low =
     gives.1 (succeeds old.geometry old.zones new.zones (Ok (Receive address dwords options partial)) [] gives.3.held status gives.2 gives.3.effect (lt-leb _ _ low, tt))
 report-is_taken old new address options partial dwords returned (Err Memory) gives low = tt
+report-is_taken old new address options partial dwords returned (Err Failed) gives low = tt
 report-is_taken old new address options partial dwords returned (Err Stopped) gives low = tt

@@ -13,13 +13,13 @@ use Rattle.zone_states.specs.declared.geometry.Geometry.{Geometry}
 use Rattle.zone_states.specs.Transition.{is_active, state_after}
 use Rattle.zone_states.specs.Zone.{Zone}
 use Rattle.drive_port.specs.declared.calls.PortFault.{PortFault}
-use Rattle.drive_port.specs.declared.calls.PortFault.TheVariants.{Refused, Memory, Stopped}
+use Rattle.drive_port.specs.declared.calls.PortFault.TheVariants.{Refused, Memory, Failed, Stopped}
 use Rattle.drive_port.specs.Drive.{DriveState, ClosesOne, IsClosing, IsLawful}
 use Rattle.drive_port.specs.Step.{Effect, blocks_after, is_refusal, send_checks, zone_at}
 use Rattle.drive_port.specs.Contents.{Content, Resets, SameContents, active, content_at, content_of, contents, is_usable, usage_of}
 use Rattle.drive_port.specs.Calls.{CanClose, CanReset, CloseGives, CloseLeaves, ClosedZone, IsNotRefused, Leaves, ResetGives, ResetKeeps, ResetLeaves, ResetZone, SendGives, zone_from}
 use Rattle.drive_port.proofs.ClosingLaws.{IsClosing-set, IsClosing-trans, active-closes, content_at-closing, content_of-closes, contents-closing, zone_at-closing}
-use Rattle.drive_port.proofs.StepLaws.{counts-success, outcome-passes, refused-closing, same_contents-closing, same_contents-same, succeeded, succeeds}
+use Rattle.drive_port.proofs.StepLaws.{counts-success, outcome-passes, refused-closing, same_contents-closing, same_contents-failed, same_contents-same, succeeded, succeeds}
 use Rattle.drive_port.proofs.HaltLaws.{left-done}
 use Rattle.drive_port.proofs.CheckLaws.{AllPass}
 use Rattle.drive_port.proofs.AppendLaws.{zone-in_range}
@@ -97,6 +97,7 @@ pub send-leaves : {V : Type 0} (old new : DriveState) (start : ℕ) (action : Ac
 send-leaves old new start action next (Ok value) is gives = sent-zones old.geometry old.zones new.zones start action next [] gives.1.1.held 0 is gives.1.1.effect
 send-leaves old new start action next (Err (Refused status)) is gives = refused-closing old new (Send start action false) [] gives.0 status gives.1
 send-leaves old new start action next (Err Memory) is gives = gives.1.1.1
+send-leaves old new start action next (Err Failed) is gives = gives.1.1.closing
 send-leaves old new start action next (Err Stopped) is gives =
     elim (left-done old.geometry old.zones new.zones (Send start action false) [] refl gives.1.1.left) [
       | inl closing ↦ inl closing
@@ -148,6 +149,7 @@ reset-keeps old new start (Ok value) lawful geometry gives = tt
 reset-keeps old new start (Err (Refused status)) lawful geometry gives =
     same_contents-closing old new geometry (refused-closing old new (Send start actions.Reset false) [] gives.0 status gives.1)
 reset-keeps old new start (Err Memory) lawful geometry gives = same_contents-same old new gives.1.1.1
+reset-keeps old new start (Err Failed) lawful geometry gives = same_contents-failed old new gives.1.1
 reset-keeps old new start (Err Stopped) lawful geometry gives =
     elim (left-done old.geometry old.zones new.zones (Send start actions.Reset false) [] refl gives.1.1.left) [
       | inl closing ↦ inl (same_contents-closing old new geometry closing)
@@ -211,6 +213,7 @@ close-kept old new start (Ok value) lawful geometry gives =
 close-kept old new start (Err (Refused status)) lawful geometry gives =
     same_contents-closing old new geometry (refused-closing old new (Send start actions.Close false) [] gives.0 status gives.1)
 close-kept old new start (Err Memory) lawful geometry gives = same_contents-same old new gives.1.1.1
+close-kept old new start (Err Failed) lawful geometry gives = same_contents-failed old new gives.1.1
 close-kept old new start (Err Stopped) lawful geometry gives =
     elim (left-done old.geometry old.zones new.zones (Send start actions.Close false) [] refl gives.1.1.left) [
       | inl closing ↦ same_contents-closing old new geometry closing
@@ -235,6 +238,7 @@ close-is_taken old new start (Err (Refused status)) gives can =
     let step = gives.1.3 in
     gives.1.1 (succeeds old.geometry old.zones new.zones (Ok (Send start actions.Close false)) [] step.held status gives.1.2 step.effect (close-passes old start step.effect.middle step.effect.before can))
 close-is_taken old new start (Err Memory) gives can = tt
+close-is_taken old new start (Err Failed) gives can = tt
 close-is_taken old new start (Err Stopped) gives can = tt
 
 reset-passes : (old : DriveState) (start : ℕ) (middle : List Zone) → IsClosing old.zones middle → CanReset old start
@@ -255,4 +259,5 @@ reset-is_taken old new start (Err (Refused status)) gives can =
     let step = gives.1.3 in
     gives.1.1 (succeeds old.geometry old.zones new.zones (Ok (Send start actions.Reset false)) [] step.held status gives.1.2 step.effect (reset-passes old start step.effect.middle step.effect.before can))
 reset-is_taken old new start (Err Memory) gives can = tt
+reset-is_taken old new start (Err Failed) gives can = tt
 reset-is_taken old new start (Err Stopped) gives can = tt

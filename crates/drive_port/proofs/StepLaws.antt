@@ -15,9 +15,10 @@ use Rattle.zone_states.specs.Transition.{state_after}
 use Rattle.zone_states.specs.Zone.{Zone}
 use Rattle.zone_report.specs.Report.{report}
 use Rattle.drive_port.specs.declared.calls.PortFault.{PortFault}
-use Rattle.drive_port.specs.declared.calls.PortFault.TheVariants.{Refused, Memory, Stopped}
+use Rattle.drive_port.specs.declared.calls.PortFault.TheVariants.{Refused, Memory, Failed, Stopped}
 use Rattle.drive_port.specs.Drive.{DriveState, IsClosing}
 use Rattle.drive_port.specs.Step.{Effect, Outcome, Performs, append_checks, bytes_from, decode_status, done, is_append, is_success, one_if, outcome, read_checks, receive_checks, send_checks, sent_zone, unless_refused, write_checks, write_effect, zone_after, zone_at}
+use Rattle.drive_port.specs.Halting.{Fails}
 use Rattle.drive_port.specs.Contents.{Counts, SameContents, contents}
 use Rattle.drive_port.specs.Calls.{CallGives}
 use Rattle.drive_port.proofs.CheckLaws.{AllPass}
@@ -204,6 +205,7 @@ call-none old new command bytes returned (Ok value) gives = tt
 call-none old new command bytes returned (Err (Refused status)) gives =
     none-if returned gives.3.held gives.3.length_is (effect-refused old.geometry old.zones new.zones (Ok command) bytes gives.3.held status gives.2 gives.1 gives.3.effect).1
 call-none old new command bytes returned (Err Memory) gives = gives.0
+call-none old new command bytes returned (Err Failed) gives = gives.0
 call-none old new command bytes returned (Err Stopped) gives = gives.0
 
 -- a call that was refused did no more to the zones than the controller may by itself
@@ -215,6 +217,10 @@ refused-closing old new command bytes returned status gives =
 -- and so does the same drive
 pub same_contents-same : (old new : DriveState) → new ≡ old → SameContents old new
 same_contents-same old new same = rw same (record { geometry = refl; contents = refl })
+
+-- and where one failed
+pub same_contents-failed : (old new : DriveState) → Fails old new → SameContents old new
+same_contents-failed old new fails = same_contents-closing old new (ap (λ (d : DriveState). d.geometry) fails.others) fails.closing
 
 -- no command but an Append has a result
 effect-value : (geometry : Geometry) (zones : List Zone) (command : Command) (bytes : List ℕ) → is_append (Ok command) ≡ false → (effect_of geometry zones (Ok command) bytes).value ≡ 0

@@ -68,6 +68,7 @@ stops-already old command bytes stopped = record {
   geometry = refl;
   trusted = λ clean. clean;
   fair = λ clean. clean;
+  unfailing = refl;
   counts = record { completed = refl; refused = refl; appended = refl };
   left = inl (IsClosing-refl old.zones);
   hardens = may_harden-same old old command refl;
@@ -88,9 +89,9 @@ or_true false c = refl
 pub stops-here : (old new : Stopping) (command : Result Command DecodeFault) (bytes : List ℕ)
     → (drive_of old).stopped ≡ false → is_over new.progress ≡ true → new.inner.geometry ≡ old.inner.geometry → new.completed ≡ old.completed
     → refused_here new.progress new.inner.refused ≡ old.inner.refused → appended_here new.progress new.inner.appended ≡ old.inner.appended
-    → LeftBy old.inner.geometry old.inner.zones command bytes new.inner.zones → new.inner.durable ≡ old.inner.durable → (IsTrue new.inner.clean → IsTrue old.inner.clean) → (IsTrue old.inner.clean → IsTrue new.inner.clean)
+    → LeftBy old.inner.geometry old.inner.zones command bytes new.inner.zones → new.inner.durable ≡ old.inner.durable → (IsTrue new.inner.clean → IsTrue old.inner.clean) → (IsTrue old.inner.clean → IsTrue new.inner.clean) → new.inner.unfailing ≡ old.inner.unfailing
     → Stops (drive_of old) command bytes (drive_of new)
-stops-here old new command bytes running over geometry completed refused appended left durable trusted fair =
+stops-here old new command bytes running over geometry completed refused appended left durable trusted fair unfailing =
     let is = going-if old.inner.stopped old.progress (nat_eq old.tear 0 && nat_le old.limit old.completed) running in
     record {
       already = λ e. absurd (cc (e, running));
@@ -98,6 +99,7 @@ stops-here old new command bytes running over geometry completed refused appende
       geometry = geometry;
       trusted = trusted;
       fair = fair;
+      unfailing = unfailing;
       counts = record { completed = completed; refused = rw is refused; appended = rw is appended };
       left = left;
       hardens = may_harden-same (drive_of old) (drive_of new) command durable;
@@ -129,6 +131,7 @@ passed-on old new limit tear uncounted progress entry bytes (Ok completion) retu
           length_is = p.length_is;
           trusted = p.trusted;
           fair = p.fair;
+          unfailing = p.unfailing;
           geometry = p.geometry;
           completed = omega (arith, p.completed, low);
           refused = rw is p.refused;
@@ -138,6 +141,10 @@ passed-on old new limit tear uncounted progress entry bytes (Ok completion) retu
       },
     )
 passed-on old new limit tear uncounted progress entry bytes (Err halts.Memory) returned low running gives = (gives.0, (running, rw gives.1.1 refl))
+passed-on old new limit tear uncounted progress entry bytes (Err halts.Failed) returned low running gives = (
+  gives.0,
+  record { running = running; closing = gives.1.closing; others = ap (λ (d : DriveState). drive_of (stopping d limit tear uncounted progress)) gives.1.others },
+)
 passed-on old new limit tear uncounted progress entry bytes (Err halts.Stopped) returned low running gives =
     let s = gives.1 in
     let is = going-if old.stopped progress (nat_eq tear 0 && nat_le limit (old.completed - uncounted)) running in (
@@ -148,6 +155,7 @@ passed-on old new limit tear uncounted progress entry bytes (Err halts.Stopped) 
         geometry = s.geometry;
         trusted = s.trusted;
         fair = s.fair;
+        unfailing = s.unfailing;
         counts = record { completed = omega (arith, s.counts.completed); refused = rw is s.counts.refused; appended = rw is s.counts.appended };
         left = s.left;
         hardens = may_harden-by (decode_of entry) old new (drive_of (stopping old limit tear uncounted progress)) (drive_of (stopping new limit tear uncounted progress)) refl refl refl s.hardens;
@@ -218,7 +226,7 @@ stops-appended old inner uncounted command start block bytes returned value coun
     let p = gives.1 in
     stops-here old (record old { inner = inner; completed = inner.completed - (uncounted + 1); progress = OverAppended }) command bytes running refl p.geometry
     (omega (arith, p.completed, counted)) (omega (arith, p.refused)) (omega (arith, p.appended))
-    (rw torn.command_is (inr (inr (record { j = old.tear; some = torn.some; few = torn.few; value = value; returned = p.held; effect = rw block_is at p.effect })))) p.hardens p.trusted (λ clean. p.fair clean (p.told refl))
+    (rw torn.command_is (inr (inr (record { j = old.tear; some = torn.some; few = torn.few; value = value; returned = p.held; effect = rw block_is at p.effect })))) p.hardens p.trusted (λ clean. p.fair clean (p.told refl)) p.unfailing
 
 -- or its front was refused
 pub stops-refused : (old : Stopping) (inner : DriveState) (uncounted : ℕ) (command : Result Command DecodeFault) (start block : ℕ) (bytes returned : List ℕ) (status : Status)
@@ -231,7 +239,7 @@ stops-refused old inner uncounted command start block bytes returned status coun
     let appended = p.appended ∙ ap (λ (b : Bool). old.inner.appended + one_if b) (bad_is status gives.1) in
     let closing = refused-closing old.inner inner (Append start old.tear) (take (old.tear * block) bytes) returned status gives in
     stops-here old (record old { inner = inner; completed = inner.completed - (uncounted + 1); progress = OverRefused }) command bytes running refl p.geometry
-    (omega (arith, p.completed, counted)) (omega (arith, refused)) (omega (arith, appended)) (inl closing) p.hardens p.trusted (λ clean. p.fair clean (p.told refl))
+    (omega (arith, p.completed, counted)) (omega (arith, refused)) (omega (arith, appended)) (inl closing) p.hardens p.trusted (λ clean. p.fair clean (p.told refl)) p.unfailing
 
 -- or the drive within stopped by itself
 pub stops-stopped : (old : Stopping) (inner : DriveState) (uncounted : ℕ) (command : Result Command DecodeFault) (start block : ℕ) (bytes returned : List ℕ)
@@ -242,4 +250,4 @@ stops-stopped old inner uncounted command start block bytes returned counted run
     let s = gives.1 in
     stops-here old (record old { inner = inner; completed = inner.completed - uncounted; progress = Over }) command bytes running refl s.geometry
     (omega (arith, s.counts.completed, counted)) s.counts.refused s.counts.appended
-    (rw torn.command_is (left-torn old.inner.geometry old.inner.zones inner.zones start old.tear torn.blocks bytes torn.some torn.few (rw block_is at s.left))) s.hardens s.trusted s.fair
+    (rw torn.command_is (left-torn old.inner.geometry old.inner.zones inner.zones start old.tear torn.blocks bytes torn.some torn.few (rw block_is at s.left))) s.hardens s.trusted s.fair s.unfailing

@@ -1,11 +1,11 @@
 -- What each typed call promises, whatever it answers: which submit it is, what it shows where it succeeded, what it
 -- leaves, when a drive must not refuse it, and that it obeys what binds every call.
-use Rattle.std.specs.Prelude.{◌≡◌, ℕ, ◌+◌, ◌<◌, ◌≤◌, ◌↔◌, Bool, true, false, IsTrue, List, [], Result, Err, IfOk, OnOk, OnErr}
+use Rattle.std.specs.Prelude.{◌≡◌, ℕ, ◌+◌, ◌<◌, ◌≤◌, ◌↔◌, Bool, true, false, IsTrue, IsFalse, List, [], Result, Err, IfOk, OnOk, OnErr}
 use Rattle.nvme_wire.specs.declared.command.ReportingOptions.{ReportingOptions}
 use Rattle.nvme_wire.specs.declared.command.ReportingOptions.TheVariants.{InState}
 use Rattle.nvme_wire.specs.declared.zone_state.ZoneState.TheVariants.{Empty}
 use Rattle.drive_port.specs.declared.calls.PortFault.{PortFault}
-use Rattle.drive_port.specs.declared.calls.PortFault.TheVariants.{Stopped}
+use Rattle.drive_port.specs.declared.calls.PortFault.TheVariants.{Failed, Stopped}
 use Rattle.drive_port.specs.Drive.{DriveState, IsLawful}
 use Rattle.drive_port.specs.Step.{end_of}
 use Rattle.drive_port.specs.Halting.{Adds}
@@ -81,6 +81,8 @@ pub record FlushAnswers {V : Type 0} (old : DriveState) (result : Result V PortF
   pub kept : OnlyCloses old new
   pub taken : IsNotRefused result
   pub trusted : IsTrue new.clean → IsTrue old.clean
+  pub unfailing : IsTrue new.unfailing → IsTrue old.unfailing
+  pub fails : result ≡ Err Failed → IsFalse new.unfailing × SameCounts old new
   -- a drive that had stopped answers just that and does not change; one that answers so has stopped, and counts nothing
   pub lawful : IsLawful new
   pub already : old.stopped ≡ true → (result ≡ Err Stopped) × (new ≡ old)

@@ -1,5 +1,5 @@
 -- What the typed calls answer: each is one submit of its command.
-use Rattle.std.specs.Prelude.{◌≡◌, ◌≢◌, ◌⊎◌, ℕ, ◌+◌, ◌-◌, ◌/◌, ◌*◌, ◌%◌, ◌≤◌, ◌<◌, Bool, true, false, IsTrue, if◌then◌else◌}
+use Rattle.std.specs.Prelude.{◌≡◌, ◌≢◌, ◌⊎◌, ℕ, ◌+◌, ◌-◌, ◌/◌, ◌*◌, ◌%◌, ◌≤◌, ◌<◌, Bool, true, false, IsTrue, IsFalse, if◌then◌else◌}
 use Rattle.std.specs.Prelude.{List, [], ◌++◌, length, take, count_by, slice_set, Result, Ok, Err}
 use Rattle.std.specs.List.{remove}
 use Rattle.nvme_wire.specs.Completion.{IsEncodable, completion_bytes}
@@ -16,7 +16,7 @@ use Rattle.zone_states.specs.Transition.{is_active}
 use Rattle.zone_states.specs.Zone.{Zone, cut_blocks, written_zone}
 use Rattle.zone_report.specs.Report.{is_chosen, report}
 use Rattle.drive_port.specs.declared.calls.PortFault.{PortFault}
-use Rattle.drive_port.specs.declared.calls.PortFault.TheVariants.{Refused, Memory, Stopped}
+use Rattle.drive_port.specs.declared.calls.PortFault.TheVariants.{Refused, Memory, Failed, Stopped}
 use Rattle.drive_port.specs.declared.device.Halt.{Halt}
 use Rattle.drive_port.specs.declared.device.Halt.TheVariants as halts
 use Rattle.drive_port.specs.Drive.{DriveState, IsClosing, IsLawful, active_count, open_count}
@@ -32,6 +32,7 @@ CallGives old command bytes (Ok value) returned new = (old.stopped ≡ false) ×
 CallGives old command bytes (Err (Refused status)) returned new =
     (old.stopped ≡ false) × (status ≢ Success) × (value : ℕ) × Performs old (Ok command) bytes status value returned new
 CallGives old command bytes (Err Memory) returned new = (returned ≡ []) × Halts old (Ok command) bytes halts.Memory new
+CallGives old command bytes (Err Failed) returned new = (returned ≡ []) × Halts old (Ok command) bytes halts.Failed new
 CallGives old command bytes (Err Stopped) returned new = (returned ≡ []) × Halts old (Ok command) bytes halts.Stopped new
 
 -- the bytes of a completion
@@ -47,11 +48,13 @@ answer_of completion = if is_success completion.status then Ok completion.result
 -- and what to a halt
 abbrev pub fault_of : Halt → PortFault
 fault_of halts.Memory = Memory
+fault_of halts.Failed = Failed
 fault_of halts.Stopped = Stopped
 
 -- What each call but a Flush keeps, whatever it answers: the drive stays lawful, has its geometry, and what is durable
 -- is the same; a drive that had stopped answers just that and does not change; a drive that answers `Stopped` has
--- stopped, and its counts are the same; and no more than one command is completed.
+-- stopped, one that answers `Failed` is not unfailing, and the counts are the same then; and no more than one command is
+-- completed.
 pub record Obeys {V : Type 0} (old : DriveState) (result : Result V PortFault) (new : DriveState) : Type 0 where
   pub was_lawful : IsLawful old
   pub lawful : IsLawful new
@@ -62,6 +65,8 @@ pub record Obeys {V : Type 0} (old : DriveState) (result : Result V PortFault) (
   pub counts : result ≡ Err Stopped → SameCounts old new
   pub completed : new.completed ≤ old.completed + 1
   pub trusted : IsTrue new.clean → IsTrue old.clean
+  pub unfailing : IsTrue new.unfailing → IsTrue old.unfailing
+  pub fails : result ≡ Err Failed → IsFalse new.unfailing × SameCounts old new
 
 -- the answer of a call whose command has no result: that is 0
 abbrev pub with_zero : {V : Type 0} → Result V PortFault → Result ℕ PortFault
@@ -230,12 +235,13 @@ pub record CanReset (drive : DriveState) (start : ℕ) : Type 0 where
 -- ---- the zones after a call
 
 -- A call that changes one zone. Where it succeeded, this zone starts there, and the controller may have closed zones
--- before it and after it; where it was refused, the controller may have closed zones; where the device was out of
--- memory, nothing changed; and where it stopped, either may be.
+-- before it and after it; where it was refused or failed, the controller may have closed zones; where the device
+-- was out of memory, nothing changed; and where it stopped, either may be.
 abbrev pub Leaves : {V : Type 0} → DriveState → ℕ → Zone → Result V PortFault → DriveState → Type 0
 Leaves old start zone (Ok value) new = IsClosing (slice_set old.zones (start / old.geometry.size) zone) new.zones
 Leaves old start zone (Err (Refused status)) new = IsClosing old.zones new.zones
 Leaves old start zone (Err Memory) new = new ≡ old
+Leaves old start zone (Err Failed) new = IsClosing old.zones new.zones
 Leaves old start zone (Err Stopped) new = IsClosing old.zones new.zones ⊎ IsClosing (slice_set old.zones (start / old.geometry.size) zone) new.zones
 
 -- the zone that starts there, with these blocks after its own: it is Full where they reach its capacity

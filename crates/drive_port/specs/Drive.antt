@@ -20,6 +20,8 @@ pub record DriveState : Type 0 where
   pub stopped : Bool
   -- each Read returned what the drive holds. It may fall at a Read, never rises, and no code can tell
   pub clean : Bool
+  -- no command failed. It falls where one does, and never rises
+  pub unfailing : Bool
 
 abbrev pub active_count : List Zone → ℕ
 active_count zones = count_by (λ zone. is_active zone.state) zones

@@ -9,7 +9,7 @@ use Rattle.nvme_wire.specs.declared.status.Status.TheVariants.{Success}
 use Rattle.zone_states.specs.declared.geometry.Geometry.{Geometry}
 use Rattle.zone_states.specs.Zone.{Zone}
 use Rattle.drive_port.specs.declared.device.Halt.{Halt}
-use Rattle.drive_port.specs.declared.device.Halt.TheVariants.{Memory, Stopped}
+use Rattle.drive_port.specs.declared.device.Halt.TheVariants.{Memory, Failed, Stopped}
 use Rattle.drive_port.specs.Drive.{DriveState, IsClosing}
 use Rattle.drive_port.specs.Durable.{MayHarden}
 use Rattle.drive_port.specs.Step.{Completes, Effect}
@@ -49,15 +49,24 @@ pub record Stops (old : DriveState) (command : Result Command DecodeFault) (byte
   pub geometry : new.geometry ≡ old.geometry
   pub trusted : IsTrue new.clean → IsTrue old.clean
   pub fair : IsTrue old.clean → IsTrue new.clean
+  pub unfailing : new.unfailing ≡ old.unfailing
   pub counts : SameCounts old new
   pub left : LeftBy old.geometry old.zones command bytes new.zones
   pub hardens : MayHarden command old new
 
 -- ---- halts
 
--- No completion of this command: the device was out of memory, had not stopped, and nothing changed; or it has stopped.
+-- A command failed, and had no effect: nothing changed but that the controller may have closed zones. It counts for nothing.
+pub record Fails (old new : DriveState) : Type 0 where
+  pub running : old.stopped ≡ false
+  pub closing : IsClosing old.zones new.zones
+  pub others : new ≡ record old { zones = new.zones; unfailing = false }
+
+-- No completion of this command: the device was out of memory, had not stopped, and nothing changed; or it failed at the
+-- command; or it has stopped.
 abbrev pub Halts : DriveState → Result Command DecodeFault → List ℕ → Halt → DriveState → Type 0
 Halts old command bytes Memory new = (old.stopped ≡ false) × (new ≡ old)
+Halts old command bytes Failed new = Fails old new
 Halts old command bytes Stopped new = Stops old command bytes new
 
 -- What a device answers to a submit: the completion of a step, only if it had not stopped; or a halt, with no bytes.

@@ -16,4 +16,4 @@ restarted_zone zone = record zone { state = restarted_state zone.state }
 
 -- nothing else of the zones changes, nor what is durable of them; the counts begin again, and the drive continues
 abbrev pub restarted : DriveState → DriveState
-restarted drive = record { geometry = drive.geometry; zones = map restarted_zone drive.zones; durable = drive.durable; completed = 0; refused = 0; appended = 0; stopped = false; clean = drive.clean }
+restarted drive = record { geometry = drive.geometry; zones = map restarted_zone drive.zones; durable = drive.durable; completed = 0; refused = 0; appended = 0; stopped = false; clean = drive.clean; unfailing = drive.unfailing }

@@ -213,6 +213,7 @@ pub record Performs (old : DriveState) (command : Result Command DecodeFault) (b
   pub length_is : length returned ≡ length held
   pub trusted : IsTrue new.clean → IsTrue old.clean
   pub fair : IsTrue old.clean → returned ≡ held → IsTrue new.clean
+  pub unfailing : new.unfailing ≡ old.unfailing
   pub geometry : new.geometry ≡ old.geometry
   pub completed : new.completed ≡ old.completed + 1
   pub refused : new.refused ≡ old.refused + one_if (not (is_success status))

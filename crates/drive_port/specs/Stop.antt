@@ -7,7 +7,7 @@ use Rattle.nvme_wire.specs.declared.command.DecodeFault.{DecodeFault}
 use Rattle.drive_port.specs.declared.calls.PortFault.{PortFault}
 use Rattle.drive_port.specs.declared.calls.PortFault.TheVariants as faults
 use Rattle.drive_port.specs.declared.device.Halt.{Halt}
-use Rattle.drive_port.specs.declared.device.Halt.TheVariants.{Memory, Stopped}
+use Rattle.drive_port.specs.declared.device.Halt.TheVariants.{Memory, Failed, Stopped}
 use Rattle.drive_port.specs.declared.progress.Progress.{Progress}
 use Rattle.drive_port.specs.declared.progress.Progress.TheVariants.{Going, OverAppended, OverRefused}
 use Rattle.drive_port.specs.Drive.{DriveState}
@@ -52,9 +52,10 @@ abbrev pub torn_at : ℕ → ℕ → Result Command DecodeFault → ℕ → Opti
 torn_at block j (Ok (Append start blocks)) len = if nat_lt 0 j && (nat_le j blocks && nat_le (j * block) len) then Some start else None
 torn_at block j command len = None
 
--- out of memory is passed on, and the device continues; it stops after every other answer
+-- out of memory and a failure are passed on, and the device continues; it stops after every other answer
 abbrev pub halt_after : Result ℕ PortFault → Halt
 halt_after (Err faults.Memory) = Memory
+halt_after (Err faults.Failed) = Failed
 halt_after result = Stopped
 
 -- one submit of an Append of the first j blocks

@@ -23,6 +23,9 @@ pub enum PortFault {
     /// An allocation failed. Nothing changed.
     #[error("out of memory")]
     Memory,
+    /// The drive failed at the command, which had no effect.
+    #[error("the drive failed at the command")]
+    Failed,
     /// The device has stopped, before this command or inside it: the command may be done, and of an Append
     /// a front may be written.
     #[error("the device has stopped")]
@@ -35,6 +38,7 @@ impl From<Halt> for PortFault {
     fn from(halt: Halt) -> PortFault {
         match halt {
             Halt::Memory => PortFault::Memory,
+            Halt::Failed => PortFault::Failed,
             Halt::Stopped => PortFault::Stopped,
         }
     }

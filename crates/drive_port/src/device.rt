@@ -13,6 +13,9 @@ pub enum Halt {
     /// An allocation failed. Nothing changed.
     #[error("out of memory")]
     Memory,
+    /// The command failed. It had no effect, and the next one may succeed.
+    #[error("the drive failed at the command")]
+    Failed,
     /// The device has stopped, before this command or inside it, and completes no command any more. Of the
     /// command it may have done nothing or all, and of an Append a front.
     #[error("the device has stopped")]

@@ -149,6 +149,7 @@ impl<D: Device + Drop> StopAfter<D> {
                 Halt::Stopped
             }
             Err(PortFault::Memory) => Halt::Memory,
+            Err(PortFault::Failed) => Halt::Failed,
             Err(PortFault::Stopped) => {
                 self.progress = Progress::Over;
                 Halt::Stopped

@@ -4,8 +4,9 @@ use Rattle.std.proofs.lemmas.List.{get_or-take, length-take, length-take-le}
 use Rattle.drive_rescue.specs.declared.search.SoughtZone.{SoughtZone}
 use Rattle.drive_rescue.specs.Holding.{IsSought, IsSoughtIn}
 use Rattle.drive_rescue.specs.Rescue.{KeepsSource, SourceView}
-use Rattle.drive_rescue.specs.Searching.{EndsAt}
+use Rattle.drive_rescue.specs.Searching.{Ends, EndsAt}
 use Rattle.drive_rescue.specs.Zones.{ReadZone, cut, read_zones, zone_with}
+use Rattle.drive_rescue.proofs.DamageLaws.{ends-lasts}
 use Rattle.drive_rescue.proofs.KeepLaws.{zones-kept}
 
 -- the blocks of a part of a zone are the zone's
@@ -48,7 +49,10 @@ sought-cut source sought end is open_one ends =
     }
 
 pub sought-in-kept : (a b : SourceView) (sought : SoughtZone) → KeepsSource a b → IsSoughtIn a sought → IsSoughtIn b sought
-sought-in-kept a b sought k is = record { end = is.end; ends = rw (k.damaged, zones-kept a b k) is.ends; is = rw (zones-kept a b k) is.is }
+sought-in-kept a b sought k is =
+    let zone = zone_with (read_zones a.drive) sought.number in
+    let ends : Ends b.damaged zone sought.number is.end = ends-lasts a.damaged b.damaged zone sought.number is.end k.damaged is.ends in
+    record { end = is.end; ends = rw (zones-kept a b k) ends; is = rw (zones-kept a b k) is.is }
 
 -- a block of a zone that is sought can be read
 pub sought-there : (source : SourceView) (sought : SoughtZone) (offset : ℕ) → IsSoughtIn source sought → offset < sought.blocks → offset < length (zone_with (read_zones source.drive) sought.number).blocks

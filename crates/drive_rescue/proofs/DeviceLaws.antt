@@ -1,6 +1,6 @@
 -- What a device tells of its zones, and what a Read of one block gives.
-use Rattle.std.proofs.Common.{◌≡◌, ◌⊎◌, inl, inr, ℕ, zero, suc, ◌+◌, ◌-◌, ◌*◌, ◌/◌, ◌%◌, ◌<◌, ◌≤◌, Bool, true, false, List, [], ◌∷◌, ◌++◌, map, length, get_or, replicate, Some, Ok, Err, refl, sym, ap, ◌∙◌, arith, append-nil}
-use Rattle.std.specs.Prelude.{slice_get}
+use Rattle.std.proofs.Common.{◌≡◌, ◌⊎◌, inl, inr, ℕ, zero, suc, ◌+◌, ◌-◌, ◌*◌, ◌/◌, ◌%◌, ◌<◌, ◌≤◌, Bool, true, false, List, [], ◌∷◌, ◌++◌, map, length, get_or, replicate, Some, Result, Ok, Err, refl, sym, ap, ◌∙◌, arith, append-nil}
+use Rattle.std.specs.Prelude.{IfOk, IsFalse, slice_get}
 use Rattle.std.specs.List.{AllByRecursion}
 use Rattle.std.proofs.lemmas.List.{get_or_append_left, get_or-append_right, get_or_default, get_or_past, get_or-replicate, length-append, length-replicate}
 use Rattle.std.proofs.lemmas.Nat.{div-mul-add, mod-mul-add, mul-le}
@@ -18,6 +18,7 @@ use Rattle.drive_port.specs.Step.{Effect, end_of, is_state, zone_at}
 use Rattle.nvme_wire.specs.declared.command.Command.TheVariants.{Read}
 use Rattle.nvme_wire.specs.declared.status.Status.TheVariants.{Success}
 use Rattle.drive_port.proofs.StepLaws.{succeeded}
+use Rattle.drive_port.specs.declared.device.Halt.{Halt}
 use Rattle.drive_port.specs.declared.calls.PortFault.{PortFault}
 use Rattle.drive_port.specs.declared.calls.PortFault.TheVariants as port
 use Rattle.drive_port.proofs.ClosingLaws.{content_at-closing, content_at-contents}
@@ -30,6 +31,11 @@ use Rattle.drive_survey.specs.Reported.{AreReported, IsReported, KeepsZones, Rep
 use Rattle.drive_survey.proofs.ReadLaws.{keeps-none}
 use Rattle.drive_survey.proofs.ReportLaws.{lawful-closing}
 use Rattle.drive_rescue.specs.Zones.{ReadZone, TellsAll, TellsZone, block_with, blocks_told, is_offline, is_open_ended, is_padded, read_blocks, read_zone, read_zones, zone_with}
+use Rattle.drive_rescue.specs.declared.source.Reading.{Reading}
+use Rattle.drive_rescue.specs.declared.source.Reading.TheVariants.{Held, Unreadable}
+use Rattle.drive_rescue.specs.Rescue.{KeepsSource, ReadSays}
+use Rattle.drive_rescue.specs.Sources.{damaged_once_failed}
+use Rattle.drive_rescue.proofs.DamageLaws.{not-lasts}
 use Rattle.drive_rescue.proofs.KeepLaws.{closing-read}
 
 -- ---- a report
@@ -207,6 +213,12 @@ pub read-halts : (old new : DriveState) (address : ℕ) (returned : List ℕ) (f
     → Obeys {V = Unit {0}} old (Err fault) new → (CanRead old address 1 → IsNotRefused {V = Unit {0}} (Err fault)) → HaltsRead old new fault
 read-halts old new address returned (port.Refused status) can gives closing obeys passed = absurd (passed can)
 read-halts old new address returned port.Memory can gives closing obeys passed = record { halt = tt; kept = rw gives.1.1 (keeps-none old obeys.was_lawful) }
+read-halts old new address returned port.Failed can gives closing obeys passed =
+    let failed = obeys.fails refl in
+    record {
+      halt = tt;
+      kept = record { geometry = obeys.geometry; lawful = obeys.lawful; closing = closing; refused = failed.1.refused; durable = obeys.durable; appended = failed.1.appended; trusted = obeys.trusted };
+    }
 read-halts old new address returned port.Stopped can gives closing obeys passed = record {
   halt = tt;
   kept = record { geometry = obeys.geometry; lawful = obeys.lawful; closing = closing; refused = (obeys.counts refl).refused; durable = obeys.durable; appended = (obeys.counts refl).appended; trusted = obeys.trusted };
@@ -223,3 +235,16 @@ read-keeps old new address items closing obeys shown = record {
   appended = shown.counts.appended ∙ omega arith;
   trusted = obeys.trusted;
 }
+
+-- ---- a device as a source
+
+-- as it is read, its blocks stay damaged once a command failed
+pub device-keeps : {V : Type 0} (old new : DriveState) (result : Result V PortFault) → KeepsZones old new → Obeys old result new → KeepsSource (damaged_once_failed old) (damaged_once_failed new)
+device-keeps old new result kept obeys = record { zones = kept; damaged = λ number offset is. not-lasts old.unfailing new.unfailing obeys.unfailing is }
+
+-- a Read that is told as unreadable failed
+pub failed-says : (drive : DriveState) (number offset : ℕ) (fault : PortFault) (result : Result Reading Halt) (bytes : List ℕ) → (fault ≡ port.Failed → IsFalse drive.unfailing)
+    → IfOk result (λ reading. (reading ≡ Unreadable) × (fault ≡ port.Failed)) → ReadSays (damaged_once_failed drive) number offset result bytes
+failed-says drive number offset fault (Err halt) bytes fails told = tt
+failed-says drive number offset fault (Ok Held) bytes fails told = let no = told.0 in absurd (cc)
+failed-says drive number offset fault (Ok Unreadable) bytes fails told = rw (fails told.1) refl

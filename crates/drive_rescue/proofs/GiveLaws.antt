@@ -20,10 +20,11 @@ use Rattle.drive_rescue.specs.Giving.{AllFit, FindsHeld, FitsSlot, Gave, GiveFai
 use Rattle.drive_rescue.specs.Notes.{slot_at, slot_of}
 use Rattle.drive_rescue.specs.Ranges.{blocks_in}
 use Rattle.drive_rescue.specs.Rescue.{Gives, no_block, shows, loses, IsLost, KeepsSource, SourceView, may_be_older, newness, older_blocks}
-use Rattle.drive_rescue.specs.Searching.{Finding, found_records}
+use Rattle.drive_rescue.specs.Searching.{Finding, Searched, found_records}
 use Rattle.drive_rescue.specs.Zones.{read_zones, zone_with}
 use Rattle.drive_rescue.proofs.FoundLaws.{Stands, searched-stand}
-use Rattle.drive_rescue.proofs.KeepLaws.{count-kept, zones-kept}
+use Rattle.drive_rescue.proofs.DamageLaws.{gave-lasts, searched-lasts}
+use Rattle.drive_rescue.proofs.KeepLaws.{count-kept, keeps-source_both, zones-kept}
 use Rattle.drive_rescue.proofs.RangeLaws.{range-more}
 
 -- ---- one block
@@ -108,13 +109,12 @@ gave-part source kept_search finding old bytes block slot is_lost written conten
 -- ---- sources that are read on
 
 pub kept-kept : (a b : SourceView) (kept_search : Search) (finding : Finding) → KeepsSource a b → IsKept a kept_search finding → IsKept b kept_search finding
-kept-kept a b kept_search finding k kept = record { finds = rw (k.damaged, zones-kept a b k, count-kept a b k) kept.finds; holds = kept.holds }
+kept-kept a b kept_search finding k kept =
+    let more : Searched b.damaged (read_zones a.drive) (length a.drive.zones) finding = searched-lasts a.damaged b.damaged (read_zones a.drive) (length a.drive.zones) finding k.damaged kept.finds in
+    record { finds = rw (zones-kept a b k, count-kept a b k) more; holds = kept.holds }
 
 pub gave-kept : (a b : SourceView) (finding : Finding) (rescued : Rescued) (bytes : List ℕ) → KeepsSource a b → Gave a finding rescued bytes → Gave b finding rescued bytes
-gave-kept a b finding rescued bytes k gave = rw (k.damaged, k.zones.geometry) gave
-
-pub gave-back : (a b : SourceView) (finding : Finding) (rescued : Rescued) (bytes : List ℕ) → KeepsSource a b → Gave b finding rescued bytes → Gave a finding rescued bytes
-gave-back a b finding rescued bytes k gave = rw (← k.damaged, ← k.zones.geometry) gave
+gave-kept a b finding rescued bytes k gave = rw k.zones.geometry (gave-lasts a.damaged b.damaged a.drive.geometry.block finding rescued bytes k.damaged gave)
 
 fit-slot : (source : SourceView) (rs : List Record) (block : ℕ) (o : Option Record) → AllByRecursion (Stands (read_zones source.drive)) rs → IsNewest rs block o → FitsSlot source (option_map slot_of o)
 fit-slot source rs block None stand new = tt
@@ -143,14 +143,14 @@ gives-first source finding rescued contents none no_lost no_older = record {
 }
 
 -- one block more
-pub gives-next : (a b : SourceView) (kept_search : Search) (finding : Finding) (old new : Rescued) (first written contents : Option (List ℕ)) → KeepsSource a b
-    → ((finding : Finding) (bytes : List ℕ) → IsKept b kept_search finding → Gave b finding old bytes → GivesMore b finding new bytes written contents)
-    → IsKept a kept_search finding → GivesAll a finding old first written → GivesAll a finding new first contents
-gives-next a b kept_search finding old new first written contents k step kept all =
-    let more = step finding all.bytes (kept-kept a b kept_search finding k kept) (gave-kept a b finding old all.bytes k all.gave) in
+pub gives-next : (a b c : SourceView) (kept_search : Search) (finding : Finding) (old new : Rescued) (first written contents : Option (List ℕ)) → KeepsSource a b → KeepsSource b c
+    → ((finding : Finding) (bytes : List ℕ) → IsKept c kept_search finding → Gave c finding old bytes → GivesMore c finding new bytes written contents)
+    → IsKept a kept_search finding → GivesAll b finding old first written → GivesAll c finding new first contents
+gives-next a b c kept_search finding old new first written contents k l step kept all =
+    let more = step finding all.bytes (kept-kept a c kept_search finding (keeps-source_both a b c k l) kept) (gave-kept b c finding old all.bytes l all.gave) in
     record {
       bytes = all.bytes ++ more.more;
-      gave = gave-back a b finding new (all.bytes ++ more.more) k more.gave;
+      gave = more.gave;
       appends = Appends-trans first written contents all.bytes more.more all.appends more.appends;
     }
 
@@ -160,25 +160,25 @@ Appends-kept (Some x) None c bs p q = absurd p
 Appends-kept (Some x) (Some y) None bs p q = absurd q
 Appends-kept (Some x) (Some y) (Some z) bs p q = q ∙ p
 
-gives-back : (a b : SourceView) (rs : List Record) (n : ℕ) (bytes lost : List ℕ) → KeepsSource a b → WillGive b rs n bytes lost → WillGive a rs n bytes lost
-gives-back a b rs n bytes lost k gives = rw (← k.damaged, ← k.zones.geometry) gives
-
 -- why only the first blocks are given
-pub gives-no_more : (a b : SourceView) (kept_search : Search) (rescued : Rescued) (first written contents : Option (List ℕ)) (fault : RescueFault) → KeepsSource a b → (held : FindsHeld a kept_search)
-    → StepFails b kept_search rescued written contents fault → GivesAll a held.finding rescued first written → GiveFails a first contents fault
-gives-no_more a b kept_search rescued first written contents faults.Limits k held fails all = absurd fails
-gives-no_more a b kept_search rescued first written contents (faults.Halted halt) k held fails all = inr (
-  rescued.blocks,
-  all.bytes,
-  record { finding = held.finding; finds = held.kept.finds; lost = blocks_in rescued.lost.items; gives = all.gave.gives },
-  Appends-kept first written contents all.bytes all.appends fails,
-)
-gives-no_more a b kept_search rescued first written contents faults.Output k held fails all =
-    let part = fails held.finding all.bytes (kept-kept a b kept_search held.finding k held.kept) (gave-kept a b held.finding rescued all.bytes k all.gave) in
-    let gives = gives-back a b (found_records held.finding.found) (suc rescued.blocks) (all.bytes ++ part.more) part.lost k part.gives in (
+pub gives-no_more : (a b c : SourceView) (kept_search : Search) (rescued : Rescued) (first written contents : Option (List ℕ)) (fault : RescueFault) → KeepsSource a b → KeepsSource b c → (held : FindsHeld a kept_search)
+    → StepFails c kept_search rescued written contents fault → GivesAll b held.finding rescued first written → GiveFails c first contents fault
+gives-no_more a b c kept_search rescued first written contents faults.Limits k l held fails all = absurd fails
+gives-no_more a b c kept_search rescued first written contents (faults.Halted halt) k l held fails all =
+    let kept = kept-kept a c kept_search held.finding (keeps-source_both a b c k l) held.kept in
+    let gave = gave-kept b c held.finding rescued all.bytes l all.gave in
+    inr (
+      rescued.blocks,
+      all.bytes,
+      record { finding = held.finding; finds = kept.finds; lost = blocks_in rescued.lost.items; gives = gave.gives },
+      Appends-kept first written contents all.bytes all.appends fails,
+    )
+gives-no_more a b c kept_search rescued first written contents faults.Output k l held fails all =
+    let kept = kept-kept a c kept_search held.finding (keeps-source_both a b c k l) held.kept in
+    let part = fails held.finding all.bytes kept (gave-kept b c held.finding rescued all.bytes l all.gave) in (
       suc rescued.blocks,
       all.bytes ++ part.more,
-      record { finding = held.finding; finds = held.kept.finds; lost = part.lost; gives = gives },
+      record { finding = held.finding; finds = kept.finds; lost = part.lost; gives = part.gives },
       front_second first written contents all.bytes part.more all.appends part.appends,
     )
 

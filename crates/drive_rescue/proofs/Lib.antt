@@ -1,3 +1,4 @@
+pub mod DamageLaws
 pub mod KeepLaws
 pub mod NoteLaws
 pub mod CutLaws

@@ -13,14 +13,15 @@ use Rattle.drive_rescue.specs.declared.search.Search.{Search}
 use Rattle.drive_rescue.specs.declared.search.SoughtZone.{SoughtZone}
 use Rattle.drive_rescue.specs.declared.search.Trail.TheVariants.{Whole}
 use Rattle.drive_rescue.specs.declared.source.Reading.TheVariants.{Held, Unreadable}
-use Rattle.drive_rescue.specs.Holding.{GetsIn, Holds, HoldsFinding, HoldsZone, IsSmall, IsSought, IsSoughtIn, SaysZero}
+use Rattle.drive_rescue.specs.Holding.{Gets, GetsIn, Holds, HoldsFinding, HoldsZone, IsSmall, IsSought, IsSoughtIn, SaysZero}
 use Rattle.drive_rescue.specs.Rescue.{KeepsSource, ReadSays, SourceView}
-use Rattle.drive_rescue.specs.Searching.{EndsAt, Finding, Found, Place, begins, looks, Searched, SearchesZone, at_first, one_more, after_reading, begun, batch_at, doubt_before, ended, found_records, found_size, nothing_found, with_batch, with_gap}
+use Rattle.drive_rescue.specs.Searching.{Ends, EndsAt, Finding, Found, Place, begins, looks, Searched, SearchesZone, at_first, one_more, after_reading, begun, batch_at, doubt_before, ended, found_records, found_size, nothing_found, with_batch, with_gap}
 use Rattle.drive_rescue.specs.Zones.{ReadZone, TellsAll, TellsZone, block_with, cut, read_zones, zone_with}
 use Rattle.drive_rescue.specs.Notes.{Notes}
 use Rattle.drive_rescue.proofs.CutLaws.{cut-within}
+use Rattle.drive_rescue.proofs.DamageLaws.{ends-lasts, reaches-lasts, searched-lasts}
 use Rattle.drive_rescue.proofs.FoundLaws.{records-more}
-use Rattle.drive_rescue.proofs.KeepLaws.{zones-kept}
+use Rattle.drive_rescue.proofs.KeepLaws.{keeps-source_both, zones-kept}
 
 -- the number of bytes that a block has
 pub block-room : (source : SourceView) (number offset n : ℕ) (bytes : List ℕ) → IsInRange source.drive.geometry → ReadSays source number offset (Ok Held) bytes → n ≡ length bytes → (32 ≤ n) × (n < 2 ^ 32)
@@ -55,10 +56,10 @@ gets-gap source sought finding end offset old new bytes at is lt says step gets 
 -- ---- one zone
 
 gets-kept : (a b : SourceView) (number end : ℕ) (finding : Finding) (search : Search) → KeepsSource a b → GetsIn a number end finding search → GetsIn b number end finding search
-gets-kept a b number end finding search k gets = rw (k.damaged, zones-kept a b k) gets
-
-gets-back : (a b : SourceView) (number end : ℕ) (finding : Finding) (search : Search) → KeepsSource a b → GetsIn b number end finding search → GetsIn a number end finding search
-gets-back a b number end finding search k gets = rw (← k.damaged, ← zones-kept a b k) gets
+gets-kept a b number end finding search k gets =
+    let zone = cut (zone_with (read_zones a.drive) number) end in
+    let more : Gets b.damaged zone number finding search = record { place = gets.place; reaches = reaches-lasts a.damaged b.damaged zone number finding gets.place k.damaged gets.reaches; holds = gets.holds } in
+    rw (zones-kept a b k) more
 
 cut-kept : (a b : SourceView) (sought : SoughtZone) (end : ℕ) → KeepsSource a b → IsSought sought (cut (zone_with (read_zones a.drive) sought.number) end) → IsSought sought (cut (zone_with (read_zones b.drive) sought.number) end)
 cut-kept a b sought end k is = rw (zones-kept a b k) is
@@ -74,19 +75,22 @@ pub gets-first : (source : SourceView) (number end : ℕ) (finding : Finding) (s
 gets-first source number end finding search holds = record { place = begun (cut (zone_with (read_zones source.drive) number) end) finding; reaches = begins; holds = holds }
 
 -- the search of a zone goes on
-pub gets-next : (a b : SourceView) (sought : SoughtZone) (end : ℕ) (finding : Finding) (old new : Search) → KeepsSource a b → IsSought sought (cut (zone_with (read_zones a.drive) sought.number) end)
-    → ((finding : Finding) (end : ℕ) → IsSought sought (cut (zone_with (read_zones b.drive) sought.number) end) → GetsIn b sought.number end finding old → GetsIn b sought.number end finding new)
-    → GetsIn a sought.number end finding old → GetsIn a sought.number end finding new
-gets-next a b sought end finding old new k is step gets = gets-back a b sought.number end finding new k (step finding end (cut-kept a b sought end k is) (gets-kept a b sought.number end finding old k gets))
+pub gets-next : (a b c : SourceView) (sought : SoughtZone) (end : ℕ) (finding : Finding) (old new : Search) → KeepsSource a b → KeepsSource b c → IsSought sought (cut (zone_with (read_zones a.drive) sought.number) end)
+    → ((finding : Finding) (end : ℕ) → IsSought sought (cut (zone_with (read_zones c.drive) sought.number) end) → GetsIn c sought.number end finding old → GetsIn c sought.number end finding new)
+    → GetsIn b sought.number end finding old → GetsIn c sought.number end finding new
+gets-next a b c sought end finding old new k l is step gets = step finding end (cut-kept a c sought end (keeps-source_both a b c k l) is) (gets-kept b c sought.number end finding old l gets)
 
 -- a zone is searched
-pub gets-all : (source : SourceView) (sought : SoughtZone) (finding : Finding) (old new : Search) → (is : IsSoughtIn source sought) → sought.blocks ≤ old.offset
-    → ((place : Place) → Holds old place → HoldsFinding new (ended place)) → GetsIn source sought.number is.end finding old → HoldsZone source sought.number finding new
-gets-all source sought finding old new is far step gets = record {
-  after = ended gets.place;
-  searches = record { end = is.end; ends = is.ends; place = gets.place; reaches = gets.reaches; far = omega (arith, far, is.is.blocks, gets.holds.offset); after_is = refl };
-  holds = step gets.place gets.holds;
-}
+pub gets-all : (a b : SourceView) (sought : SoughtZone) (finding : Finding) (old new : Search) → KeepsSource a b → (is : IsSoughtIn a sought) → sought.blocks ≤ old.offset
+    → ((place : Place) → Holds old place → HoldsFinding new (ended place)) → GetsIn b sought.number is.end finding old → HoldsZone b sought.number finding new
+gets-all a b sought finding old new k is far step gets =
+    let there : IsSought sought (cut (zone_with (read_zones b.drive) sought.number) is.end) = cut-kept a b sought is.end k is.is in
+    let ends : Ends b.damaged (zone_with (read_zones a.drive) sought.number) sought.number is.end = ends-lasts a.damaged b.damaged (zone_with (read_zones a.drive) sought.number) sought.number is.end k.damaged is.ends in
+    record {
+      after = ended gets.place;
+      searches = record { end = is.end; ends = rw (zones-kept a b k) ends; place = gets.place; reaches = gets.reaches; far = omega (arith, far, there.blocks, gets.holds.offset); after_is = refl };
+      holds = step gets.place gets.holds;
+    }
 
 -- ---- all zones
 
@@ -99,13 +103,13 @@ pub record SearchedTo (source : SourceView) (n : ℕ) (search : Search) : Type 0
 pub searched-none : (source : SourceView) (search : Search) → HoldsFinding search nothing_found → SearchedTo source 0 search
 searched-none source search holds = record { finding = nothing_found; searched = at_first; holds = holds }
 
-searches-back : (a b : SourceView) (n number : ℕ) (before after : Finding) → KeepsSource a b → number ≡ n → SearchesZone b.damaged (zone_with (read_zones b.drive) number) number before after → SearchesZone a.damaged (zone_with (read_zones a.drive) n) n before after
-searches-back a b n number before after k is searches = rw (← k.damaged, ← zones-kept a b k, ← is) searches
-
-pub searched-more : (a b : SourceView) (n n' number : ℕ) (old new : Search) → KeepsSource a b → n' ≡ suc n → number ≡ n → ((finding : Finding) → HoldsFinding old finding → HoldsZone b number finding new) → SearchedTo a n old → SearchedTo a n' new
+-- one zone more
+pub searched-more : (a b : SourceView) (n n' number : ℕ) (old new : Search) → KeepsSource a b → n' ≡ suc n → number ≡ n → ((finding : Finding) → HoldsFinding old finding → HoldsZone b number finding new) → SearchedTo a n old → SearchedTo b n' new
 searched-more a b n n' number old new k next is step done =
     let more = step done.finding done.holds in
-    rw next (record { finding = more.after; searched = one_more done.searched (searches-back a b n number done.finding more.after k is more.searches); holds = more.holds })
+    let before : Searched b.damaged (read_zones b.drive) n done.finding = rw (zones-kept a b k) (searched-lasts a.damaged b.damaged (read_zones a.drive) n done.finding k.damaged done.searched) in
+    let here : SearchesZone b.damaged (zone_with (read_zones b.drive) n) n done.finding more.after = rw (← is) more.searches in
+    rw next (record { finding = more.after; searched = one_more before here; holds = more.holds })
 
 pub told-kept : (a b : SourceView) (reported : List ReportedZone) (number : ℕ) (r : ReportedZone) → KeepsSource a b → TellsAll a.drive.geometry.capacity (read_zones a.drive) reported → slice_get reported number ≡ Some r
     → (n : ℕ) → n ≡ a.drive.geometry.capacity → TellsZone n (zone_with (read_zones b.drive) number) r
@@ -150,17 +154,15 @@ takes-batch old new zone number place heading offset trail floor doubt size smal
 abbrev pub ZerosFrom : SourceView → ℕ → ℕ → Type 0
 ZerosFrom source number end = (offset : ℕ) → end ≤ offset → offset < length (zone_with (read_zones source.drive) number).blocks → is_zero (block_with (read_zones source.drive) number offset) ≡ true
 
-says-back : (a b : SourceView) (number offset : ℕ) (told : Bool) → KeepsSource a b → SaysZero b number offset told → SaysZero a number offset told
-says-back a b number offset true k says = rw (← zones-kept a b k) says
-says-back a b number offset false k (inl damaged) = inl (rw (← k.damaged) damaged)
-says-back a b number offset false k (inr other) = inr (rw (← zones-kept a b k) other)
+says-back : (a b : SourceView) (number offset : ℕ) → KeepsSource a b → SaysZero b number offset true → SaysZero a number offset true
+says-back a b number offset k says = rw (← zones-kept a b k) says
 
 -- one zero block more
 pub zeros-more : (a b : SourceView) (number before end : ℕ) (told : Bool) → KeepsSource a b → end ≡ suc before → told ≡ true → SaysZero b number before told → ZerosFrom a number end → ZerosFrom a number before
 zeros-more a b number before end told k next is says zeros offset le lt = at (same-or-above before offset le)
   where
     here : is_zero (block_with (read_zones a.drive) number before) ≡ true
-    here = says-back a b number before true k (rw is at says)
+    here = says-back a b number before k (rw is at says)
 
     same-or-above : (x y : ℕ) → x ≤ y → (y ≡ x) ⊎ (suc x ≤ y)
     same-or-above zero zero le' = inl refl
@@ -174,12 +176,18 @@ zeros-more a b number before end told k next is says zeros offset le lt = at (sa
 
 -- the zone ends here
 pub ends-here : (a b : SourceView) (number before end : ℕ) (told : Bool) → KeepsSource a b → end ≡ suc before → told ≡ false → SaysZero b number before told → end ≤ length (zone_with (read_zones a.drive) number).blocks
-    → ZerosFrom a number end → EndsAt a.damaged (zone_with (read_zones a.drive) number) number end
-ends-here a b number before end told k next is says within zeros = record { within = within; zeros = zeros; last = last }
+    → ZerosFrom a number end → EndsAt b.damaged (zone_with (read_zones b.drive) number) number end
+ends-here a b number before end told k next is says within zeros = rw (zones-kept a b k) ends
   where
-    last : (offset : ℕ) → end ≡ suc offset → (a.damaged number offset ≡ true) ⊎ (is_zero (block_with (read_zones a.drive) number offset) ≡ false)
-    last offset e = let same : offset ≡ before = omega (arith, e, next) in rw same (says-back a b number before false k (rw is at says))
+    last : (offset : ℕ) → end ≡ suc offset → (b.damaged number offset ≡ true) ⊎ (is_zero (block_with (read_zones b.drive) number offset) ≡ false)
+    last offset e = let same : offset ≡ before = omega (arith, e, next) in rw same (rw is at says)
+
+    ends : EndsAt b.damaged (zone_with (read_zones a.drive) number) number end
+    ends = record { within = within; zeros = zeros; last = rw (zones-kept a b k) at last }
 
 -- or it has only zeros
-pub ends-at_first : (a : SourceView) (number : ℕ) → ZerosFrom a number 0 → EndsAt a.damaged (zone_with (read_zones a.drive) number) number 0
-ends-at_first a number zeros = record { within = omega arith; zeros = zeros; last = λ offset e. absurd (omega (arith, e)) }
+pub ends-at_first : (a b : SourceView) (number : ℕ) → KeepsSource a b → ZerosFrom a number 0 → EndsAt b.damaged (zone_with (read_zones b.drive) number) number 0
+ends-at_first a b number k zeros = rw (zones-kept a b k) ends
+  where
+    ends : EndsAt b.damaged (zone_with (read_zones a.drive) number) number 0
+    ends = record { within = omega arith; zeros = zeros; last = λ offset e. absurd (omega (arith, e)) }

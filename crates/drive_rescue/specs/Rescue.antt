@@ -16,7 +16,7 @@ use Rattle.drive_rescue.specs.declared.source.Reading.{Reading}
 use Rattle.drive_rescue.specs.declared.source.Reading.TheVariants.{Held, Unreadable}
 use Rattle.drive_rescue.specs.Ranges.{blocks_in}
 use Rattle.drive_rescue.specs.Searching.{Finding, Searched, found_records, found_size}
-use Rattle.drive_rescue.specs.Zones.{Damage, block_with, read_zones}
+use Rattle.drive_rescue.specs.Zones.{Damage, Lasts, block_with, read_zones}
 
 -- ---- what is read
 
@@ -25,13 +25,14 @@ pub record SourceView : Type 0 where
   pub drive : DriveState
   pub damaged : Damage
 
--- Nothing is changed: the controller may have closed zones, and the same blocks are damaged.
+-- What Reads keep of a source: the controller may have closed zones, and a damaged block stays one. Nothing else is
+-- changed.
 pub record KeepsSource (old new : SourceView) : Type 0 where
   pub zones : KeepsZones old.drive new.drive
-  pub damaged : new.damaged ≡ old.damaged
+  pub damaged : Lasts old.damaged new.damaged
 
--- What a Read of one block answers: the block is there, in its full length; or it is told as unreadable, which only
--- damaged blocks are; or the source halts.
+-- What a Read of one block answered, by the source after it: the block is there, in its full length; or it is told as
+-- unreadable, which only damaged blocks are; or the source halted.
 abbrev pub ReadSays : SourceView → ℕ → ℕ → Result Reading Halt → List ℕ → Type 0
 ReadSays source number offset (Ok Held) bytes =
     (bytes ≡ block_with (read_zones source.drive) number offset) × (length bytes ≡ source.drive.geometry.block)

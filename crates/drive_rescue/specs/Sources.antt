@@ -1,5 +1,5 @@
 -- The drives that a source shows.
-use Rattle.std.specs.Prelude.{ℕ, ◌==◌, ◌&&◌, ◌||◌, Bool, true, false, List}
+use Rattle.std.specs.Prelude.{ℕ, ◌==◌, ◌&&◌, ◌||◌, not, Bool, true, false, List}
 use Rattle.std.specs.List.{list_any}
 use Rattle.drive_port.specs.Drive.{DriveState}
 use Rattle.drive_rescue.specs.declared.with_damage.DamagedBlock.{DamagedBlock}
@@ -8,6 +8,10 @@ use Rattle.drive_rescue.specs.Rescue.{SourceView}
 -- each block of it can be read
 abbrev pub undamaged : DriveState → SourceView
 undamaged drive = record { drive = drive; damaged = λ (number offset : ℕ). false }
+
+-- each block of it can be read, as long as no command of it failed
+abbrev pub damaged_once_failed : DriveState → SourceView
+damaged_once_failed drive = record { drive = drive; damaged = λ (number offset : ℕ). not drive.unfailing }
 
 -- any block of it may be unreadable
 abbrev pub damaged_anywhere : DriveState → SourceView

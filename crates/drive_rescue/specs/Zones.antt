@@ -88,3 +88,7 @@ Damage = ℕ → ℕ → Bool
 
 abbrev pub IsUndamaged : Damage → Type 0
 IsUndamaged damaged = (number offset : ℕ) → damaged number offset ≡ false
+
+-- a block of which a Read might fail is still such a block
+abbrev pub Lasts : Damage → Damage → Type 0
+Lasts old new = (number offset : ℕ) → old number offset ≡ true → new number offset ≡ true

@@ -1,6 +1,6 @@
 ghost use Rattle.std.specs.Prelude.{◌≡◌, IfOk};
 ghost use Rattle.drive_port.specs.Drive.{IsLawful};
-ghost use Rattle.drive_rescue.specs.Sources.{undamaged};
+ghost use Rattle.drive_rescue.specs.Sources.{damaged_once_failed};
 ghost use Rattle.drive_rescue.specs.Zones.{TellsAll, read_zones};
 ghost use Rattle.drive_survey.specs.Reported.{KeepsZones};
 ghost use Rattle.zone_choice.specs.Changes.{IsHalt};
@@ -12,7 +12,7 @@ use drive_survey::{MountFault, ReportedZone, report_zones};
 use std::alloc::Global;
 use zone_states::Geometry;
 
-/// A device as a source, none of whose blocks is unreadable.
+/// A device as a source. A block is unreadable if the device fails at a Read of it.
 #[derive(Drop)]
 pub struct DeviceSource<D: Device + Drop> {
     device: D,
@@ -21,7 +21,7 @@ pub struct DeviceSource<D: Device + Drop> {
 impl<D: Device + Honest + Drop> DeviceSource<D> {
     /// The device is only read.
     pub fn new(device: D) -> Self
-        ensures { ⟦<DeviceSource<D> as Source>⟧.view result ≡ undamaged (D.drive device) }
+        ensures { ⟦<DeviceSource<D> as Source>⟧.view result ≡ damaged_once_failed (D.drive device) }
     {
         DeviceSource { device }
     }
@@ -34,13 +34,15 @@ impl<D: Device + Honest + Drop> DeviceSource<D> {
     }
 }
 
-/// What a fault of a Read is. No drive refuses one.
-fn halt_of(fault: PortFault) -> Halt
+/// What a Read told that was not done. No drive refuses one.
+fn reading_of(fault: PortFault) -> Result<Reading, Halt>
     requires { IsHalt fault }
+    ensures { IfOk result (λ reading. (reading ≡ Reading.Unreadable) × (fault ≡ PortFault.Failed)) }
 {
     match fault {
-        PortFault::Memory => Halt::Memory,
-        PortFault::Stopped => Halt::Stopped,
+        PortFault::Failed => Ok(Reading::Unreadable),
+        PortFault::Memory => Err(Halt::Memory),
+        PortFault::Stopped => Err(Halt::Stopped),
         PortFault::Refused(_) => unreachable!(),
     }
 }
@@ -56,12 +58,13 @@ pub(crate) fn report_of<D: Device>(alloc: Global, device: &mut D) -> Result<Vec<
     match report_zones(alloc, device) {
         Ok(zones) => Ok(zones),
         Err(MountFault::OutOfMemory) => Err(Halt::Memory),
+        Err(MountFault::Failed) => Err(Halt::Failed),
         Err(_) => Err(Halt::Stopped),
     }
 }
 
 impl<D: Device + Honest + Drop> Source for DeviceSource<D> {
-    ghost view = { λ s. undamaged (D.drive s.device) };
+    ghost view = { λ s. damaged_once_failed (D.drive s.device) };
 
     fn geometry(&self) -> Geometry {
         self.device.geometry()
@@ -78,7 +81,7 @@ impl<D: Device + Honest + Drop> Source for DeviceSource<D> {
                 self.device.vouch();
                 Ok(Reading::Held)
             }
-            Err(fault) => Err(halt_of(fault)),
+            Err(fault) => reading_of(fault),
         }
     }
 }

@@ -8,7 +8,7 @@ pub enum RescueFault {
     /// The geometry is out of range, or the given number of blocks is above 2^31. Nothing was read.
     #[error("the geometry of the drive or the number of blocks is out of range")]
     Limits,
-    /// The source halted, or memory ran out. The first blocks may be written.
+    /// The source stopped or failed at a report, or memory ran out. The first blocks may be written.
     #[error("{0}")]
     Halted(Halt),
     /// The writer failed. A beginning of the first blocks is written.

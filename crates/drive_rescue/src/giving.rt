@@ -44,7 +44,7 @@ fn read_shown<S: Source>(
 ) -> Result<bool, Halt>
     requires range { IsInRange (S.view source.old).drive.geometry }
     requires there { FitsSlot (S.view source.old) slot }
-    ensures gives { IfOk result (λ is_lost. GivesBlock (S.view source.old) slot is_lost into.new.items) }
+    ensures gives { IfOk result (λ is_lost. GivesBlock (S.view source.new) slot is_lost into.new.items) }
     ensures kept { KeepsSource (S.view source.old) (S.view source.new) }
 {
     let block = source.geometry().block;
@@ -107,11 +107,11 @@ fn give_next<S: Source, W: Write>(
     requires range { IsInRange (S.view source.old).drive.geometry }
     requires fits { AllFit (S.view source.old) search.now.table.items }
     requires few { rescued.old.blocks < 2 ^ 31 }
-    ensures ok { OnOk result ((finding : Finding) (bytes : List ℕ) → IsKept (S.view source.old) search.now finding
-        → Gave (S.view source.old) finding rescued.old bytes
-        → GivesMore (S.view source.old) finding rescued.new bytes (W.contents writer.old) (W.contents writer.new)) }
+    ensures ok { OnOk result ((finding : Finding) (bytes : List ℕ) → IsKept (S.view source.new) search.now finding
+        → Gave (S.view source.new) finding rescued.old bytes
+        → GivesMore (S.view source.new) finding rescued.new bytes (W.contents writer.old) (W.contents writer.new)) }
     ensures blocks { OnOk result (rescued.new.blocks ≡ rescued.old.blocks + 1) }
-    ensures err { IfErr result (StepFails (S.view source.old) search.now rescued.old (W.contents writer.old)
+    ensures err { IfErr result (StepFails (S.view source.new) search.now rescued.old (W.contents writer.old)
         (W.contents writer.new)) }
     ensures kept { KeepsSource (S.view source.old) (S.view source.new) }
 {
@@ -138,8 +138,8 @@ pub(crate) fn give_blocks<S: Source, W: Write>(
     requires few { size ≤ 2 ^ 31 }
     ensures size { IfOk result (λ rescued. rescued.blocks ≡ size) }
     ensures ok { IfOk result (λ rescued. (finding : Finding) → IsKept (S.view source.old) search.now finding
-        → GivesAll (S.view source.old) finding rescued (W.contents writer.old) (W.contents writer.new)) }
-    ensures err { IfErr result (GiveFails (S.view source.old) (W.contents writer.old) (W.contents writer.new)) }
+        → GivesAll (S.view source.new) finding rescued (W.contents writer.old) (W.contents writer.new)) }
+    ensures err { IfErr result (GiveFails (S.view source.new) (W.contents writer.old) (W.contents writer.new)) }
     ensures kept { KeepsSource (S.view source.old) (S.view source.new) }
 {
     let mut block = Vec::new(alloc);

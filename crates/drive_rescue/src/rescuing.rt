@@ -4,6 +4,7 @@ ghost use Rattle.drive_rescue.specs.Findings.{FindFails, IsFound};
 ghost use Rattle.drive_rescue.specs.Giving.{GiveFails};
 ghost use Rattle.drive_rescue.specs.Holding.{IsSmall};
 ghost use Rattle.drive_rescue.specs.Rescue.{KeepsSource, RescueFails, Rescues};
+ghost use Rattle.drive_survey.specs.Reported.{KeepsZones};
 
 use crate::fault::RescueFault;
 use crate::giving::{Rescued, give_blocks};
@@ -48,8 +49,8 @@ impl Findings {
 /// only read.
 pub fn find<S: Source>(alloc: Global, source: &mut S, given: u32) -> Result<Findings, RescueFault>
     ensures ok { IfOk result (IsFound (S.view source.new) given) }
-    ensures err { IfErr result (FindFails (S.view source.old) given) }
-    ensures kept { KeepsSource (S.view source.old) (S.view source.new) }
+    ensures err { IfErr result (FindFails (S.view source.new) given) }
+    ensures kept { KeepsZones (S.view source.old).drive (S.view source.new).drive }
 {
     let geometry = source.geometry();
     let Ok(()) = geometry.check() else {
@@ -74,8 +75,8 @@ pub fn give<S: Source, W: Write>(
 ) -> Result<Rescued, RescueFault>
     requires found { (given : ℕ) × IsFound (S.view source.old) given findings.now }
     ensures ok { IfOk result (λ rescued. (given : ℕ) → IsFound (S.view source.old) given findings.now
-        → Rescues (S.view source.old) given (W.contents writer.old) (W.contents writer.new) rescued) }
-    ensures err { IfErr result (GiveFails (S.view source.old) (W.contents writer.old) (W.contents writer.new)) }
+        → Rescues (S.view source.new) given (W.contents writer.old) (W.contents writer.new) rescued) }
+    ensures err { IfErr result (GiveFails (S.view source.new) (W.contents writer.old) (W.contents writer.new)) }
     ensures kept { KeepsSource (S.view source.old) (S.view source.new) }
 {
     give_blocks(alloc, source, &findings.search, findings.blocks, writer)
@@ -89,10 +90,10 @@ pub fn rescue<S: Source, W: Write>(
     writer: &mut W,
 ) -> Result<Rescued, RescueFault>
     ensures ok { IfOk result
-        (Rescues (S.view source.old) given (W.contents writer.old) (W.contents writer.new)) }
+        (Rescues (S.view source.new) given (W.contents writer.old) (W.contents writer.new)) }
     ensures err { IfErr result
-        (RescueFails (S.view source.old) given (W.contents writer.old) (W.contents writer.new)) }
-    ensures kept { KeepsSource (S.view source.old) (S.view source.new) }
+        (RescueFails (S.view source.new) given (W.contents writer.old) (W.contents writer.new)) }
+    ensures kept { KeepsZones (S.view source.old).drive (S.view source.new).drive }
 {
     let findings = find(alloc, source, given)?;
     give(alloc, source, &findings, writer)

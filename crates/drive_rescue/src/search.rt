@@ -356,9 +356,9 @@ fn look<S: Source>(
     requires zone { IsSoughtIn (S.view source.old) zone }
     requires in_range { search.old.offset < zone.blocks }
     ensures ok { OnOk result ((finding : Finding) (end : ℕ)
-        → IsSought zone (cut (zone_with (read_zones (S.view source.old).drive) zone.number) end)
-        → GetsIn (S.view source.old) zone.number end finding search.old
-        → GetsIn (S.view source.old) zone.number end finding search.new) }
+        → IsSought zone (cut (zone_with (read_zones (S.view source.new).drive) zone.number) end)
+        → GetsIn (S.view source.new) zone.number end finding search.old
+        → GetsIn (S.view source.new) zone.number end finding search.new) }
     ensures onward { OnOk result (search.old.offset < search.new.offset) }
     ensures kept { KeepsSource (S.view source.old) (S.view source.new) }
 {
@@ -378,7 +378,7 @@ fn reads_zeros<S: Source>(
 ) -> Result<bool, Halt>
     requires range { IsInRange (S.view source.old).drive.geometry }
     requires there { offset < length (zone_with (read_zones (S.view source.old).drive) number).blocks }
-    ensures ok { IfOk result (SaysZero (S.view source.old) number offset) }
+    ensures ok { IfOk result (SaysZero (S.view source.new) number offset) }
     ensures kept { KeepsSource (S.view source.old) (S.view source.new) }
 {
     match read_again(source, number, offset, block)? {
@@ -396,8 +396,8 @@ fn written_end<S: Source>(
     requires range { IsInRange (S.view source.old).drive.geometry }
     requires lawful { IsLawful (S.view source.old).drive }
     requires zone { IsSought zone (zone_with (read_zones (S.view source.old).drive) zone.number) }
-    ensures ok { IfOk result (EndsAt (S.view source.old).damaged
-        (zone_with (read_zones (S.view source.old).drive) zone.number) zone.number) }
+    ensures ok { IfOk result (EndsAt (S.view source.new).damaged
+        (zone_with (read_zones (S.view source.new).drive) zone.number) zone.number) }
     ensures kept { KeepsSource (S.view source.old) (S.view source.new) }
 {
     let mut end = zone.blocks;
@@ -415,7 +415,7 @@ fn cut<S: Source>(source: &mut S, zone: SoughtZone, block: &mut Vec<u8>) -> Resu
     requires range { IsInRange (S.view source.old).drive.geometry }
     requires lawful { IsLawful (S.view source.old).drive }
     requires zone { IsSought zone (zone_with (read_zones (S.view source.old).drive) zone.number) }
-    ensures ok { IfOk result (IsSoughtIn (S.view source.old)) }
+    ensures ok { IfOk result (IsSoughtIn (S.view source.new)) }
     ensures number { IfOk result (λ sought. sought.number ≡ zone.number) }
     ensures kept { KeepsSource (S.view source.old) (S.view source.new) }
 {
@@ -443,7 +443,7 @@ fn search_zone<S: Source>(
     requires lawful { IsLawful (S.view source.old).drive }
     requires zone { IsSoughtIn (S.view source.old) zone }
     ensures ok { OnOk result ((finding : Finding) → HoldsFinding search.old finding
-        → HoldsZone (S.view source.old) zone.number finding search.new) }
+        → HoldsZone (S.view source.new) zone.number finding search.new) }
     ensures kept { KeepsSource (S.view source.old) (S.view source.new) }
 {
     search.begin(zone);
@@ -463,8 +463,8 @@ pub(crate) fn search_zones<S: Source>(
     requires range { IsInRange (S.view source.old).drive.geometry }
     requires zones { TellsAll (S.view source.old).drive.geometry.capacity (read_zones (S.view source.old).drive)
         zones.now }
-    ensures ok { IfOk result (λ search. (finding : Finding) × Searched (S.view source.old).damaged
-        (read_zones (S.view source.old).drive) (length zones.now) finding × HoldsFinding search finding) }
+    ensures ok { IfOk result (λ search. (finding : Finding) × Searched (S.view source.new).damaged
+        (read_zones (S.view source.new).drive) (length zones.now) finding × HoldsFinding search finding) }
     ensures kept { KeepsSource (S.view source.old) (S.view source.new) }
 {
     let capacity = source.geometry().capacity;

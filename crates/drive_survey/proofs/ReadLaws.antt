@@ -116,8 +116,15 @@ pub read-halts : (old new : DriveState) (zone offset address : ℕ) (reported : 
     → ReadGives {V = Unit {0}} old address 1 (Err fault) returned new → IsClosing old.zones new.zones → Obeys {V = Unit {0}} old (Err fault) new → (CanRead old address 1 → IsNotRefused {V = Unit {0}} (Err fault)) → Halts old new fault
 read-halts old new zone offset address reported returned (port.Refused status) known lt is gives closing obeys passed = absurd (passed (known-read old zone offset address reported known lt is).can)
 read-halts old new zone offset address reported returned port.Memory known lt is gives closing obeys passed = record { halt = tt; kept = rw gives.1.1 (keeps-none old known.lawful); cause = inl refl }
+read-halts old new zone offset address reported returned port.Failed known lt is gives closing obeys passed =
+    let failed = obeys.fails refl in
+    record {
+      halt = tt;
+      kept = record { geometry = obeys.geometry; lawful = obeys.lawful; closing = closing; trusted = obeys.trusted; refused = failed.1.refused; durable = obeys.durable; appended = failed.1.appended };
+      cause = inr (inl (inr (refl, failed.0)));
+    }
 read-halts old new zone offset address reported returned port.Stopped known lt is gives closing obeys passed = record {
   halt = tt;
   kept = record { geometry = obeys.geometry; lawful = obeys.lawful; closing = closing; trusted = obeys.trusted; refused = (obeys.counts refl).refused; durable = obeys.durable; appended = (obeys.counts refl).appended };
-  cause = inr (inl (refl, obeys.stops refl));
+  cause = inr (inl (inl (refl, obeys.stops refl)));
 }

@@ -1,6 +1,6 @@
 -- What a mount reads of a drive, zone by zone and batch by batch, and the first fault that it meets.
 use Rattle.std.specs.Prelude.{◌≡◌, ◌⊎◌, ℕ, ◌+◌, ◌<◌, ◌≤◌, ◌^◌, nat_le, if◌then◌else◌, true, List, [], ◌∷◌, length, map, take}
-use Rattle.std.specs.Prelude.{drop, slice_get, slice_index_or, Bool, false, Option, Some, None, Result, Ok, Err}
+use Rattle.std.specs.Prelude.{drop, slice_get, slice_index_or, Bool, false, IsFalse, Option, Some, None, Result, Ok, Err}
 use Rattle.std.specs.List.{AllByRecursion, list_any}
 use Rattle.std.specs.Ordering.{nat_cmp}
 use Rattle.std.specs.BTreeSet.{insert_key}
@@ -15,7 +15,7 @@ use Rattle.batch_log.specs.Ending.{Ending, ended, torn, failed, ending_of}
 use Rattle.batch_log.specs.Log.{Batch, BeginsWith, BeginsWithNoBatch, data_count, log_size}
 use Rattle.drive_array.specs.ZoneLogs.{HasLog, has_torn_tail, readable, zone_log, zone_logs, zone_tails}
 use Rattle.drive_survey.specs.declared.fault.MountFault.{MountFault}
-use Rattle.drive_survey.specs.declared.fault.MountFault.TheVariants.{Log, SequenceRepeated, Spent, Halted, OutOfMemory}
+use Rattle.drive_survey.specs.declared.fault.MountFault.TheVariants.{Log, SequenceRepeated, Spent, Halted, OutOfMemory, Failed}
 use Rattle.batch_log.specs.declared.fault.LogFault.TheVariants.{Torn}
 use Rattle.drive_survey.specs.declared.reported.ReportedZone.{ReportedZone}
 use Rattle.drive_survey.specs.declared.scan.ScannedZone.{ScannedZone}
@@ -79,17 +79,22 @@ pub record FailsFirst (geometry : Geometry) (zones : List Content) (fault : Moun
   pub none : HaveNoFault [] (zone_logs geometry (take zone zones))
   pub fails : FailsIn geometry (content_at zones zone) zone (seen_after [] (zone_logs geometry (take zone zones))) fault
 
--- A fault of a scan: out of memory; or halted, and the drive has stopped; or the first fault that is met.
-abbrev pub FailsBy : (MountFault → Type 0) → DriveState → MountFault → Type 0
-FailsBy First drive fault = (fault ≡ OutOfMemory) ⊎ ((fault ≡ Halted) × (drive.stopped ≡ true)) ⊎ First fault
+-- the drive has stopped, or it failed at a command
+abbrev pub IsHalted : DriveState → MountFault → Type 0
+IsHalted drive fault = ((fault ≡ Halted) × (drive.stopped ≡ true)) ⊎ ((fault ≡ Failed) × IsFalse drive.unfailing)
 
--- A fault that tells nothing of what the drive holds: out of memory; or halted, and the drive has stopped.
+-- A fault of a scan: out of memory; or the drive halted; or the first fault that is met.
+abbrev pub FailsBy : (MountFault → Type 0) → DriveState → MountFault → Type 0
+FailsBy First drive fault = (fault ≡ OutOfMemory) ⊎ IsHalted drive fault ⊎ First fault
+
+-- A fault that tells nothing of what the drive holds: out of memory; or the drive halted.
 abbrev pub IsInterruption : DriveState → MountFault → Type 0
 IsInterruption drive fault = FailsBy (λ _. ⊥) drive fault
 
 -- what a halt of the drive is to a mount
 abbrev pub mount_fault : PortFault → MountFault
 mount_fault port.Memory = OutOfMemory
+mount_fault port.Failed = Failed
 mount_fault fault = Halted
 
 -- ---- the blocks of a zone

@@ -13,7 +13,7 @@ use Rattle.drive_array.specs.Sizes.{encoded_size, larger}
 use Rattle.drive_array.specs.ZoneLogs.{HasLog, zone_logs}
 use Rattle.drive_survey.specs.declared.fault.MountFault.{MountFault}
 use Rattle.drive_survey.specs.declared.fault.MountFault.TheVariants.{Reserve, Limits, ZoneUnusable, BlockOutOfRange, TooManyPartial}
-use Rattle.drive_survey.specs.declared.fault.MountFault.TheVariants.{NoSpare, Halted, OutOfMemory, TornZone, Damaged}
+use Rattle.drive_survey.specs.declared.fault.MountFault.TheVariants.{NoSpare, Halted, OutOfMemory, TornZone, Damaged, Failed}
 use Rattle.drive_survey.specs.declared.reported.ReportedZone.{ReportedZone}
 use Rattle.drive_survey.specs.declared.scan.ScannedZone.{ScannedZone}
 use Rattle.drive_survey.specs.declared.survey.Survey.{Survey}
@@ -72,6 +72,7 @@ SurveyFails drive n (TornZone zone) = ⊥
 SurveyFails drive n Halted = ⊥
 SurveyFails drive n OutOfMemory = ⊥
 SurveyFails drive n Damaged = ⊥
+SurveyFails drive n Failed = ⊥
 SurveyFails drive n fault = CanScan drive n × FailsFirst drive.geometry (contents drive.zones) fault
 
 -- a zone that was not open is not reported open

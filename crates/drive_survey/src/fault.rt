@@ -2,7 +2,7 @@ use batch_log::LogFault;
 use std::alloc::AllocError;
 use thiserror::Error;
 
-/// Why a drive is not mounted. Each but `Halted`, `OutOfMemory` and `Damaged` comes exactly where it is the first fault that
+/// Why a drive is not mounted. Each but `Halted`, `OutOfMemory`, `Failed` and `Damaged` comes exactly where it is the first fault that
 /// a mount meets.
 #[derive(Clone, Copy, Debug, PartialEq, Eq, Error)]
 pub enum MountFault {
@@ -39,6 +39,9 @@ pub enum MountFault {
     /// An allocation failed.
     #[error("out of memory")]
     OutOfMemory,
+    /// The drive failed at a command, which had no effect.
+    #[error("the drive failed at a command")]
+    Failed,
     /// What the device returned does not fit together. Never of a device that returns what it holds.
     #[error("what the drive returned does not fit together")]
     Damaged,

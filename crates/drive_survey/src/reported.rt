@@ -32,6 +32,7 @@ pub fn fault_of(fault: PortFault) -> MountFault
 {
     match fault {
         PortFault::Memory => MountFault::OutOfMemory,
+        PortFault::Failed => MountFault::Failed,
         PortFault::Stopped => MountFault::Halted,
         PortFault::Refused(_) => unreachable!(),
     }

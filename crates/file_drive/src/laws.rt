@@ -22,7 +22,9 @@ fn fault_of(halt: Halt) -> OpenFault
 {
     match halt {
         Halt::Memory => OpenFault::OutOfMemory,
-        Halt::Stopped => OpenFault::Input(io::Error::other("the file cannot be read")),
+        Halt::Failed | Halt::Stopped => OpenFault::Input(io::Error::other(
+            "the file cannot be read",
+        )),
     }
 }
 

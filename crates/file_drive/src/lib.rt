@@ -34,8 +34,8 @@
 //! * `format` makes a file of zeros a drive of empty zones. `store` makes it the same drive as one in memory, as a
 //!   restart leaves it (`HoldsDrive` in `specs/Storing.antt`). The file is synced, and each boot opens it. Cut at any
 //!   point, both leave no drive or the whole one (`whole`).
-//! * A write or a sync that fails stops the drive: the zones are as they were, nothing more is asked of the file, and
-//!   what was promised before stays.
+//! * A read that fails is `Halt::Failed`: nothing changes, and the drive goes on. A write or a sync that fails stops the
+//!   drive: the zones are as they were, nothing more is asked of the file, and what was promised before stays.
 //! * An open finds the zones of the table that counts, or tells by name why a file is no drive. Only the flushed table can
 //!   be such a reason. Whatever an open answers, a system in this boot finds the same zones later. A system in another
 //!   boot finds the same, or the zones of the last flush (`open`, `unnoticed`). If its own sync fails, it says so
@@ -53,8 +53,8 @@
 //! * That two lists of blocks have two sums. Nor that zones which are proved are all of one moment: each is as it was at
 //!   the last flush or since. A disk writes whole sectors, and one has the words of 64 zones. So this needs more zones, or
 //!   a loss while an open wrote the live table anew, before a flush.
-//! * That a drive stops, and `format`, `store`, `open` and `load` fail, only where a call on the file failed: a body
-//!   that always stops meets any contract. Tests try it.
+//! * That a drive stops or fails, and `format`, `store`, `open` and `load` fail, only where a call on the file failed: a
+//!   body that always stops meets any contract. Nor that a read which fails does not stop the drive. Tests try it.
 //! * That the room of blocks that a Reset took comes back after a flush: a file may keep it by contract. That a zone is
 //!   noted, and stays so, is proved of `Freed` alone. A test counts the room.
 //!

@@ -13,7 +13,7 @@ use file_bytes::FileBytes;
 use std::alloc::Global;
 use zone_drive::Drive;
 
-/// The drive in memory with the zones of a file that was opened. The file is not written. It is `Stopped` if the file
+/// The drive in memory with the zones of a file that was opened. The file is not written. It has `Failed` if the file
 /// cannot be read, and `Memory` where memory is missing.
 pub fn load<F: FileBytes + Drop, S: System + Drop>(
     alloc: Global,

@@ -11,7 +11,7 @@ use drive_port::Halt;
 use file_bytes::FileBytes;
 
 /// Puts bytes of the file after what `into` holds, and zeros where there are fewer than asked for. Where memory is
-/// missing the file is not called.
+/// missing the file is not called. Where the file cannot be read, it has failed.
 fn read_with_zeros<F: FileBytes>(
     file: &mut F,
     at: u64,
@@ -38,7 +38,7 @@ fn read_with_zeros<F: FileBytes>(
     into.resize(total, 0)?;
     if file.read(at, &mut into[held..held + count]).is_err() {
         into.truncate(held);
-        return Err(Halt::Stopped);
+        return Err(Halt::Failed);
     }
     Ok(())
 }

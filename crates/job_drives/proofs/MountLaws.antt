@@ -15,13 +15,15 @@ use Rattle.drive_survey.specs.Survey.{SurveyFails}
 use Rattle.drive_survey.proofs.NextLaws.{fails-more}
 use Rattle.drive_survey.proofs.ReadLaws.{keeps-both}
 use Rattle.remount.specs.Kept.{KeepsMountable}
+use Rattle.zone_states.specs.declared.geometry.Geometry.{Geometry}
+use Rattle.zone_choice.specs.Sane.{KeepsShape}
 use Rattle.remount.specs.Mount.{IsToMount, MountFails}
 use Rattle.remount.proofs.CallLaws.{mountable-both, shut-mountable, zones-shut}
 use Rattle.remount.proofs.RefusalLaws.{only-halts}
 use Rattle.zone_translator.specs.Answers.{IsMounted}
 use Rattle.zone_translator.specs.Mount.{GivesBack}
 use Rattle.zone_translator.specs.View.{DiskView, disk_size, given_size, size_on}
-use Rattle.job_drives.specs.Mounted.{IsFoundAgain, IsLostAgain, IsNotFound, IsNotServed, IsOneBlock, IsRefusedAgain, IsServed, SaysNoSize, TellsNoSize, TellsOutOfRange}
+use Rattle.job_drives.specs.Mounted.{IsFoundAgain, IsLostAgain, IsNotFound, IsNotServed, IsOneBlock, IsRefusedAgain, IsServed, SaysNoSize, TellsFault, TellsNoSize, TellsOutOfRange, TellsRoom}
 use Rattle.job_drives.proofs.HeaderLaws.{kept-logs}
 use Rattle.job_drives.specs.declared.mount_fault.NoDiskFault.{NoDiskFault}
 use Rattle.job_drives.specs.declared.mount_fault.NoDiskFault.TheVariants.{Mount, NoSize, Reserve, Unwritten}
@@ -32,7 +34,7 @@ use Rattle.job_drives.specs.declared.mount_fault.NoDiskFault.TheVariants.{Mount,
 kept-mountable : (n : ℕ) (old new : DriveState) → KeepsZones old new → KeepsMountable n old new
 kept-mountable n old new k = shut-mountable n old new (zones-shut old new k)
 
--- a look at a drive that can be mounted fails only by a stop or a failed allocation
+-- a look at a drive that can be mounted fails only by a halt or a failed allocation
 pub look-halts : (old new : DriveState) (fault : MountFault) → IsToMount old 1 → FailsBy (SurveyFails old 1) new fault → IsInterruption new fault
 look-halts old new fault can fails = only-halts old new 1 fault can (fails-more (SurveyFails old 1) (MountFails old 1) new fault mount-too fails)
   where
@@ -49,6 +51,7 @@ look-halts old new fault can fails = only-halts old new 1 fault can (fails-more 
     mount-too mounts.Halted bad = bad
     mount-too mounts.OutOfMemory bad = bad
     mount-too mounts.Damaged bad = absurd bad
+    mount-too mounts.Failed bad = absurd bad
     mount-too (mounts.TornZone zone) bad = absurd bad
 
 -- ---- the size of a disk
@@ -75,6 +78,10 @@ unfolding encoded_array
 same-array drive a b size says = rw says refl
 
 -- ---- a disk that is served
+
+-- a disk that was mounted as the number that was given
+pub given-served : (old : DriveState) (n : ℕ) (disk : DiskView) → IsMounted old n disk → IsServed old (Some n) disk
+given-served old n disk m = record { mounted = inl m; said = λ none. absurd (cc none); array = m.mounts.array; mountable = m.mountable }
 
 -- so is one that says more than one block
 pub said-served : (old : DriveState) (disk : DiskView) → IsMounted old 1 disk → disk_size disk ≢ 1 → IsServed old None disk
@@ -115,15 +122,15 @@ pub some-size : (size : Option ℕ) (b : Bool) → is_some size ≡ not b → b 
 some-size None b e f = let bad : false ≡ true = e ∙ ap not f in absurd (cc)
 some-size (Some n) b e f = (n, refl)
 
--- what holds of each disk that is answered
-pub ok-more : {A B : Type 0} (P Q : A → Type 0) (answer : Result A B) → ((x : A) → P x → Q x) → IfOk answer P → IfOk answer Q
-ok-more P Q (Ok x) more is = more x is
-ok-more P Q (Err y) more is = tt
+-- what two facts give of each disk that is answered
+pub ok-both : {A B : Type 0} (P Q R : A → Type 0) (answer : Result A B) → ((x : A) → P x → Q x → R x) → IfOk answer P → IfOk answer Q → IfOk answer R
+ok-both P Q R (Ok x) give p q = give x p q
+ok-both P Q R (Err y) give p q = tt
 
 -- and of each refusal
-pub err-more : {A B : Type 0} (P Q : B → Type 0) (answer : Result A B) → ((y : B) → P y → Q y) → IfErr answer P → IfErr answer Q
-err-more P Q (Ok x) more is = tt
-err-more P Q (Err y) more is = more y is
+pub err-both : {A B : Type 0} (P Q R : B → Type 0) (answer : Result A B) → ((y : B) → P y → Q y → R y) → IfErr answer P → IfErr answer Q → IfErr answer R
+err-both P Q R (Ok x) give p q = tt
+err-both P Q R (Err y) give p q = give y p q
 
 -- ---- a drive that is not served
 
@@ -135,15 +142,16 @@ one-kept old left back o k = mountable-both 1 old left back (rw o.left_is o.moun
 look-back : (old left back : DriveState) (fault : MountFault) → IsOneBlock old left → KeepsZones left back → IsInterruption back fault → GivesBack old 1 fault back
 look-back old left back fault o k stops = record {
   why = fails-more (λ _. ⊥) (MountFails old 1) back fault (λ f bad. absurd bad) stops;
-  refused = λ halted memory. absurd (by stops halted memory);
+  refused = λ halted memory failed. absurd (by stops halted memory failed);
   early = inr o.mounted.mounts.can;
   kept = one-kept old left back o k;
 }
   where
-    by : IsInterruption back fault → fault ≢ mounts.Halted → fault ≢ mounts.OutOfMemory → ⊥
-    by (inl is) halted memory = memory is
-    by (inr (inl is)) halted memory = halted is.0
-    by (inr (inr none)) halted memory = none
+    by : IsInterruption back fault → fault ≢ mounts.Halted → fault ≢ mounts.OutOfMemory → fault ≢ mounts.Failed → ⊥
+    by (inl is) halted memory failed = memory is
+    by (inr (inl (inl is))) halted memory failed = halted is.0
+    by (inr (inl (inr is))) halted memory failed = failed is.0
+    by (inr (inr none)) halted memory failed = none
 
 -- a second mount that was refused leaves the array
 lost-back : (old left back : DriveState) (fault : MountFault) → IsOneBlock old left → IsLostAgain left fault back → IsRefusedAgain old fault back
@@ -176,13 +184,14 @@ one-refused old left back (Reserve most) o n = absurd n.1
 -- a look leaves what a mount gave back that was refused for what the drive holds
 block-back : (old left back : DriveState) → GivesBack old 1 mounts.BlockOutOfRange left → KeepsZones left back → GivesBack old 1 mounts.BlockOutOfRange back
 block-back old left back g k =
-    let unchanged : KeepsZones old left = g.refused (λ e. absurd (cc e)) (λ e. absurd (cc e)) in
+    let unchanged : KeepsZones old left = g.refused (λ e. absurd (cc e)) (λ e. absurd (cc e)) (λ e. absurd (cc e)) in
     let both = keeps-both old left back unchanged k in
-    record { why = by g.why; refused = λ halted memory. both; early = inl both; kept = kept-mountable 1 old back both }
+    record { why = by g.why; refused = λ halted memory failed. both; early = inl both; kept = kept-mountable 1 old back both }
   where
     by : FailsBy (MountFails old 1) left mounts.BlockOutOfRange → FailsBy (MountFails old 1) back mounts.BlockOutOfRange
     by (inl memory) = absurd (cc memory)
-    by (inr (inl halted)) = absurd (cc halted.0)
+    by (inr (inl (inl halted))) = absurd (cc halted.0)
+    by (inr (inl (inr failed))) = absurd (cc failed.0)
     by (inr (inr fails)) = inr (inr fails)
 
 -- a drive in which a batch names another block than the first one is not served, whatever is told
@@ -191,3 +200,43 @@ block-refused old left back (Mount fault) g k tells = inl (rw tells (block-back 
 block-refused old left back (Unwritten most) g k tells = no-size old left back (Unwritten most) (inr g) k tells (block-back old left back g k).kept
 block-refused old left back (NoSize most) g k tells = no-size old left back (NoSize most) (inr g) k tells (block-back old left back g k).kept
 block-refused old left back (Reserve most) g k tells = absurd tells
+
+-- ---- the shape of a drive
+
+pub shape-join : (a b c : DriveState) → KeepsShape a b → KeepsShape b c → KeepsShape a c
+shape-join a b c first second = record { geometry = second.geometry ∙ first.geometry; trusted = λ clean. first.trusted (second.trusted clean) }
+
+-- a look leaves it
+pub look-shape : (old new : DriveState) → KeepsZones old new → KeepsShape old new
+look-shape old new k = record { geometry = k.geometry; trusted = k.trusted }
+
+-- ---- over any device
+
+-- a disk that was mounted on one block can be mounted so again
+pub one-again : (old : DriveState) (disk : DiskView) → IsMounted old 1 disk → disk_size disk ≡ 1 → IsToMount disk.drive 1
+one-again old disk m one = record {
+  geometry = m.range;
+  reserve = rw one at m.fits;
+  mountable = rw m.mounts.given at m.mountable;
+}
+
+-- headers that say no size tell why a drive of one block is not served
+pub not-found : (left back : DriveState) (told : NoDiskFault) → KeepsZones left back → TellsNoSize back told → IsNotFound left told back
+not-found left back (Mount fault) k tells = absurd tells
+not-found left back (Unwritten most) k tells = (k, tells)
+not-found left back (NoSize most) k tells = (k, tells)
+not-found left back (Reserve most) k tells = absurd tells
+
+-- and why one is not in which a batch names another block
+pub out-of-range : (back : DriveState) (told : NoDiskFault) → TellsNoSize back told → TellsOutOfRange back told
+out-of-range back (Mount fault) tells = absurd tells
+out-of-range back (Unwritten most) tells = tells
+out-of-range back (NoSize most) tells = tells
+out-of-range back (Reserve most) tells = absurd tells
+
+-- the room that is told with the fault of a mount
+pub told-room : (geometry : Geometry) (fault : MountFault) (told : NoDiskFault) → TellsFault geometry fault told → TellsRoom geometry told
+told-room geometry fault (Mount other) tells = tt
+told-room geometry fault (Reserve most) tells = tells.1
+told-room geometry fault (Unwritten most) tells = absurd tells
+told-room geometry fault (NoSize most) tells = absurd tells

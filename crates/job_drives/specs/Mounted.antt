@@ -113,6 +113,13 @@ IsNotServed old blocks (Reserve most) back = (most ≡ most_size old.geometry) �
 IsNotServed old blocks (Unwritten most) back = SaysNoSize old blocks (Unwritten most) back
 IsNotServed old blocks (NoSize most) back = SaysNoSize old blocks (NoSize most) back
 
+-- the number of blocks that is told is the one for which this geometry has room
+abbrev pub TellsRoom : Geometry → NoDiskFault → Type 0
+TellsRoom geometry (Mount fault) = Unit {0}
+TellsRoom geometry (Reserve most) = most ≡ most_size geometry
+TellsRoom geometry (Unwritten most) = most ≡ most_size geometry
+TellsRoom geometry (NoSize most) = most ≡ most_size geometry
+
 -- ---- on the way
 
 -- after a look a drive whose headers say a size is mounted with the number 2

@@ -2,17 +2,17 @@
 
 ghost use Rattle.std.specs.Prelude.{◌≡◌, ◌↔◌, IfErr, IfOk, IsTrue, None};
 ghost use Rattle.zone_states.specs.Geometry.{IsInRange};
+ghost use Rattle.zone_states.specs.declared.geometry.Geometry.{Geometry};
 ghost use Rattle.drive_array.specs.Reserve.{most_size};
 ghost use Rattle.drive_port.specs.Drive.{DriveState};
 ghost use Rattle.drive_survey.specs.Reported.{KeepsZones};
 ghost use Rattle.drive_survey.specs.Scan.{FailsBy};
 ghost use Rattle.drive_survey.specs.Survey.{SurveyFails};
-ghost use Rattle.job_drives.specs.Mounted.{AreSaid, HaveNoBatch, TellsNoSize};
+ghost use Rattle.job_drives.specs.Mounted.{AreSaid, HaveNoBatch, TellsNoSize, TellsRoom};
 
 use crate::mount_fault::NoDiskFault;
-use drive_port::{Device, Geometry, Honest};
-use drive_survey::honest::survey_drive;
-use drive_survey::{MountFault, ScannedZone, greatest_size};
+use drive_port::{Device, Geometry};
+use drive_survey::{MountFault, ScannedZone, greatest_size, survey_drive};
 use std::alloc::Global;
 use zone_choice::most_blocks;
 
@@ -35,15 +35,14 @@ fn have_no_batch(scanned: &[ScannedZone]) -> bool
 }
 
 /// Reads the headers of a drive. `given` is how many logical blocks it has if none says how many.
-pub fn look<D: Device + Honest>(
-    alloc: Global,
-    device: &mut D,
-    given: u64,
-) -> Result<Said, MountFault>
-    // Done, the headers of all batches are known.
-    ensures ok { IfOk result (AreSaid (D.drive device.new)) }
-    // A fault is the first that a survey meets, unless the drive stops or memory runs out.
-    ensures err { IfErr result (FailsBy (SurveyFails (D.drive device.old) given) (D.drive device.new)) }
+pub fn look<D: Device>(alloc: Global, device: &mut D, given: u64) -> Result<Said, MountFault>
+    // While the drive is clean: done, the headers of all batches are known. A fault is the first that a survey meets,
+    // unless the drive halts or memory runs out.
+    ensures ok { IsTrue (D.drive device.new).clean → IfOk result (AreSaid (D.drive device.new)) }
+    ensures err { IsTrue (D.drive device.new).clean
+        → IfErr result (FailsBy (SurveyFails (D.drive device.old) given) (D.drive device.new)) }
+    // Whatever the Reads returned, the room is that of the geometry.
+    ensures most { IfOk result (λ said. said.most ≡ most_size (D.drive device.old).geometry) }
     // Whatever it answers, zones hold what they held.
     ensures kept { KeepsZones (D.drive device.old) (D.drive device.new) }
 {
@@ -58,7 +57,8 @@ pub fn look<D: Device + Honest>(
 /// The fault of a drive whose headers say no size: nothing was written, or only headers without a size.
 pub fn without_size(said: Said) -> NoDiskFault
     requires { said.size ≡ None }
-    ensures { (drive : DriveState) → AreSaid drive said → TellsNoSize drive result }
+    ensures tells { (drive : DriveState) → AreSaid drive said → TellsNoSize drive result }
+    ensures room { (geometry : Geometry) → said.most ≡ most_size geometry → TellsRoom geometry result }
 {
     if said.is_unwritten {
         return NoDiskFault::Unwritten { most: said.most };

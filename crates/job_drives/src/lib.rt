@@ -21,6 +21,9 @@
 //! * [`mount_served`] mounts the drive as the number of blocks that was given. If none was, the disk has the size that
 //!   a header on the drive says, also if that is one block. A drive whose headers say none is refused, and told by
 //!   whether it has any batch. A drive that could be mounted still can be, with the same array (`specs/Mounted.antt`).
+//! * [`mount_any`] does so over any device. What is said here holds while the drive is clean: as long as each Read
+//!   returned what the drive holds. Whatever the Reads returned, it ends, the drive has the same shape, and the number
+//!   of blocks that a fault tells is the one for which the geometry has room (`TellsRoom`).
 //! * [`stopping`] makes a device with the stop that it is given.
 //! * [`DiskSize::of`] tells the size of a disk and the shape of its drive.
 //!
@@ -100,7 +103,7 @@ pub use kept_drive::{Begun, DriveFile, keep, restarted_drive, saved_drive};
 pub use left::{Left, Stored, keep_restarted, leave};
 pub use locked_file::LockedFile;
 pub use mount_fault::NoDiskFault;
-pub use mounted::mount_served;
+pub use mounted::{mount_any, mount_served};
 pub use new_file::{Saved, Saving, save};
 pub use saving::{Finished, drive_to_save, finish, first_told, stays};
 pub use statistics::statistics_of;

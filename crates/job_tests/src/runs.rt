@@ -132,7 +132,7 @@ fn ends_where_the_writer_fails(rt: HostRuntime) -> Result<(), Fail> {
 }
 
 /// Faults and their lines. `worked_runs` shows the others.
-const FAULT_LINES: [(RunFault, &str); 9] = [
+const FAULT_LINES: [(RunFault, &str); 11] = [
     (
         RunFault::Long(u64::MAX),
         "fault long 18446744073709551615\n",
@@ -142,6 +142,7 @@ const FAULT_LINES: [(RunFault, &str); 9] = [
         "fault disk 5 Unmounted\n",
     ),
     (RunFault::Disk(DiskFault::Damaged), "fault disk 9 Damaged\n"),
+    (RunFault::Disk(DiskFault::Failed), "fault disk 10 Failed\n"),
     (
         RunFault::Mount(MountFault::Limits),
         "fault mount 2 Limits\n",
@@ -153,6 +154,10 @@ const FAULT_LINES: [(RunFault, &str); 9] = [
     (
         RunFault::Mount(MountFault::Damaged),
         "fault mount 14 Damaged\n",
+    ),
+    (
+        RunFault::Mount(MountFault::Failed),
+        "fault mount 15 Failed\n",
     ),
     (RunFault::Input, "fault input\n"),
     (RunFault::Output, "fault output\n"),

@@ -11,7 +11,9 @@ ghost use Rattle.nbd_jobs.specs.Forgetting.{Applies, Forgets, IsCut, LeavesBy, S
 
 use crate::failing::{failing_store, failures_of};
 use crate::job::{Fail, Forget};
-use nbd_session::{Client, SessionEnd, SessionFault, Store, StoreFault, serve, serve_at_most};
+use nbd_session::{
+    Client, HonestStore, SessionEnd, SessionFault, Store, StoreFault, serve, serve_at_most,
+};
 use std::alloc::Global;
 use std::io::Write;
 use volatile_cache::VolatileCache;
@@ -64,19 +66,21 @@ fn ends_well(ended: Result<SessionEnd, SessionFault>) -> Result<(), SessionFault
 }
 
 /// Applies all that is pending, and syncs it. So many blocks are lost then: none.
-fn apply_pending<S: Store + Drop>(cache: &mut VolatileCache<S>) -> Result<u64, StoreFault>
+fn apply_pending<S: HonestStore + Drop>(cache: &mut VolatileCache<S>) -> Result<u64, StoreFault>
     ensures applies { Applies (S.view cache.old.store) (all_pending cache.old.kept) result (S.view cache.new.store) }
     ensures kept { KeepsServed (S.view cache.old.store).disk (S.view cache.new.store).disk }
     ensures mode { KeepsMode (deferring (S.view cache.old.store)) (deferring (S.view cache.new.store)) }
 {
-    match cache.sync() {
+    let result = cache.sync();
+    cache.vouch();
+    match result {
         Ok(()) => Ok(0),
         Err(fault) => Err(fault),
     }
 }
 
 /// Cuts the power: how many of the pending blocks are lost.
-fn cut_power<S: Store + Drop>(
+fn cut_power<S: HonestStore + Drop>(
     cache: &mut VolatileCache<S>,
     forget: Forget,
 ) -> Result<u64, StoreFault>
@@ -91,7 +95,7 @@ fn cut_power<S: Store + Drop>(
 }
 
 /// Applies what is pending if the client has said that its session ends, and else cuts the power.
-fn end_pending<S: Store + Drop>(
+fn end_pending<S: HonestStore + Drop>(
     cache: &mut VolatileCache<S>,
     forget: Forget,
     ended: Result<SessionEnd, SessionFault>,
@@ -109,7 +113,7 @@ fn end_pending<S: Store + Drop>(
 
 /// Serves a store to a client with a cache above it, and applies what is pending at the end, or cuts the power. The
 /// medium fails above the cache, which sees no request that failed.
-fn serve_forgetting<S: Store + Drop, R: Client, W: Write>(
+fn serve_forgetting<S: HonestStore + Drop, R: Client, W: Write>(
     alloc: Global,
     fail: Option<Fail>,
     forget: Forget,
@@ -138,7 +142,7 @@ fn serve_forgetting<S: Store + Drop, R: Client, W: Write>(
 
 /// Serves a store to a client: with a cache above it that forgets, if that is asked for. Its medium fails by chance, if
 /// that is asked for.
-pub(crate) fn serve_store<S: Store + Drop, R: Client, W: Write>(
+pub(crate) fn serve_store<S: HonestStore + Drop, R: Client, W: Write>(
     alloc: Global,
     fail: Option<Fail>,
     forget: Option<Forget>,

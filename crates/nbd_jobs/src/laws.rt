@@ -16,7 +16,8 @@ pub fn synced_is_left()
     ensures left { SettledIsLeft }
 {}
 
-/// If the medium is not to fail, a session is one of the disk as it is: no request is answered by `EIO` but by a sync.
+/// If the medium is not to fail, a session is one of the disk as it is: a request is answered by `EIO` only by a sync, or
+/// where the drive fails at a command.
 pub fn fails_only_if_asked()
     ensures served { UnaskedIsServed }
     ensures forgotten { UnaskedIsForgotten }

@@ -1,19 +1,86 @@
--- A READ is done by a read of the store.
-use Rattle.std.proofs.Common.{◌≡◌, ℕ, List, [], Option, Ok, Err, refl, sym}
-use Rattle.std.specs.Prelude.{Result}
+-- What is asked is done by one call of the store.
+use Rattle.std.proofs.Common.{◌≡◌, ℕ, ◌≤◌, List, [], length, take, Option, Ok, Err, true, false, refl, sym, ◌∙◌}
+use Rattle.std.specs.Prelude.{IsTrue, OnErr, Result}
+use Rattle.std.specs.Io.KnownBytes.{Consumes}
 use Rattle.std.proofs.KnownBytes.{Consumes-nil}
-use Rattle.nbd_session.specs.declared.asked.Asked.TheVariants.{Read}
+use Rattle.zone_translator.specs.Answers.{count_of_blocks}
+use Rattle.zone_translator.specs.Flat.{with_nothing}
+use Rattle.nbd_session.specs.declared.asked.Asked.{Asked}
+use Rattle.nbd_session.specs.declared.asked.Asked.TheVariants.{Read, Write, Trim, WriteZeroes, Flush}
 use Rattle.nbd_session.specs.declared.fault.StoreFault.{StoreFault}
 use Rattle.nbd_session.specs.declared.fault.StoreFault.TheVariants.{Disk, Medium}
-use Rattle.nbd_session.specs.Requests.{DoesWith}
-use Rattle.nbd_session.specs.Store.{OrFails, Shows, Spares, StoreView}
+use Rattle.nbd_session.specs.Requests.{DoesOrFails, DoesShowing, DoesWith, MayShow, SparesAsked}
+use Rattle.nbd_session.specs.Store.{OrFails, Shows, Spares, StaysByCall, StoreView, Trims, WritesBytes, WritesZeros}
 
--- what it shows are the blocks that were read and, if the medium failed, nothing
+read-showing : (old : StoreView) (first n : ℕ) (shown : List ℕ) (result : Result (Unit {0}) StoreFault) (new : StoreView) → OrFails (λ answer. Shows old first n answer shown new) ((shown ≡ []) × Spares old first n new) result → DoesShowing old (Read first n) [] shown result new
+read-showing old first n shown (Ok done) new o = record { blocks = o.shown; does = o.reads; shown_is = o.bytes_are }
+read-showing old first n shown (Err (Disk fault)) new o = record { blocks = o.shown; does = o.reads; shown_is = o.bytes_are }
+read-showing old first n shown (Err Medium) new o = record { blocks = []; does = (refl, o.1); shown_is = o.0 }
+
+read-shows : (first n : ℕ) (shown : List ℕ) (result : Result (Unit {0}) StoreFault) → OnErr result (shown ≡ []) → MayShow (Read first n) result shown
+read-shows first n shown (Ok done) none = tt
+read-shows first n shown (Err fault) none = none
+
+-- what a READ shows are the blocks that were read and, if the medium failed, nothing
 pub read_done : (left : Option (List ℕ)) (old : StoreView) (first n count : ℕ) (shown : List ℕ) (result : Result (Unit {0}) StoreFault) (new : StoreView) → count ≡ 0
-    → OrFails (λ answer. Shows old first n answer shown new) ((shown ≡ []) × Spares old first n new) result → DoesWith left left old (Read first n) count shown result new
-read_done left old first n count shown (Ok done) new none o =
-    record { bytes = []; count_is = sym none; read = Consumes-nil left; blocks = o.shown; does = o.reads; shown_is = o.bytes_are }
-read_done left old first n count shown (Err (Disk fault)) new none o =
-    record { bytes = []; count_is = sym none; read = Consumes-nil left; blocks = o.shown; does = o.reads; shown_is = o.bytes_are }
-read_done left old first n count shown (Err Medium) new none o =
-    record { bytes = []; count_is = sym none; read = Consumes-nil left; blocks = []; does = (refl, o.1); shown_is = o.0 }
+    → (IsTrue new.disk.drive.clean → OrFails (λ answer. Shows old first n answer shown new) ((shown ≡ []) × Spares old first n new) result) → OnErr result (shown ≡ []) → StaysByCall old new
+    → DoesWith left left old (Read first n) count shown result new
+read_done left old first n count shown result new none o empty stays = record {
+  bytes = [];
+  count_is = sym none;
+  read = Consumes-nil left;
+  does = λ clean. read-showing old first n shown result new (o clean);
+  shows = read-shows first n shown result empty;
+  stays = stays;
+}
+
+trim-does : (old : StoreView) (first n : ℕ) (result : Result (Unit {0}) StoreFault) (new : StoreView) → OrFails (λ answer. Trims old first n (with_nothing answer) new) (Spares old first n new) result → DoesOrFails old (Trim first n) [] result [] new
+trim-does old first n (Ok done) new o = o
+trim-does old first n (Err (Disk fault)) new o = o
+trim-does old first n (Err Medium) new o = (refl, o)
+
+-- a TRIM is done
+pub trim_done : (left : Option (List ℕ)) (old : StoreView) (first n count : ℕ) (result : Result (Unit {0}) StoreFault) (new : StoreView) → count ≡ 0
+    → (IsTrue new.disk.drive.clean → OrFails (λ answer. Trims old first n (with_nothing answer) new) (Spares old first n new) result) → StaysByCall old new → DoesWith left left old (Trim first n) count [] result new
+trim_done left old first n count result new none o stays = record {
+  bytes = [];
+  count_is = sym none;
+  read = Consumes-nil left;
+  does = λ clean. record { blocks = []; does = trim-does old first n result new (o clean); shown_is = refl };
+  shows = refl;
+  stays = stays;
+}
+
+hole-does : (old : StoreView) (first n : ℕ) (result : Result (Unit {0}) StoreFault) (new : StoreView) → OrFails (λ answer. Trims old first n (with_nothing answer) new) (Spares old first n new) result → DoesOrFails old (WriteZeroes first n true) [] result [] new
+hole-does old first n (Ok done) new o = o
+hole-does old first n (Err (Disk fault)) new o = o
+hole-does old first n (Err Medium) new o = (refl, o)
+
+-- so is a WRITE_ZEROES that may leave a hole
+pub hole_done : (left : Option (List ℕ)) (old : StoreView) (first n count : ℕ) (result : Result (Unit {0}) StoreFault) (new : StoreView) → count ≡ 0
+    → (IsTrue new.disk.drive.clean → OrFails (λ answer. Trims old first n (with_nothing answer) new) (Spares old first n new) result) → StaysByCall old new → DoesWith left left old (WriteZeroes first n true) count [] result new
+hole_done left old first n count result new none o stays = record {
+  bytes = [];
+  count_is = sym none;
+  read = Consumes-nil left;
+  does = λ clean. record { blocks = []; does = hole-does old first n result new (o clean); shown_is = refl };
+  shows = refl;
+  stays = stays;
+}
+
+zeros-does : (old : StoreView) (first n : ℕ) (result : Result (Unit {0}) StoreFault) (new : StoreView) → OrFails (λ answer. WritesZeros old first n (with_nothing answer) new) (Spares old first n new) result → DoesOrFails old (WriteZeroes first n false) [] result [] new
+zeros-does old first n (Ok done) new o = o
+zeros-does old first n (Err (Disk fault)) new o = o
+zeros-does old first n (Err Medium) new o = (refl, o)
+
+-- and one that may not
+pub zeros_done : (left : Option (List ℕ)) (old : StoreView) (first n count : ℕ) (result : Result (Unit {0}) StoreFault) (new : StoreView) → count ≡ 0
+    → (IsTrue new.disk.drive.clean → OrFails (λ answer. WritesZeros old first n (with_nothing answer) new) (Spares old first n new) result) → StaysByCall old new → DoesWith left left old (WriteZeroes first n false) count [] result new
+zeros_done left old first n count result new none o stays = record {
+  bytes = [];
+  count_is = sym none;
+  read = Consumes-nil left;
+  does = λ clean. record { blocks = []; does = zeros-does old first n result new (o clean); shown_is = refl };
+  shows = refl;
+  stays = stays;
+}

@@ -31,6 +31,7 @@ past_end-refused Flush none = omega (arith, none)
 pub refused : (wanted : Asked) (fault : DiskFault) → error_code (error_of wanted fault) ≡ 0 → ⊥
 refused wanted disk.OutOfRange none = past_end-refused wanted none
 refused wanted disk.OutOfMemory none = omega (arith, none)
+refused wanted disk.Failed none = omega (arith, none)
 refused wanted disk.Stopped none = omega (arith, none)
 refused wanted disk.Spent none = omega (arith, none)
 refused wanted disk.Unmounted none = omega (arith, none)

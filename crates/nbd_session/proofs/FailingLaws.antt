@@ -9,7 +9,7 @@ use Rattle.nbd_session.specs.declared.fault.StoreFault.{StoreFault}
 use Rattle.nbd_session.specs.declared.fault.StoreFault.TheVariants.{Disk, Medium}
 use Rattle.nbd_session.specs.Failing.{failing}
 use Rattle.nbd_session.specs.Pending.{Pending}
-use Rattle.nbd_session.specs.Store.{Calls, FailsSync, Hardens, KeepsBySync, KeepsMode, OrFails, ReadsBlocks, Rests, RestsBy, Shows, Spares, StoreView, SyncsBy, Writes, WritesList}
+use Rattle.nbd_session.specs.Store.{Calls, FailsSync, Hardens, KeepsBySync, KeepsMode, OrFails, ReadsBlocks, Rests, RestsAnyway, RestsBy, Shows, Spares, Stays, StaysByCall, StaysBySync, StoreView, SyncsBy, Writes, WritesList}
 
 -- what the store below may do, the store may
 below-fails : (may below : Bool) → below ≡ true → (may || below) ≡ true
@@ -166,3 +166,21 @@ rests_by-failing may false old new same = ap (failing may) same
 
 pub rests_failing : (may : Bool) (old new : StoreView) → Rests old new → Rests (failing may old) (failing may new)
 rests_failing may old new r = rests_by-failing may _ old new r
+
+-- ---- whatever the Reads of the drive returned
+
+pub stays_failing : (may : Bool) (old new : StoreView) → Stays old new → Stays (failing may old) (failing may new)
+stays_failing may old new s = record { disk = s.disk; mode = mode-failing may old new s.mode; syncs = s.syncs; none = s.none }
+
+pub calls_stay-failing : (may : Bool) (old new : StoreView) → StaysByCall old new → StaysByCall (failing may old) (failing may new)
+calls_stay-failing may old new s = record { stays = stays_failing may old new s.stays; syncs = s.syncs }
+
+pub syncs_stay-failing : (may : Bool) (old : StoreView) (result : Result (Unit {0}) StoreFault) (new : StoreView) → StaysBySync old result new → StaysBySync (failing may old) result (failing may new)
+syncs_stay-failing may old result new s = record { stays = stays_failing may old new s.stays; more = s.more }
+
+pub rests_anyway-failing : (may : Bool) (old new : StoreView) → RestsAnyway old new → RestsAnyway (failing may old) (failing may new)
+rests_anyway-failing may old new r = record {
+  rests = λ clean. rests_failing may old new (r.rests clean);
+  stays = calls_stay-failing may old new r.stays;
+  still = λ off. ap (failing may) (r.still off);
+}

@@ -2,12 +2,15 @@ pub mod PendingLaws
 pub mod SyncLaws
 pub mod ReplyLaws
 pub mod SpareLaws
+pub mod AskedLaws
 pub mod TurnLaws
 pub mod GroupLaws
 pub mod TogetherLaws
 pub mod OrderLaws
 pub mod RunLaws
 pub mod KeptLaws
+pub mod AnywayLaws
+pub mod WhileLaws
 pub mod StoreLaws
 pub mod ServedLaws
 pub mod DurableLaws

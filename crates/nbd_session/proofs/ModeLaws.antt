@@ -11,6 +11,7 @@ use Rattle.nbd_session.specs.declared.fault.SessionFault.{SessionFault}
 use Rattle.nbd_session.specs.declared.fault.StoreFault.{StoreFault}
 use Rattle.nbd_session.specs.declared.fault.StoreFault.TheVariants.{Disk, Medium}
 use Rattle.nbd_session.specs.Laws.{SessionKeepsMode}
+use Rattle.nbd_session.specs.Manners.{always}
 use Rattle.nbd_session.specs.Requests.{AnswersAsked, Does, DoesOrFails, Forces, asked_of_store}
 use Rattle.nbd_session.specs.Store.{Calls, KeepsBySync, KeepsMode, RestsBy, Spares, StoreView}
 use Rattle.nbd_session.specs.Session.{Session}
@@ -87,7 +88,7 @@ rests_grows : (turn : Bool) (old new : StoreView) → RestsBy turn old new → G
 rests_grows true old new t = call_grows old _ _ new t.calls
 rests_grows false old new same = same_grows old new same
 
-mode_kept : IsKept Grows
+mode_kept : IsKept always Grows
 mode_kept = record {
   same = self_grows;
   again = grows_again;

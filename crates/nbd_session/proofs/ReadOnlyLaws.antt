@@ -12,6 +12,7 @@ use Rattle.nbd_session.specs.declared.fault.StoreFault.TheVariants.{Disk, Medium
 use Rattle.nbd_session.specs.declared.group.Span.{Span}
 use Rattle.nbd_session.specs.Groups.{Asking, IsGroup, span_of}
 use Rattle.nbd_session.specs.Laws.{ReadOnlyKeepsArray}
+use Rattle.nbd_session.specs.Manners.{always}
 use Rattle.nbd_session.specs.Requests.{AnswersAsked, Does, DoesOrFails, Forces, asked_of, changes_disk, data_length, permitted}
 use Rattle.nbd_session.specs.Store.{Rests, RestsBy, StoreView, store_array, store_flat}
 use Rattle.nbd_session.proofs.KeptLaws.{IsKept, session_kept}
@@ -104,7 +105,7 @@ group-writes old (a ∷ more) several group read_only =
     let joins = group.each.0.joins in
     refused-change old.read_only (asked_of old.disk.drive.geometry.block a.request) a.wanted read_only joins.asks (joins-changes old.disk.drive.geometry.block a.wanted (data_length a.request) a.span joins.names)
 
-array_kept : IsKept Stays
+array_kept : IsKept always Stays
 array_kept = record {
   same = λ store read_only. (refl, read_only);
   again = stays_again;

@@ -18,6 +18,7 @@ use Rattle.nbd_session.specs.declared.asked.Asked.TheVariants.{Read, Write, Trim
 use Rattle.nbd_session.specs.declared.fault.StoreFault.{StoreFault}
 use Rattle.nbd_session.specs.declared.fault.StoreFault.TheVariants.{Disk, Medium}
 use Rattle.nbd_session.specs.Laws.{FlushIsSafe, IsSafe, LeftIsFound, SessionKeepsSafe}
+use Rattle.nbd_session.specs.Manners.{always}
 use Rattle.nbd_session.specs.Requests.{AnswersAsked, Does, DoesOrFails, Forces, asked_of_store}
 use Rattle.nbd_session.specs.Served.{array_with}
 use Rattle.nbd_session.specs.Store.{Calls, KeepsBySync, RestsBy, Spares, StoreView}
@@ -132,7 +133,7 @@ rests-sound : (turn : Bool) (old new : StoreView) → RestsBy turn old new → S
 rests-sound true old new t = call-sound old _ _ new t.calls
 rests-sound false old new same = same-sound old new same
 
-sound-kept : IsKept StaysSound
+sound-kept : IsKept always StaysSound
 sound-kept = record {
   same = λ store sound. sound;
   again = λ a b c x y sound. y (x sound);

@@ -1,7 +1,7 @@
 -- What a disk that is served gives, as a store: its calls, its turns and its syncs.
-use Rattle.std.proofs.Common.{◌≡◌, ℕ, zero, suc, ◌<◌, ◌≤◌, List, [], ◌∷◌, length, map, get_or, None, Some, Ok, Err, true, false, refl, sym, ap, ◌∙◌, inl, inr, arith}
+use Rattle.std.proofs.Common.{◌≡◌, ℕ, zero, suc, ◌<◌, ◌≤◌, List, [], ◌∷◌, length, map, get_or, None, Some, Ok, Err, true, false, refl, sym, ap, subst, ◌∙◌, inl, inr, arith}
 use Rattle.std.specs.Prelude.{◌⊎◌, Bool, Contains, IsErrAnd, MatchOption, Option, Result, nat_eq}
-use Rattle.std.specs.List.{IsDistinct}
+use Rattle.std.specs.List.{IsDistinct, concat}
 use Rattle.std.specs.Int.{div_ceil}
 use Rattle.std.proofs.Math.Nat.{div-zero, mod-le}
 use Rattle.std.proofs.lemmas.List.{take_all}
@@ -21,13 +21,13 @@ use Rattle.zone_translator.specs.Answers.{Answers, AnswersRead, CostsAtMost, Sto
 use Rattle.zone_translator.specs.Changes.{batch_commands}
 use Rattle.zone_translator.specs.Flat.{Answer, Begun, Call, FlatDisk, IsFront, IsListFront, Put, answer_while, flush, grow, idle, known_answer, may_refuse, put_all, read, replaced, report, status_after, with_nothing, write, write_list}
 use Rattle.zone_translator.specs.Listed.{blocks_named, list_puts}
-use Rattle.zone_translator.specs.View.{CompletesAtMost, DiskView, KeepsDisk, disk_array, disk_turns, flat_of, given_size}
+use Rattle.zone_translator.specs.View.{CompletesAtMost, DiskView, KeepsDisk, StaysAlike, disk_array, disk_turns, flat_of, given_size}
 use Rattle.zone_translator.specs.declared.fault.DiskFault.{DiskFault}
 use Rattle.nbd_session.specs.declared.fault.StoreFault.{StoreFault}
 use Rattle.nbd_session.specs.declared.fault.StoreFault.TheVariants.{Disk}
 use Rattle.nbd_session.specs.Served.{array_with, since_of}
 use Rattle.nbd_session.specs.Pending.{Pending}
-use Rattle.nbd_session.specs.Store.{CallsDisk, ComesFrom, FailsSync, Hardens, IsListTorn, IsMoment, IsPart, IsTorn, KeepsBySync, OrFails, Rests, Shows, Spares, StoreView, Writes, WritesList}
+use Rattle.nbd_session.specs.Store.{CallsDisk, ComesFrom, FailsSync, Hardens, IsListTorn, IsMoment, IsPart, IsTorn, KeepsBySync, OrFails, Rests, Shows, Spares, Stays, StaysByCall, StoreView, Writes, WritesList}
 use Rattle.nbd_session.proofs.PendingLaws.{front-torn, in-none, list-torn, same-torn}
 
 -- the only element of a list
@@ -403,3 +403,29 @@ flush_fails old new syncs read_only cleans fault serves a turns completed =
       flat = fails.1;
       cause = a.cause;
     }
+
+-- ---- whatever the Reads of the drive returned
+
+-- the store stays what it is
+pub disk_stays : (old new : DiskView) (syncs more : ℕ) (read_only cleans flushes : Bool) → StaysAlike old new → syncs ≤ more → Stays (served old syncs read_only cleans flushes) (served new more read_only cleans flushes)
+disk_stays old new syncs more read_only cleans flushes alike grows = record {
+  disk = alike;
+  mode = record { read_only = refl; cleans = refl; flushes = refl; defers = refl; fails = refl };
+  syncs = grows;
+  none = λ prompt none. refl;
+}
+
+pub disk_calls : (old new : DiskView) (syncs : ℕ) (read_only cleans flushes : Bool) → StaysAlike old new → StaysByCall (served old syncs read_only cleans flushes) (served new syncs read_only cleans flushes)
+disk_calls old new syncs read_only cleans flushes alike = record { stays = disk_stays old new syncs syncs read_only cleans flushes alike (omega arith); syncs = refl }
+
+-- a read that is refused shows nothing
+refused-shown : (known : Option (Result (Unit {0}) DiskFault)) (old : FlatDisk) (first n : ℕ) (fault : DiskFault) (shown : List (List ℕ)) (new : FlatDisk)
+    → MatchOption known (Begun old (read first n) (Err fault) shown new) (λ r. (record { result = Err fault; shown = shown } ≡ with_nothing r) × (new ≡ old)) → shown ≡ []
+refused-shown (Some r) old first n fault shown new c = ap (λ (a : Answer). a.shown) c.0
+refused-shown None old first n fault shown new c = c.1
+
+-- and what is empty afterwards was so
+pub read_cleared : (old new : DiskView) (first n : ℕ) (fault : DiskFault) (bytes left : List ℕ) → AnswersRead old first n (Err fault) bytes new → left ≡ [] → AnswersRead old first n (Err fault) left new
+read_cleared old new first n fault bytes left a empty =
+    let none = refused-shown (known_answer (flat_of old) (read first n)) (flat_of old) first n fault a.flat.shown (flat_of new) a.flat.flat in
+    subst (λ (bs : List ℕ). AnswersRead old first n (Err fault) bs new) (a.flat.bytes_are ∙ ap concat none ∙ sym empty) a

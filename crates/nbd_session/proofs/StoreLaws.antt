@@ -1,6 +1,6 @@
 -- A session keeps the drive of its disk.
 use Rattle.std.proofs.Common.{◌≡◌, ℕ, List, Option, Ok, Err, true, false, inl, inr}
-use Rattle.std.specs.Prelude.{Bool, ◌&&◌, not, Result}
+use Rattle.std.specs.Prelude.{Bool, ◌&&◌, IsTrue, not, Result}
 use Rattle.nbd_wire.specs.declared.error_code.ErrorCode.{ErrorCode}
 use Rattle.nbd_wire.specs.declared.request.Request.{Request}
 use Rattle.zone_translator.proofs.KeepingLaws.{keeps_again, keeps_same}
@@ -12,14 +12,16 @@ use Rattle.nbd_session.specs.declared.ending.SessionEnd.{SessionEnd}
 use Rattle.nbd_session.specs.declared.fault.SessionFault.{SessionFault}
 use Rattle.nbd_session.specs.declared.fault.StoreFault.{StoreFault}
 use Rattle.nbd_session.specs.declared.fault.StoreFault.TheVariants.{Disk, Medium}
+use Rattle.nbd_session.specs.Manners.{always, while_clean}
 use Rattle.nbd_session.specs.Requests.{AnswersAsked, Does, DoesOrFails, Forces, asked_of_store}
 use Rattle.nbd_session.specs.Session.{Session}
 use Rattle.nbd_session.specs.Store.{Calls, RestsBy, StoreView, Writes}
 use Rattle.nbd_session.specs.Streams.{Streams}
-use Rattle.nbd_session.specs.Turns.{ServesAtMost}
+use Rattle.nbd_session.specs.Turns.{ServesAtMost, ServesAtMostAs}
 use Rattle.nbd_session.proofs.KeptLaws.{IsKept, at_most-kept}
 use Rattle.nbd_session.proofs.SpareLaws.{some_spared}
 use Rattle.nbd_session.proofs.SyncLaws.{SyncsSome, any_sync}
+use Rattle.nbd_session.proofs.WhileLaws.{at_most-while}
 
 abbrev KeepsStore : StoreView → StoreView → Type 0
 KeepsStore old new = KeepsServed old.disk new.disk
@@ -68,7 +70,7 @@ rests_keeps : (turn : Bool) (old new : StoreView) → RestsBy turn old new → K
 rests_keeps true old new t = call_keeps old _ _ new t.calls
 rests_keeps false old new same = same_keeps old new same
 
-drive_kept : IsKept KeepsStore
+drive_kept : IsKept always KeepsStore
 drive_kept = record {
   same = λ store. keeps_same store.disk;
   again = λ a b c. keeps_again a.disk b.disk c.disk;
@@ -80,3 +82,7 @@ drive_kept = record {
 -- a session keeps the drive of its disk, however it ends
 pub session_keeps : (most : Option ℕ) (bytes : Streams) (old : Session) (result : Result SessionEnd SessionFault) (new : StoreView) → ServesAtMost most bytes old result new → KeepsServed old.store.disk new.disk
 session_keeps = at_most-kept KeepsStore drive_kept
+
+-- and over any device, while the drive is clean
+pub any_keeps : (most : Option ℕ) (bytes : Streams) (old : Session) (result : Result SessionEnd SessionFault) (new : StoreView) → ServesAtMostAs while_clean most bytes old result new → IsTrue new.disk.drive.clean → KeepsServed old.store.disk new.disk
+any_keeps most bytes old result new serves clean = session_keeps most bytes old result new (at_most-while most bytes old result new serves clean)

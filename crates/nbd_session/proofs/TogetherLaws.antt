@@ -6,7 +6,6 @@ use Rattle.std.specs.Io.KnownBytes.{Appends, Consumes, Keeps}
 use Rattle.std.proofs.KnownBytes.{Appends-kept, Keeps-trans}
 use Rattle.std.proofs.lemmas.List.{length-map}
 use Rattle.disk_files.specs.Output.{AppendsFront}
-use Rattle.zone_translator.specs.Flat.{with_nothing}
 use Rattle.zone_translator.specs.declared.fault.DiskFault.{DiskFault}
 use Rattle.nbd_session.specs.declared.fault.SessionFault.{SessionFault}
 use Rattle.nbd_session.specs.declared.fault.SessionFault.TheVariants.{Input, Magic, Output, TooMany, Unsent}
@@ -15,8 +14,9 @@ use Rattle.nbd_session.specs.declared.group.Member.{Member}
 use Rattle.nbd_session.specs.declared.phase.Phase.{Phase}
 use Rattle.nbd_session.specs.declared.phase.Phase.TheVariants as phases
 use Rattle.nbd_session.specs.Groups.{AnswersGroup, AnswersGroupInPart, Asking, FollowsAll, GroupGives, TakesGroup, member_of, replies_to}
-use Rattle.nbd_session.specs.Session.{AnswersIn, ServesGroup, Session, session}
-use Rattle.nbd_session.specs.Store.{StoreView, WritesList}
+use Rattle.nbd_session.specs.Manners.{while_clean}
+use Rattle.nbd_session.specs.Session.{AnswersInAs, ServesGroup, Session, session}
+use Rattle.nbd_session.specs.Store.{StoreView}
 use Rattle.nbd_session.specs.Streams.{Streams, streams}
 use Rattle.nbd_session.specs.Turns.{AnswersOne, StopsSession, TurnGives}
 
@@ -28,7 +28,7 @@ kept-consumes (Some x) None c bs kept read = absurd kept
 kept-consumes (Some x) (Some y) None bs kept read = absurd read
 kept-consumes (Some x) (Some y) (Some z) bs kept read = sym kept ∙ read
 
-alone : (together passes : Bool) (phase : Phase) (store : StoreView) (message reply : List ℕ) (new : Session) → AnswersIn false passes phase store message reply new → AnswersIn together passes phase store message reply new
+alone : (together passes : Bool) (phase : Phase) (store : StoreView) (message reply : List ℕ) (new : Session) → AnswersInAs while_clean false passes phase store message reply new → AnswersInAs while_clean together passes phase store message reply new
 alone together passes phases.Greeting store message reply new a = a
 alone together passes phases.Flags store message reply new a = a
 alone together passes (phases.Options no_zeroes) store message reply new a = a
@@ -36,8 +36,8 @@ alone true passes phases.Transmission store message reply new a = inl a
 alone false passes phases.Transmission store message reply new a = a
 alone together passes phases.Ended store message reply new a = a
 
-one-alone : (together passes : Bool) (input middle rest written contents : Option (List ℕ)) (old new : Session) → Keeps input middle → AnswersOne false passes (streams middle rest written contents) old new
-    → AnswersOne together passes (streams input rest written contents) old new
+one-alone : (together passes : Bool) (input middle rest written contents : Option (List ℕ)) (old new : Session) → Keeps input middle → AnswersOne while_clean false passes (streams middle rest written contents) old new
+    → AnswersOne while_clean together passes (streams input rest written contents) old new
 one-alone together passes input middle rest written contents old new kept a = record {
   message = a.message;
   reply = a.reply;
@@ -74,8 +74,8 @@ members-long : (group : Group) (askings : List Asking) → group.members.items �
 members-long group askings are = ap length are ∙ length-map askings member_of
 
 serves : (passes : Bool) (input rest : Option (List ℕ)) (store answered new : StoreView) (group : Group) (done : Result (Unit {0}) DiskFault) (t : TakesGroup input rest store group)
-    → WritesList store group.entries.items group.bytes.items (with_nothing done) answered → FollowsAll passes (length group.members.items) answered new
-    → ServesGroup passes store t.bytes (replies_to done group.members.items) (session phases.Transmission new)
+    → while_clean.Lists store group.entries.items group.bytes.items done answered → FollowsAll while_clean passes (length group.members.items) answered new
+    → ServesGroup while_clean passes store t.bytes (replies_to done group.members.items) (session phases.Transmission new)
 serves passes input rest store answered new group done t writes follows = record {
   askings = t.gathered.askings;
   several = omega (arith, t.several, members-long group t.gathered.askings t.gathered.members);
@@ -90,7 +90,7 @@ serves passes input rest store answered new group done t writes follows = record
 }
 
 group-one : (passes : Bool) (input rest written contents : Option (List ℕ)) (store new : StoreView) (group : Group) → TakesGroup input rest store group → AnswersGroup passes written contents store group new
-    → AnswersOne true passes (streams input rest written contents) (session phases.Transmission store) (session phases.Transmission new)
+    → AnswersOne while_clean true passes (streams input rest written contents) (session phases.Transmission store) (session phases.Transmission new)
 group-one passes input rest written contents store new group t a = record {
   message = t.bytes;
   reply = replies_to a.done group.members.items;
@@ -100,7 +100,7 @@ group-one passes input rest written contents store new group t a = record {
 }
 
 group-stops : (fault : SessionFault) (input rest written contents : Option (List ℕ)) (store new : StoreView) (group : Group) → TakesGroup input rest store group → GroupGives written contents store group (Err fault) new
-    → StopsSession true fault (streams input rest written contents) (session phases.Transmission store) new
+    → StopsSession while_clean true fault (streams input rest written contents) (session phases.Transmission store) new
 group-stops Output input rest written contents store new group t a = record {
   message = t.bytes;
   reply = replies_to a.done group.members.items;

@@ -16,8 +16,9 @@ use Rattle.nbd_session.specs.declared.fault.SessionFault.{SessionFault}
 use Rattle.nbd_session.specs.declared.fault.SessionFault.TheVariants.{Input, Magic, Output, TooMany, Unsent}
 use Rattle.nbd_session.specs.declared.phase.Phase.{Phase}
 use Rattle.nbd_session.specs.declared.phase.Phase.TheVariants as phases
-use Rattle.nbd_session.specs.Requests.{AnswersAsked, asked_of_store, data_length, is_disconnect}
-use Rattle.nbd_session.specs.Session.{AnswersMessage, Follows, Session, answer_bytes, export_of, option_answer, phase_after, session}
+use Rattle.nbd_session.specs.Requests.{AnswersAnyway, asked_of_store, data_length, is_disconnect}
+use Rattle.nbd_session.specs.Manners.{while_clean}
+use Rattle.nbd_session.specs.Session.{AnswersMessageAs, FollowsAs, Session, answer_bytes, export_of, option_answer, phase_after, session}
 use Rattle.nbd_session.specs.Store.{StoreView}
 use Rattle.nbd_session.specs.Streams.{Streams, streams}
 use Rattle.nbd_session.specs.Turns.{AnswersOne, IsCutMessage, Replies, RepliesInPart, ReplyStops, StopsSession, TurnGives}
@@ -50,8 +51,8 @@ stops-so Output bytes count A B P Q so nothing r = record {
 
 -- the head is read, and the rest is answered
 exchanged : (passes : Bool) (input middle rest written contents : Option (List ℕ)) (head : List ℕ) (count : ℕ) (A : List ℕ → List ℕ → Type 0) (old new : Session) → Consumes input middle head
-    → ((after reply : List ℕ) → length after ≡ count → A after reply → AnswersMessage false passes old (head ++ after) reply new)
-    → Replies (streams middle rest written contents) count A → AnswersOne false passes (streams input rest written contents) old new
+    → ((after reply : List ℕ) → length after ≡ count → A after reply → AnswersMessageAs while_clean false passes old (head ++ after) reply new)
+    → Replies (streams middle rest written contents) count A → AnswersOne while_clean false passes (streams input rest written contents) old new
 exchanged passes input middle rest written contents head count A old new first so r = record {
   message = head ++ r.after;
   reply = r.reply;
@@ -64,8 +65,8 @@ exchanged passes input middle rest written contents head count A old new first s
 stopped : (fault : SessionFault) (input middle rest written contents : Option (List ℕ)) (head : List ℕ) (count : ℕ) (A : List ℕ → List ℕ → Type 0) (P : Type 0) (old : Session) (phase : Phase) (new : StoreView)
     → Consumes input middle head → (P → new ≡ old.store)
     → ((front : List ℕ) → length front < count → IsCutMessage old.phase (head ++ front))
-    → ((after reply : List ℕ) → length after ≡ count → A after reply → AnswersMessage false false old (head ++ after) reply (session phase new))
-    → ReplyStops fault (streams middle rest written contents) count A P → StopsSession false fault (streams input rest written contents) old new
+    → ((after reply : List ℕ) → length after ≡ count → A after reply → AnswersMessageAs while_clean false false old (head ++ after) reply (session phase new))
+    → ReplyStops fault (streams middle rest written contents) count A P → StopsSession while_clean false fault (streams input rest written contents) old new
 stopped Input input middle rest written contents head count A P old phase new first nothing cut so r = record {
   front = head ++ r.0.bytes;
   holds = cut r.0.bytes r.0.fewer;
@@ -90,18 +91,18 @@ stopped Output input middle rest written contents head count A P old phase new f
 -- if all went well, a reply that only tells the error answers a refused request
 pub refused-ok : {T E : Type 0} (r : Result T E) (bytes : Streams) (count : ℕ) (store : StoreView) (request : Request) (wanted : Result Asked ErrorCode) (error : ErrorCode) → wanted ≡ Err error
     → OnOk r (Replies bytes count (λ after reply. reply ≡ simple_reply_bytes error request.cookie))
-    → OnOk r (Replies bytes count (λ after reply. AnswersAsked store request wanted after reply store))
+    → OnOk r (Replies bytes count (λ after reply. AnswersAnyway store request wanted after reply store))
 refused-ok (Ok x) bytes count store request wanted error e p =
-    rw e (replies-so bytes count (λ after reply. reply ≡ simple_reply_bytes error request.cookie) (λ after reply. AnswersAsked store request (Err error) after reply store) (λ after reply same. (same, refl)) p)
+    rw e (replies-so bytes count (λ after reply. reply ≡ simple_reply_bytes error request.cookie) (λ after reply. AnswersAnyway store request (Err error) after reply store) (λ after reply same. (same, refl)) p)
 refused-ok (Err x) bytes count store request wanted error e p = tt
 
 -- if a fault stops that reply, it stops the answer to the refused request
 pub refused-err : {T : Type 0} (r : Result T SessionFault) (bytes : Streams) (count : ℕ) (store : StoreView) (request : Request) (wanted : Result Asked ErrorCode) (error : ErrorCode) → wanted ≡ Err error
     → IfErr r (λ fault. ReplyStops fault bytes count (λ after reply. reply ≡ simple_reply_bytes error request.cookie) ⊤)
-    → IfErr r (λ fault. ReplyStops fault bytes count (λ after reply. AnswersAsked store request wanted after reply store) (store ≡ store))
+    → IfErr r (λ fault. ReplyStops fault bytes count (λ after reply. AnswersAnyway store request wanted after reply store) (store ≡ store))
 refused-err (Ok x) bytes count store request wanted error e p = tt
 refused-err (Err fault) bytes count store request wanted error e p =
-    rw e (stops-so fault bytes count (λ after reply. reply ≡ simple_reply_bytes error request.cookie) (λ after reply. AnswersAsked store request (Err error) after reply store) ⊤ (store ≡ store) (λ after reply same. (same, refl)) (λ t. refl) p)
+    rw e (stops-so fault bytes count (λ after reply. reply ≡ simple_reply_bytes error request.cookie) (λ after reply. AnswersAnyway store request (Err error) after reply store) ⊤ (store ≡ store) (λ after reply same. (same, refl)) (λ t. refl) p)
 
 -- ---- what follows a head is dropped
 
@@ -131,9 +132,9 @@ dropped-front input rest written contents n count reply wanted dropped same is s
 
 -- ---- a request that is no DISC
 
-request-answered : (passes : Bool) (old answered new : StoreView) (request : Request) (head : List ℕ) → (head ≡ request_bytes request) × FitsRequest request → is_disconnect request ≡ false → Follows passes answered new
-    → (after reply : List ℕ) → length after ≡ data_length request → AnswersAsked old request (asked_of_store old request) after reply answered
-    → AnswersMessage false passes (session phases.Transmission old) (head ++ after) reply (session phases.Transmission new)
+request-answered : (passes : Bool) (old answered new : StoreView) (request : Request) (head : List ℕ) → (head ≡ request_bytes request) × FitsRequest request → is_disconnect request ≡ false → FollowsAs while_clean passes answered new
+    → (after reply : List ℕ) → length after ≡ data_length request → AnswersAnyway old request (asked_of_store old request) after reply answered
+    → AnswersMessageAs while_clean false passes (session phases.Transmission old) (head ++ after) reply (session phases.Transmission new)
 request-answered passes old answered new request head is goes_on follows after reply count a = record {
   request = request;
   fits = is.1;
@@ -149,9 +150,9 @@ request-cut request head is front fewer =
 
 -- a request is answered, its reply is written, and what follows is done
 pub request-exchanged : (passes : Bool) (input middle rest written between contents : Option (List ℕ)) (old answered new : StoreView) (request : Request) (head : List ℕ) → Consumes input middle head
-    → (head ≡ request_bytes request) × FitsRequest request → is_disconnect request ≡ false → Follows passes answered new → Keeps between contents
-    → Replies (streams middle rest written between) (data_length request) (λ after reply. AnswersAsked old request (asked_of_store old request) after reply answered)
-    → AnswersOne false passes (streams input rest written contents) (session phases.Transmission old) (session phases.Transmission new)
+    → (head ≡ request_bytes request) × FitsRequest request → is_disconnect request ≡ false → FollowsAs while_clean passes answered new → Keeps between contents
+    → Replies (streams middle rest written between) (data_length request) (λ after reply. AnswersAnyway old request (asked_of_store old request) after reply answered)
+    → AnswersOne while_clean false passes (streams input rest written contents) (session phases.Transmission old) (session phases.Transmission new)
 request-exchanged passes input middle rest written between contents old answered new request head first is goes_on follows kept r = record {
   message = head ++ r.after;
   reply = r.reply;
@@ -162,15 +163,15 @@ request-exchanged passes input middle rest written between contents old answered
 
 -- if what follows the head of a request is not answered, the session stops
 pub request-stopped : (fault : SessionFault) (input middle rest written contents : Option (List ℕ)) (old new : StoreView) (request : Request) (head : List ℕ) → Consumes input middle head → (head ≡ request_bytes request) × FitsRequest request → is_disconnect request ≡ false
-    → ReplyStops fault (streams middle rest written contents) (data_length request) (λ after reply. AnswersAsked old request (asked_of_store old request) after reply new) (new ≡ old)
-    → StopsSession false fault (streams input rest written contents) (session phases.Transmission old) new
+    → ReplyStops fault (streams middle rest written contents) (data_length request) (λ after reply. AnswersAnyway old request (asked_of_store old request) after reply new) (new ≡ old)
+    → StopsSession while_clean false fault (streams input rest written contents) (session phases.Transmission old) new
 request-stopped fault input middle rest written contents old new request head first is goes_on r =
-    stopped fault input middle rest written contents head (data_length request) (λ after reply. AnswersAsked old request (asked_of_store old request) after reply new) (new ≡ old) (session phases.Transmission old) phases.Transmission new
+    stopped fault input middle rest written contents head (data_length request) (λ after reply. AnswersAnyway old request (asked_of_store old request) after reply new) (new ≡ old) (session phases.Transmission old) phases.Transmission new
     first (λ same. same) (request-cut request head is) (request-answered false old new new request head is goes_on refl) r
 
 -- a reply was written, and is not passed on
 pub request-unsent : (fault : SessionFault) (bytes : Streams) (old new : StoreView) → fault ≡ Unsent
-    → AnswersOne false false bytes (session phases.Transmission old) (session phases.Transmission new) → StopsSession false fault bytes (session phases.Transmission old) new
+    → AnswersOne while_clean false false bytes (session phases.Transmission old) (session phases.Transmission new) → StopsSession while_clean false fault bytes (session phases.Transmission old) new
 request-unsent Unsent bytes old new is a = record { phase = phases.Transmission; answers = a }
 request-unsent Input bytes old new is a = absurd (cc is)
 request-unsent Magic bytes old new is a = absurd (cc is)
@@ -179,7 +180,7 @@ request-unsent TooMany bytes old new is a = absurd (cc is)
 
 -- a fault is handed on
 pub turn-stops : (bytes : Streams) (old : Session) (r : Result (Option Phase) SessionFault) (fault : SessionFault) (new : StoreView) → IsErrAnd r (λ e. e ≡ fault)
-    → StopsSession false fault bytes old new → TurnGives false bytes old r new
+    → StopsSession while_clean false fault bytes old new → TurnGives false bytes old r new
 turn-stops bytes old (Ok x) fault new is p = absurd is
 turn-stops bytes old (Err e) fault new is p = rw is p
 
@@ -187,7 +188,7 @@ turn-stops bytes old (Err e) fault new is p = rw is p
 
 option-answered : (passes : Bool) (old : StoreView) (no_zeroes : Bool) (option : OptionHead) (kind : Option OptionKind) (head : List ℕ) → kind ≡ option_of option.option → (head ≡ option_head_bytes option) × FitsHead option
     → (after reply : List ℕ) → length after ≡ option.length → reply ≡ answer_bytes (export_of old) no_zeroes option.option (option_answer kind option.length)
-    → AnswersMessage false passes (session (phases.Options no_zeroes) old) (head ++ after) reply (session (phase_after no_zeroes kind) old)
+    → AnswersMessageAs while_clean false passes (session (phases.Options no_zeroes) old) (head ++ after) reply (session (phase_after no_zeroes kind) old)
 option-answered passes old no_zeroes option kind head kind_is is after reply count said = record {
   head = option;
   fits = is.1;
@@ -205,7 +206,7 @@ option-cut no_zeroes option head is front fewer =
 -- if the head of an option is read and what follows is answered, the message is answered
 pub option-exchanged : (input middle rest written contents : Option (List ℕ)) (old : StoreView) (no_zeroes : Bool) (option : OptionHead) (kind : Option OptionKind) (head : List ℕ) → Consumes input middle head → kind ≡ option_of option.option → (head ≡ option_head_bytes option) × FitsHead option
     → Replies (streams middle rest written contents) option.length (λ after reply. reply ≡ answer_bytes (export_of old) no_zeroes option.option (option_answer kind option.length))
-    → AnswersOne false true (streams input rest written contents) (session (phases.Options no_zeroes) old) (session (phase_after no_zeroes kind) old)
+    → AnswersOne while_clean false true (streams input rest written contents) (session (phases.Options no_zeroes) old) (session (phase_after no_zeroes kind) old)
 option-exchanged input middle rest written contents old no_zeroes option kind head first kind_is is r =
     exchanged true input middle rest written contents head option.length (λ after reply. reply ≡ answer_bytes (export_of old) no_zeroes option.option (option_answer kind option.length)) (session (phases.Options no_zeroes) old) (session (phase_after no_zeroes kind) old)
     first (option-answered true old no_zeroes option kind head kind_is is) r
@@ -213,7 +214,7 @@ option-exchanged input middle rest written contents old no_zeroes option kind he
 -- if what follows the head of an option is not answered, the session stops
 pub option-stopped : (fault : SessionFault) (input middle rest written contents : Option (List ℕ)) (old : StoreView) (no_zeroes : Bool) (option : OptionHead) (kind : Option OptionKind) (head : List ℕ) → Consumes input middle head → kind ≡ option_of option.option → (head ≡ option_head_bytes option) × FitsHead option
     → ReplyStops fault (streams middle rest written contents) option.length (λ after reply. reply ≡ answer_bytes (export_of old) no_zeroes option.option (option_answer kind option.length)) ⊤
-    → StopsSession false fault (streams input rest written contents) (session (phases.Options no_zeroes) old) old
+    → StopsSession while_clean false fault (streams input rest written contents) (session (phases.Options no_zeroes) old) old
 option-stopped fault input middle rest written contents old no_zeroes option kind head first kind_is is r =
     stopped fault input middle rest written contents head option.length (λ after reply. reply ≡ answer_bytes (export_of old) no_zeroes option.option (option_answer kind option.length)) ⊤ (session (phases.Options no_zeroes) old) (phase_after no_zeroes kind) old
     first (λ t. refl) (option-cut no_zeroes option head is) (option-answered false old no_zeroes option kind head kind_is is) r

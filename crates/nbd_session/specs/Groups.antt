@@ -6,7 +6,7 @@ use Rattle.batch_log.specs.declared.header.Entry.{Entry}
 use Rattle.disk_files.specs.Output.{AppendsFront}
 use Rattle.nbd_wire.specs.Transmission.{FitsRequest, request_bytes, simple_reply_bytes}
 use Rattle.nbd_wire.specs.declared.request.Request.{Request}
-use Rattle.zone_translator.specs.Flat.{known_range, with_nothing}
+use Rattle.zone_translator.specs.Flat.{known_range}
 use Rattle.zone_translator.specs.Listed.{blocks_named}
 use Rattle.zone_translator.specs.declared.fault.DiskFault.{DiskFault}
 use Rattle.nbd_session.specs.declared.asked.Asked.{Asked}
@@ -19,8 +19,9 @@ use Rattle.nbd_session.specs.declared.group.Group.{Group}
 use Rattle.nbd_session.specs.declared.group.Member.{Member}
 use Rattle.nbd_session.specs.declared.group.Span.{Span}
 use Rattle.nbd_session.specs.declared.group.TheConstants.{MOST_DATA, MOST_REQUESTS}
+use Rattle.nbd_session.specs.Manners.{Manner, RestsTimes, while_clean}
 use Rattle.nbd_session.specs.Requests.{Carries, asked_of_store, code_of, data_length, is_forced}
-use Rattle.nbd_session.specs.Store.{RestsTimes, StoreView, WritesList, most_listed, store_flat}
+use Rattle.nbd_session.specs.Store.{StoreView, most_listed, store_flat}
 
 -- ---- a request of a group
 
@@ -145,22 +146,22 @@ replies_to done members = flat_map (reply_to done) members
 
 -- what follows the replies to so many requests: the store rests once for each or, if they are not passed on, nothing is
 -- done
-abbrev pub FollowsAll : Bool → ℕ → StoreView → StoreView → Type 0
-FollowsAll true n old new = RestsTimes n old new
-FollowsAll false n old new = new ≡ old
+abbrev pub FollowsAll : Manner → Bool → ℕ → StoreView → StoreView → Type 0
+FollowsAll manner true n old new = RestsTimes manner n old new
+FollowsAll manner false n old new = new ≡ old
 
--- the requests of a group are done and answered, and what follows is done
+-- The requests of a group are done and answered over any device, and what follows is done.
 pub record AnswersGroup (passes : Bool) (written contents : Option (List ℕ)) (old : StoreView) (group : Group) (new : StoreView) : Type 0 where
   pub done : Result (Unit {0}) DiskFault
   pub answered : StoreView
-  pub writes : WritesList old group.entries.items group.bytes.items (with_nothing done) answered
+  pub writes : while_clean.Lists old group.entries.items group.bytes.items done answered
   pub sent : Appends written contents (replies_to done group.members.items)
-  pub follows : FollowsAll passes (length group.members.items) answered new
+  pub follows : FollowsAll while_clean passes (length group.members.items) answered new
 
 -- they are done, and of the replies a beginning is written
 pub record AnswersGroupInPart (written contents : Option (List ℕ)) (old : StoreView) (group : Group) (new : StoreView) : Type 0 where
   pub done : Result (Unit {0}) DiskFault
-  pub writes : WritesList old group.entries.items group.bytes.items (with_nothing done) new
+  pub writes : while_clean.Lists old group.entries.items group.bytes.items done new
   pub sent : AppendsFront written contents (replies_to done group.members.items)
 
 -- what comes of a group

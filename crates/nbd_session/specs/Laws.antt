@@ -1,5 +1,5 @@
 -- What a client may rely on.
-use Rattle.std.specs.Prelude.{◌≡◌, ℕ, ◌+◌, ◌/◌, ◌<◌, ◌≤◌, true, false, List, [], ◌++◌, map, slice_index_or, Bool, Contains, Ok, Result}
+use Rattle.std.specs.Prelude.{◌≡◌, ◌⊎◌, ℕ, ◌+◌, ◌/◌, ◌<◌, ◌≤◌, true, false, List, [], ◌++◌, map, slice_index_or, Bool, Contains, Ok, Err, Result, IsFalse, IsTrue}
 use Rattle.nbd_wire.specs.Transmission.{simple_reply_bytes}
 use Rattle.nbd_wire.specs.declared.error_code.ErrorCode.TheVariants.{Io, Success}
 use Rattle.nbd_wire.specs.declared.request.Request.{Request}
@@ -12,17 +12,20 @@ use Rattle.zone_translator.specs.Laws.{AllSteps, CanMountAgain, FlatStep, writte
 use Rattle.zone_translator.specs.Listed.{list_puts}
 use Rattle.zone_translator.specs.Mount.{MountsDisk}
 use Rattle.zone_translator.specs.View.{DiskView, disk_array, given_size}
+use Rattle.zone_translator.specs.declared.fault.DiskFault.TheVariants.{Failed}
 use Rattle.nbd_session.specs.declared.asked.Asked.{Asked}
 use Rattle.nbd_session.specs.declared.asked.Asked.TheVariants.{Read, Write, Trim, WriteZeroes, Flush}
 use Rattle.nbd_session.specs.declared.fault.SessionFault.{SessionFault}
 use Rattle.nbd_session.specs.declared.fault.StoreFault.{StoreFault}
+use Rattle.nbd_session.specs.declared.fault.StoreFault.TheVariants.{Disk}
+use Rattle.nbd_session.specs.Manners.{always, while_clean}
 use Rattle.nbd_session.specs.Requests.{Does, DoesAndReplies, DoesOrFails, data_length, is_forced}
 use Rattle.nbd_session.specs.Served.{since_of}
 use Rattle.nbd_session.specs.Groups.{data_of, entries_of}
 use Rattle.nbd_session.specs.Session.{ServesGroup, Session}
 use Rattle.nbd_session.specs.Store.{KeepsMode, OrFails, StoreView, store_array, store_flat}
 use Rattle.nbd_session.specs.Streams.{Streams}
-use Rattle.nbd_session.specs.Turns.{Serves}
+use Rattle.nbd_session.specs.Turns.{Serves, ServesAs}
 
 -- n blocks from a given one on are in one array as in another
 abbrev pub AgreeOn : ℕ → ℕ → List (List ℕ) → List (List ℕ) → Type 0
@@ -55,17 +58,18 @@ ForcedIsDurable =
 -- its own, in their order.
 abbrev pub GroupIsItsWrites : Type 0
 GroupIsItsWrites =
-    (passes : Bool) (old : StoreView) (message reply : List ℕ) (new : Session) (last : FlatDisk) → (served : ServesGroup passes old message reply new) → served.done ≡ Ok tt
+    (passes : Bool) (old : StoreView) (message reply : List ℕ) (new : Session) (last : FlatDisk) → (served : ServesGroup always passes old message reply new) → served.done ≡ Ok tt
     → AllSteps FlatStep (store_flat old) (map written_alone (list_puts old.disk (entries_of served.askings) (data_of served.askings))) last
     → store_flat served.answered ≡ last
 
--- A request that had not to be durable has a reply that says EIO. Then the medium may fail in it, nothing is done, and
--- nothing is shown.
+-- A request that had not to be durable has a reply that says EIO. Then nothing is shown. The medium may fail in it, and
+-- nothing is done; or the disk refused it, since its drive failed at a command.
 abbrev pub FailedIsUndone : Type 0
 FailedIsUndone =
-    (old new : StoreView) (request : Request) (wanted : Asked) (bytes reply shown : List ℕ) → DoesAndReplies old request wanted bytes reply new
+    (old new : StoreView) (request : Request) (wanted : Asked) (bytes reply shown : List ℕ) → (answered : DoesAndReplies old request wanted bytes reply new)
     → is_forced wanted request ≡ false → reply ≡ simple_reply_bytes Io request.cookie ++ shown
-    → (old.fails ≡ true) × (shown ≡ []) × (store_flat new ≡ store_flat old)
+    → (shown ≡ [])
+    × (((old.fails ≡ true) × (store_flat new ≡ store_flat old)) ⊎ ((answered.result ≡ Err (Disk Failed)) × IsFalse new.disk.drive.unfailing))
 
 -- What is asked of a store that does not fail is answered by its disk: it is done, or refused by a fault of the disk.
 abbrev pub AnsweredByDisk : Type 0
@@ -86,6 +90,12 @@ abbrev pub SessionKeepsMode : Type 0
 SessionKeepsMode =
     (bytes : Streams) (old : Session) (ended : Result (Unit {0}) SessionFault) (new : StoreView) → Serves bytes old ended new
     → (old.store.syncs ≤ new.syncs) × KeepsMode old.store new × (old.store.defers ≡ false → old.store.pending ≡ [] → new.pending ≡ [])
+
+-- Over a device whose Reads may lie, a session after which the drive is clean is one that is right from its first message
+-- to its last.
+abbrev pub ServedWhileClean : Type 0
+ServedWhileClean =
+    (bytes : Streams) (old : Session) (ended : Result (Unit {0}) SessionFault) (new : StoreView) → ServesAs while_clean bytes old ended new → IsTrue new.disk.drive.clean → Serves bytes old ended new
 
 -- ---- a loss of power
 

@@ -2,6 +2,7 @@ pub mod Pending
 pub mod Store
 pub mod Streams
 pub mod Requests
+pub mod Manners
 pub mod Groups
 pub mod Session
 pub mod Turns

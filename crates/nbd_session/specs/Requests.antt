@@ -1,6 +1,6 @@
 -- What a request asks of a disk, and the reply to it.
-use Rattle.std.specs.Prelude.{◌≡◌, ◌⊎◌, ℕ, ◌*◌, ◌/◌, ◌%◌, ◌==◌, ◌&&◌, ◌||◌, nat_lt, not, if◌then◌else◌, Bool, true, false}
-use Rattle.std.specs.Prelude.{List, [], ◌++◌, length, Option, Some, Result, Ok, Err}
+use Rattle.std.specs.Prelude.{◌≡◌, ◌⊎◌, ℕ, ◌<◌, ◌*◌, ◌/◌, ◌%◌, ◌==◌, ◌&&◌, ◌||◌, nat_lt, not, if◌then◌else◌, Bool, true, false}
+use Rattle.std.specs.Prelude.{List, [], ◌++◌, length, Option, Some, Result, Ok, Err, IsTrue, OnOk, ⊤}
 use Rattle.std.specs.List.{concat}
 use Rattle.std.specs.Io.KnownBytes.{Consumes}
 use Rattle.disk_files.specs.Input.{DropsFewer}
@@ -21,7 +21,7 @@ use Rattle.nbd_session.specs.declared.fault.SessionFault.{SessionFault}
 use Rattle.nbd_session.specs.declared.fault.SessionFault.TheVariants.{Input}
 use Rattle.nbd_session.specs.declared.fault.StoreFault.{StoreFault}
 use Rattle.nbd_session.specs.declared.fault.StoreFault.TheVariants.{Disk, Medium}
-use Rattle.nbd_session.specs.Store.{ForcesBlocks, ReadsBlocks, Spares, StoreView, Syncs, Trims, WritesBytes, WritesZeros}
+use Rattle.nbd_session.specs.Store.{ForcesBlocks, ReadsBlocks, Spares, Stays, StaysByCall, StaysBySync, StoreView, Syncs, Trims, WritesBytes, WritesZeros}
 
 -- ---- what is asked
 
@@ -132,21 +132,43 @@ Secures (Read first n) count old result new = ForcesBlocks first n old result ne
 Secures (Trim first n) count old result new = ForcesBlocks first n old result new
 Secures (WriteZeroes first n hole) count old result new = ForcesBlocks first n old result new
 
--- What was done is synced where it has to be durable. A refusal stays, and so does a fault of the medium.
-abbrev pub Forces : Bool → Asked → ℕ → StoreView → Result (Unit {0}) StoreFault → Result (Unit {0}) StoreFault → StoreView → Type 0
-Forces forced wanted count old (Err fault) result new = (result ≡ Err fault) × (new ≡ old)
-Forces true wanted count old (Ok done) result new = Secures wanted count old result new
-Forces false wanted count old (Ok done) result new = (result ≡ Ok tt) × (new ≡ old)
+-- the same over any device: while its drive is clean
+pub record SecuresAnyway (wanted : Asked) (count : ℕ) (old : StoreView) (result : Result (Unit {0}) StoreFault) (new : StoreView) : Type 0 where
+  pub secures : IsTrue new.disk.drive.clean → Secures wanted count old result new
+  pub stays : StaysBySync old result new
 
--- what is asked is done with the data that came with it, and these bytes are shown
+-- What was done is made durable in this way where it has to be. A refusal stays, and so does a fault of the medium.
+abbrev pub ForcesBy : (Result (Unit {0}) StoreFault → StoreView → Type 0) → Bool → StoreView → Result (Unit {0}) StoreFault → Result (Unit {0}) StoreFault → StoreView → Type 0
+ForcesBy Secured forced old (Err fault) result new = (result ≡ Err fault) × (new ≡ old)
+ForcesBy Secured true old (Ok done) result new = Secured result new
+ForcesBy Secured false old (Ok done) result new = (result ≡ Ok tt) × (new ≡ old)
+
+abbrev pub Forces : Bool → Asked → ℕ → StoreView → Result (Unit {0}) StoreFault → Result (Unit {0}) StoreFault → StoreView → Type 0
+Forces forced wanted count old done result new = ForcesBy (Secures wanted count old) forced old done result new
+
+abbrev pub ForcesAnyway : Bool → Asked → ℕ → StoreView → Result (Unit {0}) StoreFault → Result (Unit {0}) StoreFault → StoreView → Type 0
+ForcesAnyway forced wanted count old done result new = ForcesBy (SecuresAnyway wanted count old) forced old done result new
+
+-- what is asked is done, and these bytes are shown
+pub record DoesShowing (old : StoreView) (wanted : Asked) (bytes shown : List ℕ) (result : Result (Unit {0}) StoreFault) (new : StoreView) : Type 0 where
+  pub blocks : List (List ℕ)
+  pub does : DoesOrFails old wanted bytes result blocks new
+  pub shown_is : shown ≡ concat blocks
+
+-- bytes are shown only by a READ that is done
+abbrev pub MayShow : Asked → Result (Unit {0}) StoreFault → List ℕ → Type 0
+MayShow (Read first n) (Ok done) shown = ⊤
+MayShow wanted result shown = shown ≡ []
+
+-- what is asked is done with the data that came with it, and these bytes are shown: while the drive is clean
 pub record DoesWith (left left' : Option (List ℕ)) (old : StoreView) (wanted : Asked) (count : ℕ) (shown : List ℕ)
     (result : Result (Unit {0}) StoreFault) (new : StoreView) : Type 0 where
   pub bytes : List ℕ
   pub count_is : length bytes ≡ count
   pub read : Consumes left left' bytes
-  pub blocks : List (List ℕ)
-  pub does : DoesOrFails old wanted bytes result blocks new
-  pub shown_is : shown ≡ concat blocks
+  pub does : IsTrue new.disk.drive.clean → DoesShowing old wanted bytes shown result new
+  pub shows : MayShow wanted result shown
+  pub stays : StaysByCall old new
 
 -- that, or the data are cut and nothing is done
 abbrev pub DoesOrNot : Option (List ℕ) → Option (List ℕ) → StoreView → Asked → ℕ → List ℕ
@@ -167,6 +189,7 @@ error_past_end wanted = errors.Invalid
 abbrev pub error_of : Asked → DiskFault → ErrorCode
 error_of wanted disk.OutOfRange = error_past_end wanted
 error_of wanted disk.OutOfMemory = errors.NoMemory
+error_of wanted disk.Failed = errors.Io
 error_of wanted disk.Stopped = errors.Shutdown
 error_of wanted disk.Unmounted = errors.Shutdown
 error_of wanted disk.Spent = errors.NoSpace
@@ -194,3 +217,19 @@ pub record DoesAndReplies (old : StoreView) (request : Request) (wanted : Asked)
 abbrev pub AnswersAsked : StoreView → Request → Result Asked ErrorCode → List ℕ → List ℕ → StoreView → Type 0
 AnswersAsked old request (Err error) bytes reply new = (reply ≡ simple_reply_bytes error request.cookie) × (new ≡ old)
 AnswersAsked old request (Ok wanted) bytes reply new = DoesAndReplies old request wanted bytes reply new
+
+-- The same over any device: while the drive is clean. Whatever its Reads returned, the reply has the cookie of the request, and
+-- bytes follow only where a READ is done. What had to be durable is told as done only once a sync was completed.
+pub record RepliesAnyway (old : StoreView) (request : Request) (wanted : Asked) (bytes reply : List ℕ) (new : StoreView) : Type 0 where
+  pub does : IsTrue new.disk.drive.clean → DoesAndReplies old request wanted bytes reply new
+  pub result : Result (Unit {0}) StoreFault
+  pub shown : List ℕ
+  pub reply_is : reply ≡ simple_reply_bytes (code_of wanted result) request.cookie ++ shown
+  pub shows : MayShow wanted result shown
+  pub synced : is_forced wanted request ≡ true → OnOk result (old.syncs < new.syncs)
+  pub unsynced : is_forced wanted request ≡ false → new.syncs ≡ old.syncs
+  pub stays : Stays old new
+
+abbrev pub AnswersAnyway : StoreView → Request → Result Asked ErrorCode → List ℕ → List ℕ → StoreView → Type 0
+AnswersAnyway old request (Err error) bytes reply new = (reply ≡ simple_reply_bytes error request.cookie) × (new ≡ old)
+AnswersAnyway old request (Ok wanted) bytes reply new = RepliesAnyway old request wanted bytes reply new

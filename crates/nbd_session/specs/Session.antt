@@ -11,7 +11,6 @@ use Rattle.nbd_wire.specs.declared.option_kind.OptionKind.{OptionKind}
 use Rattle.nbd_wire.specs.declared.option_kind.OptionKind.TheVariants as options
 use Rattle.nbd_wire.specs.declared.reply_kind.ReplyKind.TheVariants.{Acknowledge, Unsupported, Invalid}
 use Rattle.nbd_wire.specs.declared.request.Request.{Request}
-use Rattle.zone_translator.specs.Flat.{with_nothing}
 use Rattle.zone_translator.specs.View.{disk_size}
 use Rattle.zone_translator.specs.declared.fault.DiskFault.{DiskFault}
 use Rattle.nbd_session.specs.declared.asked.TheConstants.{MOST_BYTES}
@@ -19,9 +18,10 @@ use Rattle.nbd_session.specs.declared.option_answer.OptionAnswer.{OptionAnswer}
 use Rattle.nbd_session.specs.declared.option_answer.OptionAnswer.TheVariants.{Short, Exports, ExportInfo, Name}
 use Rattle.nbd_session.specs.declared.phase.Phase.{Phase}
 use Rattle.nbd_session.specs.declared.phase.Phase.TheVariants as phases
-use Rattle.nbd_session.specs.Requests.{AnswersAsked, asked_of_store, data_length, is_disconnect}
+use Rattle.nbd_session.specs.Manners.{Manner, always}
+use Rattle.nbd_session.specs.Requests.{asked_of_store, data_length, is_disconnect}
 use Rattle.nbd_session.specs.Groups.{Asking, FollowsAll, IsGroup, asking_bytes, data_of, entries_of, member_of, replies_to}
-use Rattle.nbd_session.specs.Store.{Rests, StoreView, WritesList}
+use Rattle.nbd_session.specs.Store.{StoreView}
 use Rattle.nbd_session.specs.Streams.{Streams}
 
 pub record Session : Type 0 where
@@ -79,44 +79,44 @@ pub record ServesOption (old : StoreView) (no_zeroes : Bool) (message reply : Li
 -- ---- requests
 
 -- what follows the reply to a request: the store rests or, if the reply is not passed on, nothing is done
-abbrev pub Follows : Bool → StoreView → StoreView → Type 0
-Follows true old new = Rests old new
-Follows false old new = new ≡ old
+abbrev pub FollowsAs : Manner → Bool → StoreView → StoreView → Type 0
+FollowsAs manner true old new = manner.Rests old new
+FollowsAs manner false old new = new ≡ old
 
 -- a request is answered, and what follows is done
-pub record AnswersAndRests (passes : Bool) (old : StoreView) (request : Request) (bytes reply : List ℕ) (new : StoreView) : Type 0 where
+pub record AnswersAndRests (manner : Manner) (passes : Bool) (old : StoreView) (request : Request) (bytes reply : List ℕ) (new : StoreView) : Type 0 where
   pub answered : StoreView
-  pub answers : AnswersAsked old request (asked_of_store old request) bytes reply answered
-  pub follows : Follows passes answered new
+  pub answers : manner.Asks old request (asked_of_store old request) bytes reply answered
+  pub follows : FollowsAs manner passes answered new
 
 -- Requests that came together are done by one call, and each is answered by its result. The replies are in the order of
 -- the requests. Then the store rests once for each.
-pub record ServesGroup (passes : Bool) (old : StoreView) (message reply : List ℕ) (new : Session) : Type 0 where
+pub record ServesGroup (manner : Manner) (passes : Bool) (old : StoreView) (message reply : List ℕ) (new : Session) : Type 0 where
   pub askings : List Asking
   pub several : 2 ≤ length askings
   pub group : IsGroup old askings
   pub message_is : message ≡ flat_map asking_bytes askings
   pub done : Result (Unit {0}) DiskFault
   pub answered : StoreView
-  pub writes : WritesList old (entries_of askings) (data_of askings) (with_nothing done) answered
+  pub writes : manner.Lists old (entries_of askings) (data_of askings) done answered
   pub reply_is : reply ≡ replies_to done (map member_of askings)
-  pub follows : FollowsAll passes (length askings) answered new.store
+  pub follows : FollowsAll manner passes (length askings) answered new.store
   pub phase_is : new.phase ≡ phases.Transmission
 
 -- a DISC has no reply, and ends the session
-abbrev pub AnswersBy : Bool → StoreView → Bool → Request → List ℕ → List ℕ → Session → Type 0
-AnswersBy passes old true request bytes reply new = (reply ≡ []) × (new ≡ session phases.Ended old)
-AnswersBy passes old false request bytes reply new =
-    (new.phase ≡ phases.Transmission) × AnswersAndRests passes old request bytes reply new.store
+abbrev pub AnswersByAs : Manner → Bool → StoreView → Bool → Request → List ℕ → List ℕ → Session → Type 0
+AnswersByAs manner passes old true request bytes reply new = (reply ≡ []) × (new ≡ session phases.Ended old)
+AnswersByAs manner passes old false request bytes reply new =
+    (new.phase ≡ phases.Transmission) × AnswersAndRests manner passes old request bytes reply new.store
 
 -- a message is the head of a request and its data
-pub record ServesRequest (passes : Bool) (old : StoreView) (message reply : List ℕ) (new : Session) : Type 0 where
+pub record ServesRequestAs (manner : Manner) (passes : Bool) (old : StoreView) (message reply : List ℕ) (new : Session) : Type 0 where
   pub request : Request
   pub fits : FitsRequest request
   pub bytes : List ℕ
   pub message_is : message ≡ request_bytes request ++ bytes
   pub length_is : length bytes ≡ data_length request
-  pub answer : AnswersBy passes old (is_disconnect request) request bytes reply new
+  pub answer : AnswersByAs manner passes old (is_disconnect request) request bytes reply new
 
 -- ---- messages
 
@@ -128,20 +128,20 @@ pub record TakesFlags (old : StoreView) (message reply : List ℕ) (new : Sessio
   pub new_is : new ≡ session (phases.Options flags.no_zeroes) old
 
 -- a message of the transmission is a request or, where those that came together may be answered so, a group of them
-abbrev pub ServesRequests : Bool → Bool → StoreView → List ℕ → List ℕ → Session → Type 0
-ServesRequests true passes old message reply new = ServesRequest passes old message reply new ⊎ ServesGroup passes old message reply new
-ServesRequests false passes old message reply new = ServesRequest passes old message reply new
+abbrev pub ServesRequests : Manner → Bool → Bool → StoreView → List ℕ → List ℕ → Session → Type 0
+ServesRequests manner true passes old message reply new = ServesRequestAs manner passes old message reply new ⊎ ServesGroup manner passes old message reply new
+ServesRequests manner false passes old message reply new = ServesRequestAs manner passes old message reply new
 
 -- A message is answered, and its reply is passed on or not. The greeting answers to none.
-abbrev pub AnswersIn : Bool → Bool → Phase → StoreView → List ℕ → List ℕ → Session → Type 0
-AnswersIn together passes phases.Greeting old message reply new = (message ≡ []) × (reply ≡ greeting) × (new ≡ session phases.Flags old)
-AnswersIn together passes phases.Flags old message reply new = TakesFlags old message reply new
-AnswersIn together passes (phases.Options no_zeroes) old message reply new = ServesOption old no_zeroes message reply new
-AnswersIn together passes phases.Transmission old message reply new = ServesRequests together passes old message reply new
-AnswersIn together passes phases.Ended old message reply new = ⊥
+abbrev pub AnswersInAs : Manner → Bool → Bool → Phase → StoreView → List ℕ → List ℕ → Session → Type 0
+AnswersInAs manner together passes phases.Greeting old message reply new = (message ≡ []) × (reply ≡ greeting) × (new ≡ session phases.Flags old)
+AnswersInAs manner together passes phases.Flags old message reply new = TakesFlags old message reply new
+AnswersInAs manner together passes (phases.Options no_zeroes) old message reply new = ServesOption old no_zeroes message reply new
+AnswersInAs manner together passes phases.Transmission old message reply new = ServesRequests manner together passes old message reply new
+AnswersInAs manner together passes phases.Ended old message reply new = ⊥
 
-abbrev pub AnswersMessage : Bool → Bool → Session → List ℕ → List ℕ → Session → Type 0
-AnswersMessage together passes old message reply new = AnswersIn together passes old.phase old.store message reply new
+abbrev pub AnswersMessageAs : Manner → Bool → Bool → Session → List ℕ → List ℕ → Session → Type 0
+AnswersMessageAs manner together passes old message reply new = AnswersInAs manner together passes old.phase old.store message reply new
 
 -- ---- many messages
 
@@ -151,13 +151,30 @@ pub record Dialogue : Type 0 where
   pub reply : List ℕ
 
 -- messages are answered, one after the other, and each reply is passed on
-abbrev pub AnswersEach : Bool → Session → List Dialogue → Session → Type 0
-AnswersEach together old [] new = new ≡ old
-AnswersEach together old (d ∷ ds) new = (middle : Session) × AnswersMessage together true old d.message d.reply middle × AnswersEach together middle ds new
+abbrev pub AnswersEach : Manner → Bool → Session → List Dialogue → Session → Type 0
+AnswersEach manner together old [] new = new ≡ old
+AnswersEach manner together old (d ∷ ds) new = (middle : Session) × AnswersMessageAs manner together true old d.message d.reply middle × AnswersEach manner together middle ds new
 
 -- the bytes that were read are messages, and those that were written are the replies to them
-pub record Served (together : Bool) (bytes : Streams) (old new : Session) : Type 0 where
+pub record Served (manner : Manner) (together : Bool) (bytes : Streams) (old new : Session) : Type 0 where
   pub dialogues : List Dialogue
   pub read : Consumes bytes.input bytes.rest (flat_map (λ (d : Dialogue). d.message) dialogues)
   pub written : Appends bytes.written bytes.contents (flat_map (λ (d : Dialogue). d.reply) dialogues)
-  pub answered : AnswersEach together old dialogues new
+  pub answered : AnswersEach manner together old dialogues new
+
+-- ---- of a store that does each in any case
+
+abbrev pub Follows : Bool → StoreView → StoreView → Type 0
+Follows passes old new = FollowsAs always passes old new
+
+abbrev pub AnswersBy : Bool → StoreView → Bool → Request → List ℕ → List ℕ → Session → Type 0
+AnswersBy passes old ends request bytes reply new = AnswersByAs always passes old ends request bytes reply new
+
+abbrev pub ServesRequest : Bool → StoreView → List ℕ → List ℕ → Session → Type 0
+ServesRequest passes old message reply new = ServesRequestAs always passes old message reply new
+
+abbrev pub AnswersIn : Bool → Bool → Phase → StoreView → List ℕ → List ℕ → Session → Type 0
+AnswersIn together passes phase old message reply new = AnswersInAs always together passes phase old message reply new
+
+abbrev pub AnswersMessage : Bool → Bool → Session → List ℕ → List ℕ → Session → Type 0
+AnswersMessage together passes old message reply new = AnswersMessageAs always together passes old message reply new

@@ -1,5 +1,5 @@
 -- A disk that is served, what of it a loss of power leaves, and how often it was synced.
-use Rattle.std.specs.Prelude.{◌≡◌, ◌⊎◌, ℕ, zero, suc, ◌+◌, ◌<◌, ◌≤◌, ◌&&◌, ◌||◌, if◌then◌else◌, Bool, true, false, not, List, [], ◌∷◌, length, map, slice_index_or, Contains, Some, None, Result, Ok, Err, IfErr, OnOk}
+use Rattle.std.specs.Prelude.{◌≡◌, ◌⊎◌, ℕ, ◌+◌, ◌<◌, ◌≤◌, ◌&&◌, ◌||◌, if◌then◌else◌, Bool, true, false, not, List, [], ◌∷◌, length, map, slice_index_or, Contains, Some, None, Result, Ok, Err, IfErr, IsTrue, OnOk}
 use Rattle.std.specs.List.{concat}
 use Rattle.batch_log.specs.declared.header.Entry.{Entry}
 use Rattle.drive_port.specs.Durable.{MayBeDurable}
@@ -7,7 +7,7 @@ use Rattle.drive_array.specs.Reserve.{batch_most}
 use Rattle.zone_translator.specs.Answers.{CostsAtMost, Stores, StoresList, TakesTurn, count_of_blocks, list_commands, write_bytes, write_commands, write_entries}
 use Rattle.zone_translator.specs.Flat.{Answer, Call, FlatCall, FlatDisk, IsFront, IsListFront, Put, answer_while, flush, idle, known_range, may_refuse, put_all, read, replaced, status_after, trim, with_nothing, write, write_list}
 use Rattle.zone_translator.specs.Keeping.{KeepsServed}
-use Rattle.zone_translator.specs.View.{CompletesAtMost, DiskCause, DiskView, KeepsDisk, disk_array, disk_turns, flat_of}
+use Rattle.zone_translator.specs.View.{CompletesAtMost, DiskCause, DiskView, KeepsDisk, StaysAlike, disk_array, disk_turns, flat_of}
 use Rattle.zone_translator.specs.declared.fault.DiskFault.{DiskFault}
 use Rattle.nbd_session.specs.Pending.{AreApart, HoldsSome, Pending, overlay, pieces}
 use Rattle.nbd_session.specs.declared.fault.StoreFault.{StoreFault}
@@ -286,7 +286,28 @@ RestsBy false old new = new ≡ old
 abbrev pub Rests : StoreView → StoreView → Type 0
 Rests old new = RestsBy (old.cleans && not old.read_only) old new
 
--- the same after so many requests
-abbrev pub RestsTimes : ℕ → StoreView → StoreView → Type 0
-RestsTimes zero old new = new ≡ old
-RestsTimes (suc n) old new = (middle : StoreView) × RestsTimes n old middle × Rests middle new
+-- ---- whatever the Reads of the drive returned
+
+-- The disk has the same shape and size, and its drive is clean only where it was. The store is read only, cleans, flushes, defers
+-- and fails as before. No sync is forgotten, and nothing is pending that is not deferred.
+pub record Stays (old new : StoreView) : Type 0 where
+  pub disk : StaysAlike old.disk new.disk
+  pub mode : KeepsMode old new
+  pub syncs : old.syncs ≤ new.syncs
+  pub none : old.defers ≡ false → old.pending ≡ [] → new.pending ≡ []
+
+-- a call stays so that is no sync: none is counted
+pub record StaysByCall (old new : StoreView) : Type 0 where
+  pub stays : Stays old new
+  pub syncs : new.syncs ≡ old.syncs
+
+-- and a sync: done, one more is counted
+pub record StaysBySync (old : StoreView) (result : Result (Unit {0}) StoreFault) (new : StoreView) : Type 0 where
+  pub stays : Stays old new
+  pub more : OnOk result (old.syncs < new.syncs)
+
+-- What is done between two requests. A store that takes no turn does nothing.
+pub record RestsAnyway (old new : StoreView) : Type 0 where
+  pub rests : IsTrue new.disk.drive.clean → Rests old new
+  pub stays : StaysByCall old new
+  pub still : (old.cleans && not old.read_only) ≡ false → new ≡ old

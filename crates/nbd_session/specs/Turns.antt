@@ -14,20 +14,21 @@ use Rattle.nbd_session.specs.declared.fault.SessionFault.{SessionFault}
 use Rattle.nbd_session.specs.declared.fault.SessionFault.TheVariants.{Input, Magic, Output, TooMany, Unsent}
 use Rattle.nbd_session.specs.declared.phase.Phase.{Phase}
 use Rattle.nbd_session.specs.declared.phase.Phase.TheVariants as phases
+use Rattle.nbd_session.specs.Manners.{Manner, always, while_clean}
 use Rattle.nbd_session.specs.Requests.{data_length}
-use Rattle.nbd_session.specs.Session.{AnswersEach, AnswersMessage, Dialogue, Served, Session, session}
+use Rattle.nbd_session.specs.Session.{AnswersEach, AnswersMessageAs, Dialogue, Served, Session, session}
 use Rattle.nbd_session.specs.Store.{StoreView}
 use Rattle.nbd_session.specs.Streams.{Streams, streams}
 
 -- ---- one message
 
 -- one message more is answered, and its reply is passed on or not
-pub record AnswersOne (together passes : Bool) (bytes : Streams) (old new : Session) : Type 0 where
+pub record AnswersOne (manner : Manner) (together passes : Bool) (bytes : Streams) (old new : Session) : Type 0 where
   pub message : List ℕ
   pub reply : List ℕ
   pub read : Consumes bytes.input bytes.rest message
   pub written : Appends bytes.written bytes.contents reply
-  pub answers : AnswersMessage together passes old message reply new
+  pub answers : AnswersMessageAs manner together passes old message reply new
 
 -- nothing is read, written or done
 pub record DoesNothing (bytes : Streams) (old : Session) (new : StoreView) : Type 0 where
@@ -80,34 +81,34 @@ pub record ReadsOnly (bytes : Streams) (Holds : List ℕ → Type 0) (old : Sess
   pub new_is : new ≡ old.store
 
 -- a message is answered, and of the reply a beginning is written, not all of it; nothing else is done
-pub record Breaks (together : Bool) (bytes : Streams) (old : Session) (new : StoreView) : Type 0 where
+pub record Breaks (manner : Manner) (together : Bool) (bytes : Streams) (old : Session) (new : StoreView) : Type 0 where
   pub message : List ℕ
   pub reply : List ℕ
   pub phase : Phase
   pub read : Consumes bytes.input bytes.rest message
   pub written : AppendsFront bytes.written bytes.contents reply
-  pub answers : AnswersMessage together false old message reply (session phase new)
+  pub answers : AnswersMessageAs manner together false old message reply (session phase new)
 
 -- a message is answered, and its reply is written, and not passed on; nothing else is done
-pub record AnswersUnsent (together : Bool) (bytes : Streams) (old : Session) (new : StoreView) : Type 0 where
+pub record AnswersUnsent (manner : Manner) (together : Bool) (bytes : Streams) (old : Session) (new : StoreView) : Type 0 where
   pub phase : Phase
-  pub answers : AnswersOne together false bytes old (session phase new)
+  pub answers : AnswersOne manner together false bytes old (session phase new)
 
 -- Why a session stops at a message: the reader failed or ended before all of it was read, its head is foreign, or the writer failed in the reply
 -- or did not pass it on.
-abbrev pub StopsSession : Bool → SessionFault → Streams → Session → StoreView → Type 0
-StopsSession together Input bytes old new = ReadsOnly bytes (IsCutMessage old.phase) old new
-StopsSession together Magic bytes old new = ReadsOnly bytes (IsForeign old.phase) old new
-StopsSession together Output bytes old new = Breaks together bytes old new
-StopsSession together Unsent bytes old new = AnswersUnsent together bytes old new
-StopsSession together TooMany bytes old new = ⊥
+abbrev pub StopsSession : Manner → Bool → SessionFault → Streams → Session → StoreView → Type 0
+StopsSession manner together Input bytes old new = ReadsOnly bytes (IsCutMessage old.phase) old new
+StopsSession manner together Magic bytes old new = ReadsOnly bytes (IsForeign old.phase) old new
+StopsSession manner together Output bytes old new = Breaks manner together bytes old new
+StopsSession manner together Unsent bytes old new = AnswersUnsent manner together bytes old new
+StopsSession manner together TooMany bytes old new = ⊥
 
--- What came of one message, where requests may be answered together or not: a session continues in a phase, is over, or
--- stops.
+-- What came of one message over any device, where requests may be answered together or not: a session continues in a
+-- phase, is over, or stops.
 abbrev pub TurnGives : Bool → Streams → Session → Result (Option Phase) SessionFault → StoreView → Type 0
-TurnGives together bytes old (Ok (Some phase)) new = AnswersOne together true bytes old (session phase new)
+TurnGives together bytes old (Ok (Some phase)) new = AnswersOne while_clean together true bytes old (session phase new)
 TurnGives together bytes old (Ok None) new = DoesNothing bytes old new × IsOver old bytes.rest
-TurnGives together bytes old (Err fault) new = StopsSession together fault bytes old new
+TurnGives together bytes old (Err fault) new = StopsSession while_clean together fault bytes old new
 
 -- ---- what follows the head of a message
 
@@ -140,28 +141,31 @@ ReplyStops TooMany bytes count Answer Nothing = ⊥
 -- ---- a session
 
 -- every message is answered, until the client ends
-pub record RunsToEnd (bytes : Streams) (old : Session) (new : StoreView) : Type 0 where
+pub record RunsToEnd (manner : Manner) (bytes : Streams) (old : Session) (new : StoreView) : Type 0 where
   pub phase : Phase
-  pub served : Served true bytes old (session phase new)
+  pub served : Served manner true bytes old (session phase new)
   pub over : IsOver (session phase new) bytes.rest
 
 -- after that many messages a session stops at the next, or because it has answered as many as it counts
-abbrev pub StopsAfter : Bool → ℕ → SessionFault → Streams → Session → StoreView → Type 0
-StopsAfter together count TooMany bytes old new = (count ≡ 2 ^ 64 - 1) × DoesNothing bytes old new
-StopsAfter together count fault bytes old new = StopsSession together fault bytes old new
+abbrev pub StopsAfter : Manner → Bool → ℕ → SessionFault → Streams → Session → StoreView → Type 0
+StopsAfter manner together count TooMany bytes old new = (count ≡ 2 ^ 64 - 1) × DoesNothing bytes old new
+StopsAfter manner together count fault bytes old new = StopsSession manner together fault bytes old new
 
 -- some messages are answered, and the session stops
-pub record StopsEarly (together : Bool) (bytes : Streams) (old : Session) (fault : SessionFault) (new : StoreView) : Type 0 where
+pub record StopsEarly (manner : Manner) (together : Bool) (bytes : Streams) (old : Session) (fault : SessionFault) (new : StoreView) : Type 0 where
   pub middle : Session
   pub rest : Option (List ℕ)
   pub contents : Option (List ℕ)
-  pub served : Served together (streams bytes.input rest bytes.written contents) old middle
-  pub stops : StopsAfter together (length served.dialogues) fault (streams rest bytes.rest contents bytes.contents) middle new
+  pub served : Served manner together (streams bytes.input rest bytes.written contents) old middle
+  pub stops : StopsAfter manner together (length served.dialogues) fault (streams rest bytes.rest contents bytes.contents) middle new
 
 -- how a session ends
+abbrev pub ServesAs : Manner → Streams → Session → Result (Unit {0}) SessionFault → StoreView → Type 0
+ServesAs manner bytes old (Ok done) new = RunsToEnd manner bytes old new
+ServesAs manner bytes old (Err fault) new = StopsEarly manner true bytes old fault new
+
 abbrev pub Serves : Streams → Session → Result (Unit {0}) SessionFault → StoreView → Type 0
-Serves bytes old (Ok done) new = RunsToEnd bytes old new
-Serves bytes old (Err fault) new = StopsEarly true bytes old fault new
+Serves bytes old result new = ServesAs always bytes old result new
 
 -- ---- a session of at most so many requests
 
@@ -171,27 +175,27 @@ requests_at phases.Transmission = 1
 requests_at phase = 0
 
 -- how many of the messages that were answered are requests, where each is answered by itself
-abbrev pub requests_in : (together : Bool) → (old : Session) → (dialogues : List Dialogue) → (new : Session) → AnswersEach together old dialogues new → ℕ
-requests_in together old [] new answered = 0
-requests_in together old (d ∷ ds) new answered = requests_at old.phase + requests_in together answered.0 ds new answered.2
+abbrev pub requests_in : (manner : Manner) → (together : Bool) → (old : Session) → (dialogues : List Dialogue) → (new : Session) → AnswersEach manner together old dialogues new → ℕ
+requests_in manner together old [] new answered = 0
+requests_in manner together old (d ∷ ds) new answered = requests_at old.phase + requests_in manner together answered.0 ds new answered.2
 
 -- Messages are answered, up to a session that would read one more. With that one there are at most so many requests,
 -- and each is answered by itself.
-pub record RunsWithin (most : Option ℕ) (bytes : Streams) (old new : Session) : Type 0 where
-  pub served : Served (is_none most) bytes old new
-  pub within : IfSome most (λ n. requests_in (is_none most) old served.dialogues new served.answered + requests_at new.phase ≤ n)
+pub record RunsWithin (manner : Manner) (most : Option ℕ) (bytes : Streams) (old new : Session) : Type 0 where
+  pub served : Served manner (is_none most) bytes old new
+  pub within : IfSome most (λ n. requests_in manner (is_none most) old served.dialogues new served.answered + requests_at new.phase ≤ n)
 
 -- the client has gone between two messages, and has not said that it ends
-pub record RunsOut (most : Option ℕ) (bytes : Streams) (old : Session) (new : StoreView) : Type 0 where
+pub record RunsOut (manner : Manner) (most : Option ℕ) (bytes : Streams) (old : Session) (new : StoreView) : Type 0 where
   pub phase : Phase
   pub unsaid : phase ≢ phases.Ended
-  pub runs : RunsWithin most bytes old (session phase new)
+  pub runs : RunsWithin manner most bytes old (session phase new)
   pub at_end : IsAtEnd bytes.rest
 
 -- so many requests are answered, and no more is read
-pub record RunsToLimit (most : ℕ) (bytes : Streams) (old : Session) (new : StoreView) : Type 0 where
-  pub served : Served false bytes old (session phases.Transmission new)
-  pub count_is : requests_in false old served.dialogues (session phases.Transmission new) served.answered ≡ most
+pub record RunsToLimit (manner : Manner) (most : ℕ) (bytes : Streams) (old : Session) (new : StoreView) : Type 0 where
+  pub served : Served manner false bytes old (session phases.Transmission new)
+  pub count_is : requests_in manner false old served.dialogues (session phases.Transmission new) served.answered ≡ most
 
 -- how many requests are read by the message at which a session stops: none, if it only has answered as many as it counts
 abbrev pub requests_stopped : SessionFault → Phase → ℕ
@@ -199,10 +203,10 @@ requests_stopped TooMany phase = 0
 requests_stopped fault phase = requests_at phase
 
 -- a session stops, and has read at most so many requests
-pub record StopsWithin (most : Option ℕ) (bytes : Streams) (old : Session) (fault : SessionFault) (new : StoreView) : Type 0 where
-  pub stops : StopsEarly (is_none most) bytes old fault new
+pub record StopsWithin (manner : Manner) (most : Option ℕ) (bytes : Streams) (old : Session) (fault : SessionFault) (new : StoreView) : Type 0 where
+  pub stops : StopsEarly manner (is_none most) bytes old fault new
   pub within : IfSome most (λ n.
-      requests_in (is_none most) old stops.served.dialogues stops.middle stops.served.answered + requests_stopped fault stops.middle.phase ≤ n)
+      requests_in manner (is_none most) old stops.served.dialogues stops.middle stops.served.answered + requests_stopped fault stops.middle.phase ≤ n)
 
 -- how a session ends in a phase, where no message follows
 abbrev pub end_in : Phase → SessionEnd
@@ -210,8 +214,11 @@ end_in phases.Ended = Disconnected
 end_in phase = InputEnded
 
 -- how a session ends that reads at most so many requests, if a greatest number is given
+abbrev pub ServesAtMostAs : Manner → Option ℕ → Streams → Session → Result SessionEnd SessionFault → StoreView → Type 0
+ServesAtMostAs manner most bytes old (Ok Disconnected) new = RunsWithin manner most bytes old (session phases.Ended new)
+ServesAtMostAs manner most bytes old (Ok InputEnded) new = RunsOut manner most bytes old new
+ServesAtMostAs manner most bytes old (Ok LimitReached) new = IsSomeAnd most (λ most. RunsToLimit manner most bytes old new)
+ServesAtMostAs manner most bytes old (Err fault) new = StopsWithin manner most bytes old fault new
+
 abbrev pub ServesAtMost : Option ℕ → Streams → Session → Result SessionEnd SessionFault → StoreView → Type 0
-ServesAtMost most bytes old (Ok Disconnected) new = RunsWithin most bytes old (session phases.Ended new)
-ServesAtMost most bytes old (Ok InputEnded) new = RunsOut most bytes old new
-ServesAtMost most bytes old (Ok LimitReached) new = IsSomeAnd most (λ most. RunsToLimit most bytes old new)
-ServesAtMost most bytes old (Err fault) new = StopsWithin most bytes old fault new
+ServesAtMost most bytes old result new = ServesAtMostAs always most bytes old result new

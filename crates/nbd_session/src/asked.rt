@@ -112,6 +112,7 @@ fn error_of(wanted: Asked, fault: DiskFault) -> ErrorCode
         (DiskFault::OutOfRange, Asked::WriteZeroes { .. }) => ErrorCode::NoSpace,
         (DiskFault::OutOfRange, _) => ErrorCode::Invalid,
         (DiskFault::OutOfMemory, _) => ErrorCode::NoMemory,
+        (DiskFault::Failed, _) => ErrorCode::Io,
         (DiskFault::Stopped, _) => ErrorCode::Shutdown,
         (DiskFault::Unmounted, _) => ErrorCode::Shutdown,
         (DiskFault::Spent, _) => ErrorCode::NoSpace,

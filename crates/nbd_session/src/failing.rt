@@ -4,7 +4,7 @@ ghost use Rattle.nbd_session.specs.Failing.{failing_of};
 ghost use Rattle.nbd_session.specs.Store.{store_flat};
 
 use crate::fault::StoreFault;
-use crate::store::{Store, is_known};
+use crate::store::{HonestStore, Store, is_known};
 use rand::{RngExt, SeedableRng};
 use rand_xoshiro::SplitMix64;
 use std::marker::Model;
@@ -188,5 +188,11 @@ impl<S: Store + Drop> Store for FailingStore<S> {
 
     fn rest(&mut self) {
         self.store.rest()
+    }
+}
+
+impl<S: HonestStore + Drop> HonestStore for FailingStore<S> {
+    fn vouch(&self) {
+        self.store.vouch();
     }
 }

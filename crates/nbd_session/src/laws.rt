@@ -2,7 +2,7 @@
 
 ghost use Rattle.nbd_session.specs.Laws.{AnsweredByDisk, FailedIsUndone, FlushIsSafe, ForcedIsDurable};
 ghost use Rattle.nbd_session.specs.Laws.{GroupIsItsWrites, LeftIsFound, ReadOnlyKeepsArray, SessionKeepsMode};
-ghost use Rattle.nbd_session.specs.Laws.{SessionKeepsSafe};
+ghost use Rattle.nbd_session.specs.Laws.{ServedWhileClean, SessionKeepsSafe};
 
 /// After a FLUSH that is answered by success the array was synced, and is found again after a loss of power. After a
 /// write with FUA that is so of the blocks that it named and, if nothing is pending, of the whole array.
@@ -16,8 +16,8 @@ pub fn group_is_its_writes()
     ensures { GroupIsItsWrites }
 {}
 
-/// A request that is answered by EIO, and had not to be durable, was not done and shows nothing. Only a store that
-/// fails answers so: what is asked of any other store is answered by its disk.
+/// A request that is answered by EIO, and had not to be durable, shows nothing. It was not done, or its disk refused it,
+/// since the drive failed at a command. What is asked of a store that does not fail is answered by its disk.
 pub fn failed_is_undone()
     ensures undone { FailedIsUndone }
     ensures answered { AnsweredByDisk }
@@ -40,4 +40,9 @@ pub fn loss_is_found()
     ensures flush { FlushIsSafe }
     ensures session { SessionKeepsSafe }
     ensures found { LeftIsFound }
+{}
+
+/// A session over any device, after which the drive is clean, is one of a store that does each thing as it is to be.
+pub fn clean_is_right()
+    ensures { ServedWhileClean }
 {}

@@ -12,7 +12,7 @@
 //!
 //! # What is promised
 //!
-//! Of every reader, every writer and every store:
+//! Of every reader, every writer and every store over a device that is always clean ([`HonestStore`]):
 //!
 //! * What is read is a list of messages, and what is written are the replies to them, in order, starting with the
 //!   greeting (`Served`, `AnswersEach`). The bytes are promised where reader and writer say by contract which bytes
@@ -24,7 +24,7 @@
 //!   within the disk, and not to be durable (`ServesGroup`, `IsGroup`). Each is answered by its result, in their order.
 //!   Done, they leave what their blocks leave one by one (`laws::group_is_its_writes`).
 //! * A refused call has its cause in the drive. After the drive has stopped each request that needs it is answered by
-//!   `ESHUTDOWN`, and the session continues.
+//!   `ESHUTDOWN`. Where the drive failed at one command only what needed it is answered by `EIO`. The session continues.
 //! * A TRIM leaves records without data, and so does a WRITE_ZEROES that may leave a hole. One that may not, and a
 //!   WRITE, leave records with data. Each takes so many commands at most.
 //! * A FLUSH, and a write with FUA, is answered by success only after a completed sync: of the whole array, or of the
@@ -42,7 +42,7 @@
 //! * After each request a store that cleans ([`ServeOptions::cleans`]) takes one turn of cleaning, and after a group one
 //!   for each of its requests. That changes no block, and adds no array that a loss of power may leave. Any other store
 //!   does nothing then.
-//! * Where the medium fails the request is answered by `EIO`. Nothing is done then, and nothing shown, unless the
+//! * Where the medium fails the request is answered by `EIO`, too. Nothing is done then, and nothing shown, unless the
 //!   request was to be durable: then its sync may have failed (`laws::failed_is_undone`). The medium of a
 //!   [`ServedDisk`] fails only in a sync. [`FailingStore`] is a store whose medium fails by chance, for tests.
 //! * The client is told whether a store is read only ([`ServeOptions::read_only`]). If so, a WRITE, a TRIM and a
@@ -57,8 +57,25 @@
 //!   beginning of its reply is written; `TooMany`, 2^64 - 1 messages were answered.
 //! * Whatever comes, the drive has the same geometry, can be mounted again if it could before, and refused no command.
 //!
+//! # Over any device
+//!
+//! [`serve_any`] and [`serve_any_at_most`] serve a [`Store`] over any device. What a request, a group or a rest does is
+//! promised there while the drive is clean, as long as each of its Reads returned what it holds (`while_clean`): so are
+//! all replies before the first Read that lied. If the drive is clean at the end, the session is one of an honest store
+//! (`laws::clean_is_right`). Whatever the Reads returned:
+//!
+//! * What is read is a list of messages, and what is written are the replies to them, in order, or the session ends by a
+//!   fault. A reply has the cookie of its request, and bytes follow only where a READ is done (`RepliesAnyway`).
+//! * What is refused beforehand stays so: a request that is not aligned, and a change of a store that is read only. Requests
+//!   are done together by the same rules (`IsGroup`), and each is answered by the result of all.
+//! * What had to be durable is told as done only after a completed sync. No other call is counted as one, and no count is
+//!   forgotten.
+//! * The disk has the same shape and size. The store is read only, cleans, flushes, defers and fails as before, and nothing
+//!   is pending that is not deferred (`Stays`). A store that takes no turn does nothing between requests.
+//!
 //! # What is not proved
 //!
+//! * How many bytes follow a READ that is done, once a Read lied. `AnyDisk` says it of its own reads.
 //! * That `Input` and `Output` come only if the reader or the writer failed, or `ENOMEM` only if an allocation failed.
 //! * What a medium keeps. With one that keeps each command, what a loss of power leaves says nothing of the medium.
 //! * In how many calls a [`FailingStore`] fails, that it counts them, and that it can spare syncs: `call_tests`.
@@ -99,5 +116,5 @@ pub use medium::{DriveFlush, Medium, SyncCount, WriteThrough};
 pub use option_answer::OptionAnswer;
 pub use phase::Phase;
 pub use served_disk::{ServeOptions, ServedDisk};
-pub use serving::{serve, serve_at_most};
-pub use store::{Store, is_known};
+pub use serving::{serve, serve_any, serve_any_at_most, serve_at_most};
+pub use store::{HonestStore, Store, is_known};

@@ -1,10 +1,10 @@
 ghost use Rattle.std.specs.Prelude.{◌≡◌, [], IfErr, IfOk, OnOk, Ok, false, ⊤};
 ghost use Rattle.std.specs.Io.KnownBytes.{Keeps};
 ghost use Rattle.nbd_wire.specs.Transmission.{simple_reply_bytes};
-ghost use Rattle.nbd_session.specs.Requests.{AnswersAsked, Carries, DoesOrNot, Forces, Secures, asked_of_store};
+ghost use Rattle.nbd_session.specs.Requests.{AnswersAnyway, Carries, DoesOrNot, ForcesAnyway, SecuresAnyway, asked_of_store};
 ghost use Rattle.nbd_session.specs.Requests.{data_length};
 ghost use Rattle.nbd_session.specs.Session.{session};
-ghost use Rattle.nbd_session.specs.Store.{Rests};
+ghost use Rattle.nbd_session.specs.Store.{RestsAnyway};
 ghost use Rattle.nbd_session.specs.Streams.{streams};
 ghost use Rattle.nbd_session.specs.Turns.{Replies, ReplyStops, TurnGives};
 
@@ -43,7 +43,7 @@ impl Buffers {
 
 /// Syncs the blocks that a request named, or after a FLUSH the whole array. So many bytes of data came with a WRITE.
 fn secure<S: Store>(store: &mut S, wanted: Asked, count: u32) -> Result<(), StoreFault>
-    ensures { Secures wanted count (S.view store.old) result (S.view store.new) }
+    ensures { SecuresAnyway wanted count (S.view store.old) result (S.view store.new) }
 {
     match wanted {
         Asked::Flush => store.sync(),
@@ -65,7 +65,7 @@ fn force<S: Store>(
     count: u32,
     done: Result<(), StoreFault>,
 ) -> Result<(), StoreFault>
-    ensures { Forces forced wanted count (S.view store.old) done result (S.view store.new) }
+    ensures { ForcesAnyway forced wanted count (S.view store.old) done result (S.view store.new) }
 {
     match done {
         Err(fault) => Err(fault),
@@ -138,11 +138,11 @@ fn answer_asked<R: Read, W: Write, S: Store>(
     ensures ok { OnOk result (Replies
         (streams (R.remaining reader.old) (R.remaining reader.new) (W.contents writer.old) (W.contents writer.new))
         (data_length request.now)
-        (λ bytes reply. AnswersAsked (S.view store.old) request.now (Ok wanted) bytes reply (S.view store.new))) }
+        (λ bytes reply. AnswersAnyway (S.view store.old) request.now (Ok wanted) bytes reply (S.view store.new))) }
     ensures err { IfErr result (λ fault. ReplyStops fault
         (streams (R.remaining reader.old) (R.remaining reader.new) (W.contents writer.old) (W.contents writer.new))
         (data_length request.now)
-        (λ bytes reply. AnswersAsked (S.view store.old) request.now (Ok wanted) bytes reply (S.view store.new))
+        (λ bytes reply. AnswersAnyway (S.view store.old) request.now (Ok wanted) bytes reply (S.view store.new))
         (S.view store.new ≡ S.view store.old)) }
 {
     let count = data_length(request);
@@ -199,12 +199,12 @@ fn answer_rest<R: Read, W: Write, S: Store>(
     ensures ok { OnOk result (Replies
         (streams (R.remaining reader.old) (R.remaining reader.new) (W.contents writer.old) (W.contents writer.new))
         (data_length request.now)
-        (λ bytes reply. AnswersAsked (S.view store.old) request.now
+        (λ bytes reply. AnswersAnyway (S.view store.old) request.now
         (asked_of_store (S.view store.old) request.now) bytes reply (S.view store.new))) }
     ensures err { IfErr result (λ fault. ReplyStops fault
         (streams (R.remaining reader.old) (R.remaining reader.new) (W.contents writer.old) (W.contents writer.new))
         (data_length request.now)
-        (λ bytes reply. AnswersAsked (S.view store.old) request.now
+        (λ bytes reply. AnswersAnyway (S.view store.old) request.now
         (asked_of_store (S.view store.old) request.now) bytes reply (S.view store.new))
         (S.view store.new ≡ S.view store.old)) }
 {
@@ -236,7 +236,7 @@ fn pass_on<R: Client, W: Write, S: Store>(
     store: &mut S,
 ) -> Result<(), SessionFault>
     ensures written { Keeps (W.contents writer.old) (W.contents writer.new) }
-    ensures rests { OnOk result (Rests (S.view store.old) (S.view store.new)) }
+    ensures rests { OnOk result (RestsAnyway (S.view store.old) (S.view store.new)) }
     ensures err { IfErr result (λ fault. (fault ≡ SessionFault.Unsent) × (S.view store.new ≡ S.view store.old)) }
 {
     pass_replies(reader, writer)?;

@@ -1,15 +1,15 @@
-ghost use Rattle.std.specs.Prelude.{◌≡◌, ◌&&◌, None, false, not, true};
+ghost use Rattle.std.specs.Prelude.{◌≡◌, ◌&&◌, IsTrue, None, false, not, true};
 ghost use Rattle.zone_translator.specs.Flat.{answer_while};
 ghost use Rattle.nbd_session.specs.Served.{store_of};
-ghost use Rattle.nbd_session.specs.Store.{Syncs};
+ghost use Rattle.nbd_session.specs.Store.{StaysBySync, Syncs};
 
 use crate::fault::StoreFault;
 use crate::medium::Medium;
-use crate::store::Store;
+use crate::store::{HonestStore, Store};
 use batch_log::entry_room;
 use drive_port::{Device, Honest};
 use std::marker::Model;
-use zone_translator::{Disk, DiskFault, DiskStatus, Entry};
+use zone_translator::{AnyDisk, Disk, DiskFault, DiskStatus, Entry};
 
 /// What a served disk does for its client.
 #[derive(Clone, Copy, Debug, PartialEq, Eq)]
@@ -32,7 +32,7 @@ impl ServeOptions {
 /// A disk, and the medium that keeps its drive.
 #[derive(Drop)]
 pub struct ServedDisk<D: Device + Drop, M: Medium + Drop> {
-    disk: Disk<D>,
+    disk: AnyDisk<D>,
     medium: M,
     /// Whether a turn of cleaning is taken after each request.
     cleans: bool,
@@ -48,9 +48,19 @@ impl<D: Device + Drop, M: Medium + Drop> Model for ServedDisk<D, M> {
     ghost view = { λ s. record { disk = s.disk; medium = s.medium; read_only = s.read_only; cleans = s.cleans } };
 }
 
-impl<D: Device + Honest + Drop, M: Medium + Drop> ServedDisk<D, M> {
+impl<D: Device + Drop, M: Medium + Drop> ServedDisk<D, M> {
     /// This disk, whose drive this medium keeps.
     pub fn new(disk: Disk<D>, medium: M, options: ServeOptions) -> ServedDisk<D, M>
+        ensures disk { result.disk ≡ disk }
+        ensures medium { result.medium ≡ medium }
+        ensures read_only { result.read_only ≡ options.read_only }
+        ensures cleans { result.cleans ≡ (options.cleans && not options.read_only) }
+    {
+        ServedDisk::over(disk.into_any(), medium, options)
+    }
+
+    /// The same over any device.
+    pub fn over(disk: AnyDisk<D>, medium: M, options: ServeOptions) -> ServedDisk<D, M>
         ensures disk { result.disk ≡ disk }
         ensures medium { result.medium ≡ medium }
         ensures read_only { result.read_only ≡ options.read_only }
@@ -65,7 +75,7 @@ impl<D: Device + Honest + Drop, M: Medium + Drop> ServedDisk<D, M> {
     }
 
     /// The disk, to be looked at.
-    pub fn disk(&self) -> &Disk<D>
+    pub fn disk(&self) -> &AnyDisk<D>
         ensures { result.now ≡ self.now.disk }
     {
         &self.disk
@@ -75,7 +85,8 @@ impl<D: Device + Honest + Drop, M: Medium + Drop> ServedDisk<D, M> {
     fn sync_medium(&mut self) -> Result<(), StoreFault>
         requires serves { answer_while self.old.disk.status ≡ None }
         requires silent { M.flushes self.old.medium ≡ false }
-        ensures { Syncs (store_of M.syncs M.flushes self.old) result (store_of M.syncs M.flushes self.new) }
+        ensures syncs { Syncs (store_of M.syncs M.flushes self.old) result (store_of M.syncs M.flushes self.new) }
+        ensures stays { StaysBySync (store_of M.syncs M.flushes self.old) result (store_of M.syncs M.flushes self.new) }
     {
         if let Err(_fault) = self.medium.sync() {
             return Err(StoreFault::Medium);
@@ -87,7 +98,9 @@ impl<D: Device + Honest + Drop, M: Medium + Drop> ServedDisk<D, M> {
     fn flush(&mut self) -> Result<(), StoreFault>
         requires serves { answer_while self.old.disk.status ≡ None }
         requires flushes { M.flushes self.old.medium ≡ true }
-        ensures { Syncs (store_of M.syncs M.flushes self.old) result (store_of M.syncs M.flushes self.new) }
+        ensures syncs { IsTrue self.new.disk.drive.clean
+            → Syncs (store_of M.syncs M.flushes self.old) result (store_of M.syncs M.flushes self.new) }
+        ensures stays { StaysBySync (store_of M.syncs M.flushes self.old) result (store_of M.syncs M.flushes self.new) }
     {
         if let Err(fault) = self.disk.flush() {
             return Err(StoreFault::Disk(fault));
@@ -103,11 +116,19 @@ impl<D: Device + Honest + Drop, M: Medium + Drop> ServedDisk<D, M> {
         ensures disk { result.0 ≡ self.disk }
         ensures medium { result.1 ≡ self.medium }
     {
+        (Disk::of(self.disk), self.medium)
+    }
+
+    /// The same, the disk over any device.
+    pub fn into_any_parts(self) -> (AnyDisk<D>, M)
+        ensures disk { result.0 ≡ self.disk }
+        ensures medium { result.1 ≡ self.medium }
+    {
         (self.disk, self.medium)
     }
 }
 
-impl<D: Device + Honest + Drop, M: Medium + Drop> Store for ServedDisk<D, M> {
+impl<D: Device + Drop, M: Medium + Drop> Store for ServedDisk<D, M> {
     // Nothing is pending, and the syncs are those of its medium, which fails in no other call.
     ghost view = { λ s. store_of M.syncs M.flushes s };
 
@@ -132,7 +153,10 @@ impl<D: Device + Honest + Drop, M: Medium + Drop> Store for ServedDisk<D, M> {
     }
 
     fn read(&mut self, first: u64, blocks: u64, into: &mut Vec<u8>) -> Result<(), StoreFault> {
-        self.disk.read_joined(first, blocks, into)?;
+        if let Err(fault) = self.disk.read_joined(first, blocks, into) {
+            into.clear();
+            return Err(StoreFault::Disk(fault));
+        }
         Ok(())
     }
 
@@ -183,5 +207,11 @@ impl<D: Device + Honest + Drop, M: Medium + Drop> Store for ServedDisk<D, M> {
         if self.cleans && !self.read_only {
             let _ = self.disk.idle();
         }
+    }
+}
+
+impl<D: Device + Honest + Drop, M: Medium + Drop> HonestStore for ServedDisk<D, M> {
+    fn vouch(&self) {
+        self.disk.device().vouch();
     }
 }

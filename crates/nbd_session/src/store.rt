@@ -1,18 +1,22 @@
-ghost use Rattle.std.specs.Prelude.{◌≡◌, ◌*◌, ◌<◌, ◌≤◌, ◌^◌, [], is_some, length, nat_eq};
+ghost use Rattle.std.specs.Prelude.{◌≡◌, ◌*◌, ◌<◌, ◌≤◌, ◌^◌, [], IsTrue, OnErr, is_some, length, nat_eq};
 ghost use Rattle.std.specs.List.{IsDistinct};
 ghost use Rattle.batch_log.specs.Log.{data_count};
 ghost use Rattle.zone_translator.specs.Answers.{AreBlocksOf, count_of_blocks};
 ghost use Rattle.zone_translator.specs.Flat.{known_range, with_nothing};
 ghost use Rattle.zone_translator.specs.Listed.{blocks_named};
 ghost use Rattle.zone_translator.specs.View.{disk_size};
-ghost use Rattle.nbd_session.specs.Store.{ForcesBlocks, OrFails, Rests, Shows, Spares, StoreView, Syncs, Trims};
-ghost use Rattle.nbd_session.specs.Store.{WritesBytes, WritesList, WritesZeros, most_listed, store_array, store_flat};
+ghost use Rattle.nbd_session.specs.Store.{ForcesBlocks, OrFails, RestsAnyway, Shows, Spares, StaysByCall, StaysBySync};
+ghost use Rattle.nbd_session.specs.Store.{StoreView, Syncs, Trims, WritesBytes, WritesList, WritesZeros, most_listed};
+ghost use Rattle.nbd_session.specs.Store.{store_array, store_flat};
 
 use crate::fault::StoreFault;
 use zone_translator::{DiskFault, DiskStatus, Entry};
 
-/// A disk that can be synced. Blocks that were written may be pending above it until they are. If the medium failed in
-/// a read, a write or a trim, nothing was done.
+/// A disk that can be synced, over any device. Blocks that were written may be pending above it until they are. If the
+/// medium failed in a read, a write or a trim, nothing was done.
+///
+/// What a call does is promised while the drive is clean: as long as each of its Reads returned what the drive holds.
+/// Whatever they returned, the store stays what it is, and counts its syncs.
 pub trait Store {
     /// The disk, the blocks that are pending above it, the arrays that a loss of power may leave, and how many syncs
     /// were completed.
@@ -27,7 +31,8 @@ pub trait Store {
     fn blocks(&self) -> u64
         ensures size { result ≡ disk_size (view self.now).disk }
         ensures few { result * (view self.now).disk.drive.geometry.block < 2 ^ 64 }
-        ensures array { (view self.now).disk.status ≡ DiskStatus.Serving → length (store_array (view self.now)) ≡ result };
+        ensures array { IsTrue (view self.now).disk.drive.clean → (view self.now).disk.status ≡ DiskStatus.Serving
+            → length (store_array (view self.now)) ≡ result };
 
     /// Whether the disk serves calls, has answered `Stopped`, or has refused a remount.
     fn status(&self) -> DiskStatus
@@ -39,16 +44,19 @@ pub trait Store {
 
     /// Shows `blocks` blocks from `first` on. `into` is empty after a fault.
     fn read(&mut self, first: u64, blocks: u64, into: &mut Vec<u8>) -> Result<(), StoreFault>
-        ensures { OrFails
+        ensures shows { IsTrue (view self.new).disk.drive.clean → OrFails
             (λ answer. Shows (view self.old) first blocks answer into.new.items (view self.new))
-            ((into.new.items ≡ []) × Spares (view self.old) first blocks (view self.new)) result };
+            ((into.new.items ≡ []) × Spares (view self.old) first blocks (view self.new)) result }
+        ensures none { OnErr result (into.new.items ≡ []) }
+        ensures stays { StaysByCall (view self.old) (view self.new) };
 
     /// Writes whole blocks from `first` on. After a refusal of the disk a front of them may be written.
     fn write(&mut self, first: u64, bytes: &[u8]) -> Result<(), StoreFault>
         requires { AreBlocksOf (view self.old).disk bytes.now }
-        ensures { OrFails
+        ensures writes { IsTrue (view self.new).disk.drive.clean → OrFails
             (λ answer. WritesBytes (view self.old) first bytes.now (with_nothing answer) (view self.new))
-            (Spares (view self.old) first (count_of_blocks (view self.old).disk bytes.now) (view self.new)) result };
+            (Spares (view self.old) first (count_of_blocks (view self.old).disk bytes.now) (view self.new)) result }
+        ensures stays { StaysByCall (view self.old) (view self.new) };
 
     /// How many blocks a list may name: as many as one batch. A store that defers, or whose medium may fail in any call,
     /// takes no list.
@@ -61,33 +69,46 @@ pub trait Store {
         requires distinct { IsDistinct nat_eq (blocks_named entries.now) }
         requires whole { length bytes.now ≡ data_count entries.now * (view self.old).disk.drive.geometry.block }
         requires few { length entries.now ≤ most_listed (view self.old) }
-        ensures { WritesList (view self.old) entries.now bytes.now (with_nothing result) (view self.new) };
+        ensures writes { IsTrue (view self.new).disk.drive.clean
+            → WritesList (view self.old) entries.now bytes.now (with_nothing result) (view self.new) }
+        ensures stays { StaysByCall (view self.old) (view self.new) };
 
     /// Makes `blocks` blocks from `first` on zeros. That is recorded, and their data take no room.
     fn trim(&mut self, first: u64, blocks: u64) -> Result<(), StoreFault>
-        ensures { OrFails
+        ensures trims { IsTrue (view self.new).disk.drive.clean → OrFails
             (λ answer. Trims (view self.old) first blocks (with_nothing answer) (view self.new))
-            (Spares (view self.old) first blocks (view self.new)) result };
+            (Spares (view self.old) first blocks (view self.new)) result }
+        ensures stays { StaysByCall (view self.old) (view self.new) };
 
     /// Writes `blocks` blocks of zeros from `first` on. They take room, as other data do.
     fn write_zeroes(&mut self, first: u64, blocks: u64) -> Result<(), StoreFault>
-        ensures { OrFails
+        ensures writes { IsTrue (view self.new).disk.drive.clean → OrFails
             (λ answer. WritesZeros (view self.old) first blocks (with_nothing answer) (view self.new))
-            (Spares (view self.old) first blocks (view self.new)) result };
+            (Spares (view self.old) first blocks (view self.new)) result }
+        ensures stays { StaysByCall (view self.old) (view self.new) };
 
     /// Makes the array durable: after a loss of power it is found again. Then nothing is pending.
     fn sync(&mut self) -> Result<(), StoreFault>
-        ensures { Syncs (view self.old) result (view self.new) };
+        ensures syncs { IsTrue (view self.new).disk.drive.clean → Syncs (view self.old) result (view self.new) }
+        ensures stays { StaysBySync (view self.old) result (view self.new) };
 
     /// Makes `blocks` blocks from `first` on durable: after a loss of power they are found again. So a write with FUA
     /// does. Other blocks may stay pending.
     fn force(&mut self, first: u64, blocks: u64) -> Result<(), StoreFault>
-        ensures { ForcesBlocks first blocks (view self.old) result (view self.new) };
+        ensures forces { IsTrue (view self.new).disk.drive.clean → ForcesBlocks first blocks (view self.old) result (view self.new) }
+        ensures stays { StaysBySync (view self.old) result (view self.new) };
 
     /// What a store does once a request is answered, while its client does not wait: a turn of cleaning, if it cleans
     /// and is not read only. The array stays.
     fn rest(&mut self)
-        ensures { Rests (view self.old) (view self.new) };
+        ensures { RestsAnyway (view self.old) (view self.new) };
+}
+
+/// A store over a device that is always clean. What is promised while a drive is clean is promised of it.
+pub trait HonestStore: Store {
+    /// Does nothing: for the fact.
+    fn vouch(&self)
+        ensures { IsTrue (Self.Store.view self.now).disk.drive.clean };
 }
 
 /// Whether the answer to a call of these blocks is known before anything is done: it names no block or one past the

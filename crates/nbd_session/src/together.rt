@@ -7,7 +7,8 @@ ghost use Rattle.batch_log.specs.Log.{data_count};
 ghost use Rattle.disk_files.specs.Output.{AppendsFront};
 ghost use Rattle.zone_translator.specs.Listed.{blocks_named};
 ghost use Rattle.nbd_session.specs.Groups.{GroupGives, IsGathered, TakesGroup, replies_to, told};
-ghost use Rattle.nbd_session.specs.Store.{RestsTimes, most_listed};
+ghost use Rattle.nbd_session.specs.Manners.{RestsTimes, while_clean};
+ghost use Rattle.nbd_session.specs.Store.{most_listed};
 
 use crate::client::Client;
 use crate::fault::{SessionFault, StoreFault};
@@ -83,7 +84,7 @@ fn send_replies<W: Write>(
 
 /// Lets the store rest so many times.
 fn rest_times<S: Store>(store: &mut S, times: usize)
-    ensures { RestsTimes times (S.view store.old) (S.view store.new) }
+    ensures { RestsTimes while_clean times (S.view store.old) (S.view store.new) }
 {
     for _time in 0..times {
         store.rest();

@@ -9,7 +9,7 @@ use Rattle.nvme_wire.specs.declared.status.Status.TheVariants.{Success}
 use Rattle.zone_states.specs.Zone.{Zone}
 use Rattle.zone_states.specs.declared.geometry.Geometry.{Geometry}
 use Rattle.drive_port.specs.declared.device.Halt.{Halt}
-use Rattle.drive_port.specs.declared.device.Halt.TheVariants.{Memory, Stopped}
+use Rattle.drive_port.specs.declared.device.Halt.TheVariants.{Memory, Failed, Stopped}
 use Rattle.drive_port.specs.Drive.{DriveState}
 use Rattle.drive_port.specs.Durable.{Hardens}
 use Rattle.drive_port.specs.Halting.{Adds}
@@ -48,6 +48,7 @@ pub sent-err : (geometry : Geometry) (old new : List Zone) (slba : ℕ) (action 
     → Asks geometry old (Send slba action false) [] result [] new → IfErr result (λ halt. HaltsSo halt geometry old (Ok (Send slba action all)) bytes new)
 sent-err geometry old new slba action all bytes (Ok value) one asks = tt
 sent-err geometry old new slba action all bytes (Err Memory) one asks = asks
+sent-err geometry old new slba action all bytes (Err Failed) one asks = asks
 sent-err geometry old new slba action all bytes (Err Stopped) one asks = rw one (left-bare geometry old new slba action bytes asks)
 
 -- an entry that holds no command is refused, and changes nothing
@@ -85,6 +86,7 @@ performs-counted old middle new command bytes returned status value clean others
       length_is = refl;
       trusted = λ after. clean;
       fair = λ before same. ap (λ (d : DriveState). d.clean) whole ∙ clean;
+      unfailing = ap (λ (d : DriveState). d.unfailing) whole;
       geometry = ap (λ (d : DriveState). d.geometry) whole;
       completed = ap (λ (d : DriveState). d.completed) whole;
       refused = ap (λ (d : DriveState). d.refused) whole;

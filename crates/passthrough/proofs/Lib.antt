@@ -1,4 +1,5 @@
 mod AskLaws
+mod FailingLaws
 mod FirstLaws
 mod FlushLaws
 mod KeptLaws

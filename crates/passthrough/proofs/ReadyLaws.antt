@@ -151,6 +151,12 @@ query-left geometry old new command bytes query left =
 
 -- ---- after a closing
 
+-- a way still leads to the drive
+pub leads-after : (geometry shape next_shape : Geometry) (old new : List Zone) → Leads geometry shape old → next_shape ≡ shape → AreLawful next_shape new → Leads geometry next_shape new
+leads-after geometry shape next_shape old new leads same lawful =
+    let is = same ∙ leads.shape_is in
+    record { shape_is = is; in_range = leads.in_range; lawful = rw is at lawful }
+
 -- a drive is served as before
 pub ready-closing : (geometry shape next_shape : Geometry) (old new : List Zone) (seen : List SeenZone) → IsReady geometry shape old seen
     → Leads geometry next_shape new → IsClosing old new → IsReady geometry next_shape new seen

@@ -96,7 +96,7 @@ may-be geometry number zone seen bytes state is shown = record {
       (pointer-where state (number * geometry.size) (unwrap_or seen.written 0) (length zone.blocks) (count-seen zone seen state is shown.same) ∙ e);
 }
 
-start-of : (size number : ℕ) → 0 < size → number * size / size ≡ number
+pub start-of : (size number : ℕ) → 0 < size → number * size / size ≡ number
 start-of size number some = mul-div_cancel number some
 
 -- so the whole report may be believed
@@ -125,7 +125,7 @@ state_of-code Full = refl
 state_of-code Offline = refl
 
 -- a code is of one state
-code-injective : (a b : ZoneState) → state_code a ≡ state_code b → a ≡ b
+pub code-injective : (a b : ZoneState) → state_code a ≡ state_code b → a ≡ b
 code-injective a b e = some-injective (sym (state_of-code a) ∙ ap state_of e ∙ state_of-code b)
   where
     some-injective : {x y : ZoneState} → Some x ≡ Some y → x ≡ y

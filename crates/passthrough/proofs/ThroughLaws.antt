@@ -1,5 +1,5 @@
 -- What a device's answer to a command says of a way to it.
-use Rattle.std.proofs.Common.{◌≡◌, ℕ, zero, suc, ◌^◌, ◌*◌, ◌<◌, ◌≤◌, ◌∙◌, Bool, true, false, IsTrue, not, ◌||◌, List, length, Result, Ok, refl, sym, ap, arith, inl, inr}
+use Rattle.std.proofs.Common.{◌≡◌, ℕ, zero, suc, ◌^◌, ◌*◌, ◌<◌, ◌≤◌, ◌∙◌, Bool, true, false, IsTrue, not, ◌||◌, List, length, None, Result, Ok, refl, sym, ap, arith, inl, inr}
 use Rattle.std.proofs.lemmas.Bool.{leb-false}
 use Rattle.nvme_wire.specs.Completion.{IsEncodable, completion_bytes}
 use Rattle.nvme_wire.specs.Entry.{decode_of, id_of}
@@ -12,13 +12,13 @@ use Rattle.nvme_wire.specs.declared.status.Status.TheVariants.{Success}
 use Rattle.zone_states.specs.declared.geometry.Geometry.{Geometry}
 use Rattle.zone_states.specs.Zone.{Zone}
 use Rattle.drive_port.specs.declared.device.Halt.{Halt}
-use Rattle.drive_port.specs.declared.device.Halt.TheVariants.{Memory, Stopped}
+use Rattle.drive_port.specs.declared.device.Halt.TheVariants.{Memory, Failed, Stopped}
 use Rattle.drive_port.specs.Drive.{DriveState, IsLawful}
 use Rattle.drive_port.specs.Halting.{Halts, LeftBy}
 use Rattle.drive_port.specs.Step.{Completes, Effect, end_of, is_read, is_told}
 use Rattle.drive_port.proofs.ClosingLaws.{IsClosing-refl}
 use Rattle.drive_port.proofs.StepLaws.{outcome-passes, succeeded}
-use Rattle.passthrough.specs.Premise.{Answers, IsDone, IsSent, Reports}
+use Rattle.passthrough.specs.Premise.{Answers, IsDone, IsSent, Recalls, Reports}
 use Rattle.passthrough.proofs.ShowLaws.{reports}
 
 -- ---- no success
@@ -27,6 +27,7 @@ use Rattle.passthrough.proofs.ShowLaws.{reports}
 pub halted-left : (old new : DriveState) (command : Result Command DecodeFault) (bytes : List ℕ) (halt : Halt)
     → Halts old command bytes halt new → LeftBy old.geometry old.zones command bytes new.zones
 halted-left old new command bytes Memory halts = rw halts.1 (inl (IsClosing-refl old.zones))
+halted-left old new command bytes Failed halts = inl halts.closing
 halted-left old new command bytes Stopped halts = halts.left
 
 -- what is answered where nothing is told
@@ -109,3 +110,32 @@ success-answers old new command bytes value size end returned room lawful sent l
       believed = λ e agrees. success-done old new command end bytes value room lawful (rw long sent) filled;
       left = inr (inl (record { status = Success; value = value; returned = room; effect = filled }));
     }
+
+-- ---- after a command that failed
+
+-- where nothing is told, nothing is believed
+pub silent-recalls : (geometry : Geometry) (old new : List Zone) (command : Command) (status : ℕ) (room : List ℕ) → 1 ≤ status
+    → Recalls geometry old None command status room new None
+silent-recalls geometry old new Flush status room bad = tt
+silent-recalls geometry old new (Read slba blocks) status room bad = tt
+silent-recalls geometry old new (Write slba blocks) status room bad = tt
+silent-recalls geometry old new (Append zslba blocks) status room bad = λ error. tt
+silent-recalls geometry old new (Send slba action all) status room bad = λ error. tt
+silent-recalls geometry old new (Receive slba dwords options partial) status room bad = λ done shows. absurd (omega (arith, done, bad))
+
+done-recalls : (geometry : Geometry) (old new : List Zone) (command : Command) (bytes : List ℕ) (value : ℕ) (room : List ℕ) → IsDone geometry old command bytes value room new
+    → Recalls geometry old None command 0 room new None
+done-recalls geometry old new Flush bytes value room done = tt
+done-recalls geometry old new (Read slba blocks) bytes value room done = tt
+done-recalls geometry old new (Write slba blocks) bytes value room done = tt
+done-recalls geometry old new (Append zslba blocks) bytes value room done = λ error. tt
+done-recalls geometry old new (Send slba action all) bytes value room done = λ error. tt
+done-recalls geometry old new (Receive slba dwords options partial) bytes value room done = λ told shows. done
+
+-- and what is told is what is there
+pub success-recalls : (old new : DriveState) (command : Command) (bytes : List ℕ) (value size end : ℕ) (returned room : List ℕ) → IsLawful old
+    → IsSent old.geometry old.zones command bytes end size → length room ≡ size → room ≡ returned → Effect old.geometry old.zones (Ok command) bytes Success value returned new.zones
+    → Recalls old.geometry old.zones None command 0 room new.zones None
+success-recalls old new command bytes value size end returned room lawful sent long same effect =
+    let filled : Effect old.geometry old.zones (Ok command) bytes Success value room new.zones = rw same effect in
+    done-recalls old.geometry old.zones new.zones command bytes value room (success-done old new command end bytes value room lawful (rw long sent) filled)

@@ -8,8 +8,8 @@ use Rattle.zone_states.specs.declared.geometry.Geometry.{Geometry}
 use Rattle.zone_states.specs.Geometry.{IsInRange}
 use Rattle.zone_states.specs.Zone.{Zone}
 use Rattle.drive_port.specs.declared.device.Halt.{Halt}
-use Rattle.drive_port.specs.declared.device.Halt.TheVariants.{Memory, Stopped}
-use Rattle.drive_port.specs.Drive.{DriveState}
+use Rattle.drive_port.specs.declared.device.Halt.TheVariants.{Memory, Failed, Stopped}
+use Rattle.drive_port.specs.Drive.{DriveState, IsClosing}
 use Rattle.drive_port.specs.Halting.{LeftBy}
 use Rattle.drive_port.specs.Step.{Effect, is_append, is_success, one_if}
 use Rattle.passthrough.specs.Premise.{AreLawful}
@@ -27,9 +27,11 @@ pub record IsReady (geometry shape : Geometry) (zones : List Zone) (seen : List 
   pub leads : Leads geometry shape zones
   pub are : AreSeen zones seen
 
--- what is left where memory was missing before the command was sent, or where the drive is not believed any more
+-- what is left where memory was missing before the command was sent, where the drive failed at it, or where the drive is
+-- not believed any more
 abbrev pub HaltsSo : Halt → Geometry → List Zone → Result Command DecodeFault → List ℕ → List Zone → Type 0
 HaltsSo Memory geometry old command bytes new = new ≡ old
+HaltsSo Failed geometry old command bytes new = IsClosing old new
 HaltsSo Stopped geometry old command bytes new = LeftBy geometry old command bytes new
 
 -- a command was completed with this value, or is not believed to be

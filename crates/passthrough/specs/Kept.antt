@@ -1,5 +1,5 @@
 -- What a way that reads ahead keeps, and which commands do not change it.
-use Rattle.std.specs.Prelude.{◌≡◌, ◌≢◌, ℕ, ◌+◌, ◌*◌, ◌/◌, ◌%◌, ◌≤◌, Bool, true, false, List, length, take, None}
+use Rattle.std.specs.Prelude.{◌≡◌, ◌≢◌, ℕ, ◌+◌, ◌*◌, ◌/◌, ◌%◌, ◌≤◌, Bool, true, false, List, length, take, Option, None}
 use Rattle.nvme_wire.specs.declared.zone_state.ZoneState.TheVariants.{Offline}
 use Rattle.nvme_wire.specs.declared.command.Command.{Command}
 use Rattle.nvme_wire.specs.declared.command.Command.TheVariants.{Write, Append, Send}
@@ -13,6 +13,7 @@ pub record WayState : Type 0 where
   pub shape : Geometry
   pub zones : List Zone
   pub flushed : Bool
+  pub before : Option (List Zone)
 
 -- ---- what is kept
 

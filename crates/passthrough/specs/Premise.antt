@@ -2,8 +2,9 @@
 --
 -- In words: what a Read returns is believed. A Success was done, if the address of an Append is the zone's pointer, and a
 -- report shows the zones that are there. Any other answer, or none, says only that the zones are left as by a stop inside the
--- command.
-use Rattle.std.specs.Prelude.{◌≡◌, ◌⊎◌, ℕ, ◌+◌, ◌*◌, ◌/◌, ◌%◌, ◌<◌, ◌≤◌, Bool, true, false, List, [], length, take, drop, slice_index, Option, Some, Ok}
+-- command. But if an Append or an action is answered by an error, and the next report shows the zones as they were before it,
+-- that report is believed, too.
+use Rattle.std.specs.Prelude.{◌≡◌, ◌⊎◌, ℕ, ◌+◌, ◌*◌, ◌/◌, ◌%◌, ◌^◌, ◌<◌, ◌≤◌, Bool, true, false, List, [], length, take, drop, slice_index, Option, None, Some, Ok}
 use Rattle.std.specs.List.{AllByRecursion}
 use Rattle.byteorder.specs.Endian.{little_from}
 use Rattle.nvme_wire.specs.Descriptor.{state_code}
@@ -206,3 +207,28 @@ pub record Answers (geometry : Geometry) (old : List Zone) (command : Command) (
     (new : List Zone) : Type 0 where
   pub believed : status ≡ 0 → Agrees geometry old command value room → IsDone geometry old command bytes value room new
   pub left : LeftBy geometry old (Ok command) bytes new
+
+-- ---- a command that failed
+
+-- the drive answered by an error: a status has 11 bits, and what stands for no answer is no status
+pub record IsError (status : ℕ) : Type 0 where
+  pub some : 1 ≤ status
+  pub told : status < 2 ^ 11
+
+-- zones count as those before the command: where none are said, any do
+abbrev pub WereBefore : Option (List Zone) → List Zone → Type 0
+WereBefore None zones = Unit {0}
+WereBefore (Some before) zones = zones ≡ before
+
+-- a report shows the zones as they were before the command
+abbrev pub ShowsBefore : Geometry → Option (List Zone) → ℕ → List ℕ → Type 0
+ShowsBefore geometry before address report = (zones : List Zone) × WereBefore before zones × MayShow geometry zones address report
+
+-- After an Append or an action that is answered by an error the zones before it count as such. A report that comes next, and
+-- succeeds, is believed if it shows these.
+abbrev pub Recalls : Geometry → List Zone → Option (List Zone) → Command → ℕ → List ℕ → List Zone → Option (List Zone) → Type 0
+Recalls geometry old before (Append zslba blocks) status room new next = IsError status → WereBefore next old
+Recalls geometry old before (Send slba action all) status room new next = IsError status → WereBefore next old
+Recalls geometry old before (Receive slba dwords options partial) status room new next =
+    status ≡ 0 → ShowsBefore geometry before slba room → Reports geometry old slba room new
+Recalls geometry old before command status room new next = Unit {0}

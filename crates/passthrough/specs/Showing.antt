@@ -6,10 +6,10 @@ use Rattle.zone_states.specs.declared.geometry.Geometry.{Geometry}
 use Rattle.zone_states.specs.Zone.{Zone}
 use Rattle.zone_report.specs.declared.status.ZoneStatus.{ZoneStatus}
 use Rattle.zone_report.specs.Report.{descriptor_of, pointer_of, zone_status}
-use Rattle.drive_port.specs.Drive.{ClosesOne}
+use Rattle.drive_port.specs.Drive.{ClosesOne, IsClosing}
 use Rattle.drive_port.specs.Step.{zone_at}
 use Rattle.passthrough.specs.Premise.{capacity_in, descriptor_in, pointer_in, start_in, state_in, type_in}
-use Rattle.passthrough.specs.Seen.{IsState, is_due, seen_at}
+use Rattle.passthrough.specs.Seen.{IsState, has_pointer, is_due, seen_at}
 use Rattle.passthrough.specs.declared.seen_zone.SeenZone.{SeenZone}
 
 -- a descriptor shows this state of a zone that was seen, and its pointer
@@ -80,3 +80,17 @@ pub record FlushLooked (geometry : Geometry) (old : List Zone) (before after : L
   pub looked : (number : ℕ) → number < geometry.zones → is_due (seen_at before number) ≡ true
       → LookedLike geometry number (zone_at old number) (seen_at after number) (zone_at new number)
   pub unchanged : (number : ℕ) → (seen_at after number).changed ≡ false
+
+-- ---- after a command that failed
+
+-- a zone is in a state that was seen, and written as far, if it has a pointer there
+pub record IsAsSeen (zone : Zone) (seen : SeenZone) : Type 0 where
+  pub state : IsState seen.state zone.state
+  pub written : has_pointer zone.state ≡ true → length zone.blocks ≡ unwrap_or seen.written 0
+
+-- it was so at some moment between two others
+pub record WasAsSeen (number : ℕ) (old : List Zone) (seen : SeenZone) (new : List Zone) : Type 0 where
+  pub middle : List Zone
+  pub before : IsClosing old middle
+  pub like : IsAsSeen (zone_at middle number) seen
+  pub after : IsClosing middle new

@@ -1,12 +1,13 @@
 // Actions on one zone: Close, Finish and Reset.
 
-ghost use Rattle.std.specs.Prelude.{◌≡◌, [], false, IfErr, List, OnOk, length, true};
+ghost use Rattle.std.specs.Prelude.{◌≡◌, ◌≢◌, [], Err, false, List, length, true};
 ghost use Rattle.zone_states.specs.Geometry.{IsInRange};
 ghost use Rattle.zone_states.specs.Zone.{Zone};
 ghost use Rattle.passthrough.specs.Asking.{Asks, IsReady, Leads};
 ghost use Rattle.passthrough.specs.Premise.{IsSentAction};
 ghost use Rattle.passthrough.specs.Seen.{AreSeen};
 
+use crate::failing::failure;
 use crate::flushing::flush_before;
 use crate::looking::look;
 use crate::passthrough::Passthrough;
@@ -28,7 +29,8 @@ fn may_act(geometry: Geometry, seen: &[SeenZone], slba: u64, action: Action) -> 
     geometry.start_of(number) == slba && zone_at(seen, u64::from(number)).admits(action)
 }
 
-/// Closes, finishes or resets the zone that starts at an address. A Flush is sent before a Reset where it is needed.
+/// Closes, finishes or resets the zone that starts at an address. A Flush is sent before a Reset where it is needed. If the
+/// drive answers the action by an error, a report has to show that it was not done: then it failed.
 pub(crate) fn act<P: Passthrough>(
     way: &mut P,
     geometry: Geometry,
@@ -40,9 +42,8 @@ pub(crate) fn act<P: Passthrough>(
     requires ready { IsReady geometry (P.shape way.old) (P.zones way.old) seen.old }
     requires known { unflushed.old ≡ false → P.flushed way.old ≡ true }
     ensures asks { Asks geometry (P.zones way.old) (Command.Send slba action false) [] result [] (P.zones way.new) }
-    ensures ready { OnOk result (IsReady geometry (P.shape way.new) (P.zones way.new) seen.new) }
+    ensures ready { result ≢ Err Halt.Stopped → IsReady geometry (P.shape way.new) (P.zones way.new) seen.new }
     ensures leads { Leads geometry (P.shape way.new) (P.zones way.new) }
-    ensures err { IfErr result (λ halt. halt ≡ Halt.Stopped) }
     ensures known { unflushed.new ≡ false → P.flushed way.new ≡ true }
 {
     if !may_act(geometry, seen, slba, action) {
@@ -57,12 +58,14 @@ pub(crate) fn act<P: Passthrough>(
         all: false,
     };
     let mut value = 0;
-    if way.submit(&command, &[], 0, &mut [], &mut value) != 0 {
-        return Err(Halt::Stopped);
+    let status = way.submit(&command, &[], 0, &mut [], &mut value);
+    let number = geometry.zone_of(slba);
+    if status != 0 {
+        return Err(failure(way, geometry, seen, number, status));
     }
-    let number = slba / u64::from(geometry.size);
-    let zone = zone_at(seen, number).acted(action);
-    set_zone(seen, number, zone);
+    let index = u64::from(number);
+    let zone = zone_at(seen, index).acted(action);
+    set_zone(seen, index, zone);
     Ok(0)
 }
 
@@ -78,9 +81,8 @@ pub(crate) fn act_seen<P: Passthrough>(
     requires ready { IsReady geometry (P.shape way.old) (P.zones way.old) seen.old }
     requires known { unflushed.old ≡ false → P.flushed way.old ≡ true }
     ensures asks { Asks geometry (P.zones way.old) (Command.Send slba action false) [] result [] (P.zones way.new) }
-    ensures ready { OnOk result (IsReady geometry (P.shape way.new) (P.zones way.new) seen.new) }
+    ensures ready { result ≢ Err Halt.Stopped → IsReady geometry (P.shape way.new) (P.zones way.new) seen.new }
     ensures leads { Leads geometry (P.shape way.new) (P.zones way.new) }
-    ensures err { IfErr result (λ halt. halt ≡ Halt.Stopped) }
     ensures known { unflushed.new ≡ false → P.flushed way.new ≡ true }
 {
     let value = act(way, geometry, seen, unflushed, slba, action)?;

@@ -1,6 +1,6 @@
 // Appends.
 
-ghost use Rattle.std.specs.Prelude.{◌≡◌, ◌*◌, ◌≤◌, [], IfErr, IfSome, List, OnOk, Some, length, true};
+ghost use Rattle.std.specs.Prelude.{◌≡◌, ◌≢◌, ◌*◌, ◌≤◌, [], Err, IfSome, List, Some, length, true};
 ghost use Rattle.nvme_wire.specs.Entry.{IsAdmitted};
 ghost use Rattle.zone_states.specs.Geometry.{IsInRange};
 ghost use Rattle.zone_states.specs.Zone.{Zone};
@@ -8,6 +8,7 @@ ghost use Rattle.passthrough.specs.Asking.{Asks, IsReady, Leads};
 ghost use Rattle.passthrough.specs.Premise.{IsSentAppend, pointer_at};
 ghost use Rattle.passthrough.specs.Seen.{AreSeen};
 
+use crate::failing::failure;
 use crate::passthrough::Passthrough;
 use crate::seen_zone::SeenZone;
 use crate::table::{set_zone, zone_at};
@@ -48,7 +49,8 @@ fn awaited(
     Some(next)
 }
 
-/// Appends blocks to the zone that starts at an address. Only the address at which the zone is written next is believed.
+/// Appends blocks to the zone that starts at an address. Only the address at which the zone is written next is believed. If
+/// the drive answers by an error, a report has to show that nothing was written: then the Append failed.
 pub(crate) fn append<P: Passthrough>(
     way: &mut P,
     geometry: Geometry,
@@ -60,9 +62,8 @@ pub(crate) fn append<P: Passthrough>(
     requires ready { IsReady geometry (P.shape way.old) (P.zones way.old) seen.old }
     requires admitted { IsAdmitted (Command.Append zslba blocks) }
     ensures asks { Asks geometry (P.zones way.old) (Command.Append zslba blocks) bytes.now result [] (P.zones way.new) }
-    ensures ready { OnOk result (IsReady geometry (P.shape way.new) (P.zones way.new) seen.new) }
+    ensures ready { result ≢ Err Halt.Stopped → IsReady geometry (P.shape way.new) (P.zones way.new) seen.new }
     ensures leads { Leads geometry (P.shape way.new) (P.zones way.new) }
-    ensures err { IfErr result (λ halt. halt ≡ Halt.Stopped) }
 {
     let Some(next) = awaited(geometry, seen, zslba, blocks, bytes) else {
         return Err(Halt::Stopped);
@@ -75,11 +76,15 @@ pub(crate) fn append<P: Passthrough>(
         &mut [],
         &mut value,
     );
-    if status != 0 || value != next {
+    let number = geometry.zone_of(zslba);
+    if status != 0 {
+        return Err(failure(way, geometry, seen, number, status));
+    }
+    if value != next {
         return Err(Halt::Stopped);
     }
-    let number = zslba / u64::from(geometry.size);
-    let zone = zone_at(seen, number).appended(geometry, blocks);
-    set_zone(seen, number, zone);
+    let index = u64::from(number);
+    let zone = zone_at(seen, index).appended(geometry, blocks);
+    set_zone(seen, index, zone);
     Ok(value)
 }

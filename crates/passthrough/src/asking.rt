@@ -4,7 +4,7 @@ ghost use Rattle.std.specs.Prelude.{◌≡◌, ◌≢◌, [], Err, IfErr, IfOk, 
 ghost use Rattle.nvme_wire.specs.Entry.{IsAdmitted};
 ghost use Rattle.nvme_wire.specs.declared.status.Status.TheVariants.{Success};
 ghost use Rattle.drive_port.specs.Halting.{Adds};
-ghost use Rattle.drive_port.specs.Step.{Effect};
+ghost use Rattle.drive_port.specs.Step.{Effect, is_read};
 ghost use Rattle.passthrough.specs.Asking.{HaltsSo, IsReady, Leads};
 ghost use Rattle.passthrough.specs.Showing.{FlushLooked};
 
@@ -38,6 +38,7 @@ pub(crate) fn ask<P: Passthrough>(
         (Ok command.now) bytes.now Success value returned (P.zones way.new)) into.new.items) }
     ensures err { IfErr result (λ halt. HaltsSo halt geometry (P.zones way.old) (Ok command.now) bytes.now
         (P.zones way.new)) }
+    ensures reads { is_read (Ok command.now) ≡ true → result ≢ Err Halt.Stopped }
     ensures ready { result ≢ Err Halt.Stopped → IsReady geometry (P.shape way.new) (P.zones way.new) seen.new }
     ensures leads { Leads geometry (P.shape way.new) (P.zones way.new) }
     ensures kept { OnErr result (into.new.items ≡ into.old.items) }

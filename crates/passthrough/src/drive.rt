@@ -1,13 +1,13 @@
 // The device.
 
-ghost use Rattle.std.specs.Prelude.{◌≡◌, ◌≤◌, [], Ok, Some, false, true, IfErr, IfOk, OnErr, OnOk};
+ghost use Rattle.std.specs.Prelude.{◌≡◌, ◌≢◌, ◌≤◌, [], Err, Ok, Some, false, true, IfErr, IfOk, OnErr, OnOk};
 ghost use Rattle.nvme_wire.specs.declared.status.Status.TheVariants.{Success};
 ghost use Rattle.nvme_wire.specs.Entry.{decode_of};
 ghost use Rattle.zone_states.specs.Checks.{first_failing};
 ghost use Rattle.zone_states.specs.Geometry.{geometry_checks};
 ghost use Rattle.drive_port.specs.Drive.{IsClosing, IsLawful};
-ghost use Rattle.drive_port.specs.Halting.{Adds, Halts, SubmitAdds};
-ghost use Rattle.drive_port.specs.Step.{Effect, decode_status};
+ghost use Rattle.drive_port.specs.Halting.{Adds, Halts, SubmitAdds, SubmitGives};
+ghost use Rattle.drive_port.specs.Step.{Effect, decode_status, is_read};
 ghost use Rattle.passthrough.specs.Asking.{counted};
 ghost use Rattle.passthrough.specs.Seen.{AreSeen};
 
@@ -22,7 +22,9 @@ use std::marker::Model;
 use zone_states::GeometryFault;
 
 /// A drive behind a way that takes single commands. It takes the commands that a disk sends, and believes of their
-/// answers only what agrees with all that was seen before. After anything else it has stopped.
+/// answers only what agrees with all that was seen before. A command that had no effect has failed, and the next one may
+/// succeed: a Read that the drive did not do, or an Append after which a report shows the zone as before. At anything else
+/// that does not agree it stops.
 #[derive(Drop)]
 pub struct PassthroughDrive<P: Passthrough + Drop> {
     alloc: Global,
@@ -38,10 +40,12 @@ pub struct PassthroughDrive<P: Passthrough + Drop> {
     /// How many of them are Appends that succeeded.
     appended: u64,
     stopped: bool,
+    /// Whether a command failed.
+    failed: bool,
 }
 
 impl<P: Passthrough + Drop> Model for PassthroughDrive<P> {
-    ghost use Rattle.std.specs.Prelude.{◌≡◌, ◌≤◌, ◌^◌, [], false, true};
+    ghost use Rattle.std.specs.Prelude.{◌≡◌, ◌≤◌, ◌^◌, [], false, not, true};
     ghost use Rattle.drive_port.specs.Drive.{DriveState};
     ghost use Rattle.passthrough.specs.Asking.{Leads};
     ghost use Rattle.passthrough.specs.Seen.{AreSeen};
@@ -57,6 +61,7 @@ impl<P: Passthrough + Drop> Model for PassthroughDrive<P> {
       appended = d.appended;
       stopped = d.stopped;
       clean = true;
+      unfailing = not d.failed;
     } };
 
     // While the drive is served, what was seen of its zones is true.
@@ -105,6 +110,7 @@ impl<P: Passthrough + Drop> PassthroughDrive<P> {
           appended = 0;
           stopped = false;
           clean = true;
+          unfailing = true;
         }) }
     {
         let geometry = way.geometry();
@@ -119,6 +125,7 @@ impl<P: Passthrough + Drop> PassthroughDrive<P> {
             refused: 0,
             appended: 0,
             stopped: false,
+            failed: false,
         })
     }
 
@@ -146,7 +153,7 @@ impl<P: Passthrough + Drop> PassthroughDrive<P> {
         }
         match read(&mut self.way, self.geometry, &self.seen, slba, blocks, into) {
             Ok(_) => Ok(true),
-            Err(Halt::Stopped) => Ok(false),
+            Err(Halt::Failed | Halt::Stopped) => Ok(false),
             Err(Halt::Memory) => Err(Halt::Memory),
         }
     }
@@ -161,6 +168,7 @@ impl<P: Passthrough + Drop> PassthroughDrive<P> {
         ensures lawful { IsLawful self.new }
         ensures err { IfErr result (λ halt.
             Halts self.old (decode_of entry.now) bytes.now halt self.new) }
+        ensures reads { is_read (decode_of entry.now) ≡ true → result ≢ Err Halt.Stopped }
         ensures kept { OnErr result (into.new.items ≡ into.old.items) }
     {
         let geometry = self.geometry;
@@ -189,6 +197,10 @@ impl<P: Passthrough + Drop> PassthroughDrive<P> {
                 value,
             }),
             Err(Halt::Memory) => Err(Halt::Memory),
+            Err(Halt::Failed) => {
+                self.failed = true;
+                Err(Halt::Failed)
+            }
             Err(Halt::Stopped) => {
                 self.stopped = true;
                 Err(Halt::Stopped)
@@ -215,7 +227,7 @@ impl<P: Passthrough + Drop> PassthroughDrive<P> {
         }
     }
 
-    /// Answers an entry as `submit_extending` does, with data.
+    /// Answers an entry as `submit_extending` does, with data. No Read stops the device.
     fn answer(
         &mut self,
         entry: &[u8; 64],
@@ -224,6 +236,7 @@ impl<P: Passthrough + Drop> PassthroughDrive<P> {
     ) -> Result<[u8; 16], Halt>
         ensures gives { SubmitAdds self.old entry.now bytes.now into.old.items result
             into.new.items self.new }
+        ensures reads { is_read (decode_of entry.now) ≡ true → self.old.stopped ≡ false → result ≢ Err Halt.Stopped }
         ensures was_lawful { IsLawful self.old }
         ensures lawful { IsLawful self.new }
     {
@@ -261,12 +274,22 @@ impl<P: Passthrough + Drop> Device for PassthroughDrive<P> {
         entry: &[u8; 64],
         bytes: &[u8],
         into: &mut Vec<u8>,
-    ) -> Result<[u8; 16], Halt> {
+    ) -> Result<[u8; 16], Halt>
+        ensures gives { SubmitGives self.old entry.now bytes.now result into.new.items self.new }
+        ensures reads { is_read (decode_of entry.now) ≡ true → self.old.stopped ≡ false → result ≢ Err Halt.Stopped }
+        ensures was_lawful { IsLawful self.old }
+        ensures lawful { IsLawful self.new }
+    {
         into.clear();
         self.answer(entry, bytes, into)
     }
 
-    fn submit_extending(&mut self, entry: &[u8; 64], into: &mut Vec<u8>) -> Result<[u8; 16], Halt> {
+    fn submit_extending(&mut self, entry: &[u8; 64], into: &mut Vec<u8>) -> Result<[u8; 16], Halt>
+        ensures gives { SubmitAdds self.old entry.now [] into.old.items result into.new.items self.new }
+        ensures reads { is_read (decode_of entry.now) ≡ true → self.old.stopped ≡ false → result ≢ Err Halt.Stopped }
+        ensures was_lawful { IsLawful self.old }
+        ensures lawful { IsLawful self.new }
+    {
         self.answer(entry, &[], into)
     }
 }

@@ -100,10 +100,10 @@ fn look_at_stretch<P: Passthrough>(
     requires room { 64 + 64 * count ≤ length room.old }
     requires few { 64 + 64 * count ≤ geometry.transfer * geometry.block }
     ensures seen { OnOk result (DueWereSeen first count geometry (P.zones way.old) seen.old seen.new (P.zones way.new)) }
-    ensures ready { OnOk result (IsReady geometry (P.shape way.new) (P.zones way.new) seen.new) }
+    ensures ready { result ≢ Err Halt.Stopped → IsReady geometry (P.shape way.new) (P.zones way.new) seen.new }
     ensures closes { IsClosing (P.zones way.old) (P.zones way.new) }
     ensures leads { Leads geometry (P.shape way.new) (P.zones way.new) }
-    ensures err { IfErr result (λ halt. halt ≡ Halt.Stopped) }
+    ensures err { IfErr result (λ halt. halt ≢ Halt.Memory) }
     ensures flushed { P.flushed way.old ≡ true → P.flushed way.new ≡ true }
 {
     let (from, some) = due_stretch(seen, first, count);
@@ -127,10 +127,10 @@ fn look_at_due<P: Passthrough>(
     requires few { 64 + 64 * most ≤ geometry.transfer * geometry.block }
     requires room { length room.old ≡ 64 + 64 * most }
     ensures seen { OnOk result (DueWereSeen 0 geometry.zones geometry (P.zones way.old) seen.old seen.new (P.zones way.new)) }
-    ensures ready { OnOk result (IsReady geometry (P.shape way.new) (P.zones way.new) seen.new) }
+    ensures ready { result ≢ Err Halt.Stopped → IsReady geometry (P.shape way.new) (P.zones way.new) seen.new }
     ensures closes { IsClosing (P.zones way.old) (P.zones way.new) }
     ensures leads { Leads geometry (P.shape way.new) (P.zones way.new) }
-    ensures err { IfErr result (λ halt. halt ≡ Halt.Stopped) }
+    ensures err { IfErr result (λ halt. halt ≢ Halt.Memory) }
     ensures flushed { P.flushed way.old ≡ true → P.flushed way.new ≡ true }
 {
     let mut first = 0;

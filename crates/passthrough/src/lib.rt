@@ -11,7 +11,9 @@
 //! A [`Passthrough`] is such a way. Its contract is all that is known of the drive (`specs/Premise.antt`). What a Read
 //! returns is believed. A Success was done, if the address of an Append is the zone's pointer, and a report shows the
 //! zones that are there. Any other answer, or none, says only that the zones are left as by a stop inside the command.
-//! After a Flush that succeeds all that was appended is flushed, until the next Append.
+//! But if an Append or an action is answered by an error, and the next report shows its zone as it was before, that
+//! report is believed: the command had no effect. After a Flush that succeeds all that was appended is flushed, until the
+//! next Append.
 //!
 //! [`PassthroughDrive`] makes a device of a way. [`ReadAhead`] is a way above a way. [`Through`] is a way to any
 //! device, so the contract of a way can be met, and all of this can be tried over a drive in memory.
@@ -33,10 +35,17 @@
 //!   seen of each zone (`specs/Seen.antt`), and that table is true as long as the device has not stopped.
 //! * What a first report shows of each zone is true of the zones that it shows ([`zones_shown`]); or the report has
 //!   another length, or a descriptor of another zone.
-//! * It stops for ever at an answer that is not Success, at an Append with another address than the table says, and at
-//!   a report with a zone in another state, at another pointer, or of another shape (`specs/Showing.antt`). Then it
-//!   sends nothing.
-//! * [`PassthroughDrive::try_read`] goes on after a Read that the drive refused. A rescue reads so.
+//! * A Read that is not answered by Success is `Failed`, and so is a report: they change nothing, and the device goes on.
+//!   By contract no Read stops it.
+//! * If an Append, a Close, a Finish or a Reset is answered by an error status, the device asks for one report of its
+//!   zone. If that shows the zone in the state and at the pointer that the table says, the command is `Failed`: it had no
+//!   effect, and the device goes on. Else the device stops.
+//! * It stops for ever at a Flush that is not answered by Success, at an Append or an action that is not answered at all,
+//!   at an Append with another address than the table says, and at a report with a zone in another state, at another
+//!   pointer, or of another shape (`specs/Showing.antt`). Then it sends nothing.
+//! * It counts the entries that were completed, and nothing that it sends by itself: no report after a command or a
+//!   Flush, and no Flush before a Reset.
+//! * [`PassthroughDrive::try_read`] tells whether the drive returned the blocks. A rescue reads so.
 //! * It sends only what the contract of a way asks for: Reads of written blocks, Appends and actions that fit the
 //!   table, and reports of no more than one transfer. A block that is not written is zeros, whatever the drive says.
 //! * A Flush looks before it is answered. Once the drive has done it, the device asks for a report of each zone that is
@@ -68,6 +77,8 @@
 //!
 //! * That the device asks for a report of a zone after a Finish and a Reset, and how many commands are sent with
 //!   [`ReadAhead`]: `call_tests` counts them.
+//! * That the device goes on wherever it could: by contract it may stop at any command but a Read. `call_tests` shows
+//!   where it goes on.
 //! * Which fault of a first report is named.
 //! * That [`PassthroughDrive::try_read`] tells a Read as not done only if the drive did not do it.
 //! * A Flush that a drive refused, and that a way told as done, is refused by no contract: a drive of this profile has
@@ -87,6 +98,7 @@ mod acting;
 mod appending;
 mod asking;
 mod drive;
+mod failing;
 mod first_report;
 mod flushing;
 mod identify_fault;

@@ -1,6 +1,6 @@
 // Reports of some zones, and what is seen by them.
 
-ghost use Rattle.std.specs.Prelude.{◌≡◌, ◌+◌, ◌*◌, ◌≤◌, IfErr, OnOk, length, true};
+ghost use Rattle.std.specs.Prelude.{◌≡◌, ◌≢◌, ◌+◌, ◌*◌, ◌≤◌, Err, IfErr, OnOk, length, true};
 ghost use Rattle.nvme_wire.specs.Descriptor.{state_of};
 ghost use Rattle.drive_port.specs.Drive.{IsClosing};
 ghost use Rattle.passthrough.specs.Asking.{IsReady, Leads};
@@ -26,7 +26,13 @@ pub(crate) fn descriptor(report: &[u8], i: u32) -> [u8; 64]
 }
 
 /// Whether the descriptors of a report show the zones that were seen, from a first one on.
-fn agrees(geometry: Geometry, first: u32, count: u32, seen: &[SeenZone], report: &[u8]) -> bool
+pub(crate) fn agrees(
+    geometry: Geometry,
+    first: u32,
+    count: u32,
+    seen: &[SeenZone],
+    report: &[u8],
+) -> bool
     requires room { length report.now ≡ 64 + 64 * count }
     requires few { first + count ≤ geometry.zones }
     ensures { result ≡ true → AreShown geometry first seen.now report.now count }
@@ -64,7 +70,8 @@ fn see(first: u32, count: u32, seen: &mut [SeenZone], report: &[u8])
     }
 }
 
-/// Asks for a report of some zones, and sees what it shows. It is believed only if it agrees with what was seen before.
+/// Asks for a report of some zones, and sees what it shows. It is believed only if it agrees with what was seen before. A
+/// report that is not answered by Success has no effect: what was seen stays true.
 pub(crate) fn look<P: Passthrough>(
     way: &mut P,
     geometry: Geometry,
@@ -79,10 +86,10 @@ pub(crate) fn look<P: Passthrough>(
     requires room { length room.old ≡ 64 + 64 * count }
     requires few { 64 + 64 * count ≤ geometry.transfer * geometry.block }
     ensures seen { OnOk result (WereSeen first count geometry (P.zones way.old) seen.old seen.new (P.zones way.new)) }
-    ensures ready { OnOk result (IsReady geometry (P.shape way.new) (P.zones way.new) seen.new) }
+    ensures ready { result ≢ Err Halt.Stopped → IsReady geometry (P.shape way.new) (P.zones way.new) seen.new }
     ensures closes { IsClosing (P.zones way.old) (P.zones way.new) }
     ensures leads { Leads geometry (P.shape way.new) (P.zones way.new) }
-    ensures err { IfErr result (λ halt. halt ≡ Halt.Stopped) }
+    ensures err { IfErr result (λ halt. halt ≢ Halt.Memory) }
     ensures flushed { P.flushed way.old ≡ true → P.flushed way.new ≡ true }
 {
     let command = Command::Receive {
@@ -92,8 +99,10 @@ pub(crate) fn look<P: Passthrough>(
         partial: true,
     };
     let mut value = 0;
-    let status = way.submit(&command, &[], 0, room, &mut value);
-    if status != 0 || !agrees(geometry, first, count, seen, room) {
+    if way.submit(&command, &[], 0, room, &mut value) != 0 {
+        return Err(Halt::Failed);
+    }
+    if !agrees(geometry, first, count, seen, room) {
         return Err(Halt::Stopped);
     }
     see(first, count, seen, room);

@@ -3,7 +3,7 @@ ghost use Rattle.nvme_wire.specs.Entry.{IsAdmitted};
 ghost use Rattle.nvme_wire.specs.declared.status.Status.TheVariants.{Success};
 ghost use Rattle.drive_port.specs.Drive.{IsClosing};
 ghost use Rattle.drive_port.specs.Step.{Effect};
-ghost use Rattle.passthrough.specs.Premise.{Answers, AreLawful, IsSafe, IsSent, IsSentRead, KeepsFlushed};
+ghost use Rattle.passthrough.specs.Premise.{Answers, AreLawful, IsSafe, IsSent, IsSentRead, KeepsFlushed, Recalls};
 ghost use Rattle.passthrough.specs.Kept.{AreKept, CanFill};
 
 use crate::kept::Kept;
@@ -67,6 +67,8 @@ fn pass<P: Passthrough>(
     ensures answers { Answers (P.shape way.old) (P.zones way.old) command.now bytes.now
         result value.new room.new (P.zones way.new) }
     ensures flushed { KeepsFlushed command.now result (P.flushed way.old) (P.flushed way.new) }
+    ensures recalls { Recalls (P.shape way.old) (P.zones way.old) (P.before way.old) command.now
+        result room.new (P.zones way.new) (P.before way.new) }
     ensures shape { P.shape way.new ≡ P.shape way.old }
     ensures lawful { AreLawful (P.shape way.new) (P.zones way.new) }
     ensures kept { AreKept (P.shape way.old) (P.zones way.new) kept.new }
@@ -175,6 +177,7 @@ impl<P: Passthrough + Drop> Model for ReadAhead<P> {
       shape = P.shape r.way;
       zones = P.zones r.way;
       flushed = P.flushed r.way;
+      before = P.before r.way;
     } };
 
     ghost invariant = { λ r. AreLawful (P.shape r.way) (P.zones r.way)
@@ -188,6 +191,7 @@ impl<P: Passthrough + Drop> ReadAhead<P> {
           shape = P.shape way;
           zones = P.zones way;
           flushed = P.flushed way;
+          before = P.before way;
         } }
     {
         let kept = Kept::new(alloc, way.geometry());
@@ -217,6 +221,8 @@ impl<P: Passthrough + Drop> Passthrough for ReadAhead<P> {
     ghost zones = { λ r. r.zones };
 
     ghost flushed = { λ r. r.flushed };
+
+    ghost before = { λ r. r.before };
 
     fn geometry(&self) -> Geometry {
         self.way.geometry()

@@ -1,6 +1,6 @@
 // Reads. The drive is asked only for blocks that are written: all others are zeros.
 
-ghost use Rattle.std.specs.Prelude.{◌≡◌, ◌+◌, ◌*◌, ◌%◌, ◌<◌, ◌≤◌, [], IfErr, IfOk, IfSome, List, Ok, OnErr, length, replicate, true};
+ghost use Rattle.std.specs.Prelude.{◌≡◌, ◌≢◌, ◌+◌, ◌*◌, ◌%◌, ◌<◌, ◌≤◌, [], Err, IfErr, IfOk, IfSome, List, Ok, OnErr, length, replicate, true};
 ghost use Rattle.zone_states.specs.Geometry.{IsInRange};
 ghost use Rattle.zone_states.specs.Zone.{Zone};
 ghost use Rattle.drive_port.specs.Drive.{IsClosing};
@@ -101,7 +101,7 @@ fn read_room<P: Passthrough>(
     }
 }
 
-/// Reads blocks, and puts their bytes after those that `into` holds.
+/// Reads blocks, and puts their bytes after those that `into` holds. A Read has no effect, so none stops the device.
 pub(crate) fn read<P: Passthrough>(
     way: &mut P,
     geometry: Geometry,
@@ -118,6 +118,7 @@ pub(crate) fn read<P: Passthrough>(
     ensures err { IfErr result (λ halt. (halt ≡ Halt.Memory → P.zones way.new ≡ P.zones way.old)
         × IsClosing (P.zones way.old) (P.zones way.new)) }
     ensures closes { IsClosing (P.zones way.old) (P.zones way.new) }
+    ensures going { result ≢ Err Halt.Stopped }
     ensures ready { IsReady geometry (P.shape way.new) (P.zones way.new) seen.now }
     ensures kept { OnErr result (into.new.items ≡ into.old.items) }
     ensures flushed { P.flushed way.old ≡ true → P.flushed way.new ≡ true }
@@ -134,6 +135,6 @@ pub(crate) fn read<P: Passthrough>(
         Ok(0)
     } else {
         into.truncate(held);
-        Err(Halt::Stopped)
+        Err(Halt::Failed)
     }
 }

@@ -69,10 +69,10 @@ fn look_at_all<P: Passthrough>(
     requires few { 64 + 64 * most ≤ geometry.transfer * geometry.block }
     requires room { length room.old ≡ 64 + 64 * most }
     ensures seen { OnOk result (WereSeen 0 geometry.zones geometry (P.zones way.old) seen.old seen.new (P.zones way.new)) }
-    ensures ready { OnOk result (IsReady geometry (P.shape way.new) (P.zones way.new) seen.new) }
+    ensures ready { result ≢ Err Halt.Stopped → IsReady geometry (P.shape way.new) (P.zones way.new) seen.new }
     ensures closes { IsClosing (P.zones way.old) (P.zones way.new) }
     ensures leads { Leads geometry (P.shape way.new) (P.zones way.new) }
-    ensures err { IfErr result (λ halt. halt ≡ Halt.Stopped) }
+    ensures err { IfErr result (λ halt. halt ≢ Halt.Memory) }
     ensures flushed { P.flushed way.old ≡ true → P.flushed way.new ≡ true }
 {
     let mut first = 0;

@@ -56,7 +56,7 @@ impl<D: Device + Honest + Drop> Through<D> {
 }
 
 impl<D: Device + Honest + Drop> Passthrough for Through<D> {
-    ghost use Rattle.std.specs.Prelude.{true};
+    ghost use Rattle.std.specs.Prelude.{None, true};
 
     ghost shape = { λ drive. drive.geometry };
 
@@ -64,6 +64,9 @@ impl<D: Device + Honest + Drop> Passthrough for Through<D> {
 
     // What becomes of the device in a loss of power is not asked.
     ghost flushed = { λ drive. true };
+
+    // Each report shows what is there.
+    ghost before = { λ drive. None };
 
     fn geometry(&self) -> Geometry {
         self.device.geometry()

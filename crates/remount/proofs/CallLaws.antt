@@ -156,7 +156,8 @@ pub record Halted (new : DriveState) (fault : PortFault) : Type 0 where
 pub has-halted : {V : Type 0} (old new : DriveState) (fault : PortFault) → IsNotRefused {V = V} (Err fault) → Obeys {V = V} old (Err fault) new → Halted new fault
 has-halted {V} old new (port.Refused status) passed obeys = absurd passed
 has-halted {V} old new port.Memory passed obeys = record { halt = tt; cause = inl refl }
-has-halted {V} old new port.Stopped passed obeys = record { halt = tt; cause = inr (inl (refl, obeys.stops refl)) }
+has-halted {V} old new port.Failed passed obeys = record { halt = tt; cause = inr (inl (inr (refl, (obeys.fails refl).0))) }
+has-halted {V} old new port.Stopped passed obeys = record { halt = tt; cause = inr (inl (inl (refl, obeys.stops refl))) }
 
 -- where a zone starts
 pub record StartsAt (drive : DriveState) (zone start : ℕ) : Type 0 where
@@ -370,6 +371,7 @@ can-close drive zone start reported known opened is =
 pub close-halts : (old new : DriveState) (start : ℕ) (fault : PortFault) → SameContents old new → CloseLeaves {V = Unit {0}} old start (Err fault) new → Obeys {V = Unit {0}} old (Err fault) new → IsNotRefused {V = Unit {0}} (Err fault) → KeepsShut old new
 close-halts old new start (port.Refused status) same leaves obeys passed = absurd passed
 close-halts old new start port.Memory same leaves obeys passed = record { geometry = same.geometry; contents_are = same.contents; lawful = obeys.lawful; refused = ap (λ (d : DriveState). d.refused) leaves; durable = ap (λ (d : DriveState). d.durable) leaves; opens = close-opens {V = Unit {0}} old new start (Err port.Memory) leaves; trusted = obeys.trusted }
+close-halts old new start port.Failed same leaves obeys passed = record { geometry = same.geometry; contents_are = same.contents; lawful = obeys.lawful; refused = (obeys.fails refl).1.refused; durable = obeys.durable; opens = close-opens {V = Unit {0}} old new start (Err port.Failed) leaves; trusted = obeys.trusted }
 close-halts old new start port.Stopped same leaves obeys passed = record { geometry = same.geometry; contents_are = same.contents; lawful = obeys.lawful; refused = (obeys.counts refl).refused; durable = obeys.durable; opens = close-opens {V = Unit {0}} old new start (Err port.Stopped) leaves; trusted = obeys.trusted }
 
 -- a Close that succeeds keeps the contents and opens no zone

@@ -17,7 +17,7 @@ use Rattle.drive_array.specs.ZoneLogs.{HasLog, drive_logs, readable, zone_log, z
 use Rattle.drive_array.specs.Spare.{cleared}
 use Rattle.drive_array.proofs.AllLaws.{all-at}
 use Rattle.drive_survey.specs.declared.fault.MountFault.{MountFault}
-use Rattle.drive_survey.specs.declared.fault.MountFault.TheVariants.{Reserve, Limits, ZoneUnusable, Log, SequenceRepeated, BlockOutOfRange, TooManyPartial, NoSpare, Spent, Halted, OutOfMemory, TornZone, Damaged}
+use Rattle.drive_survey.specs.declared.fault.MountFault.TheVariants.{Reserve, Limits, ZoneUnusable, Log, SequenceRepeated, BlockOutOfRange, TooManyPartial, NoSpare, Spent, Halted, OutOfMemory, TornZone, Damaged, Failed}
 use Rattle.remount.specs.Mount.{CannotClear, CannotRepair, IsToMount, MountFails}
 use Rattle.drive_survey.specs.Scan.{FailsBy, FailsFirst, HaveNoFault, ending_fault, heading_fault, log_fault, fault_or, seen_after, seen_with}
 use Rattle.drive_survey.specs.Survey.{drive_size}
@@ -120,6 +120,7 @@ repairs-fine drive n resets NoSpare can cannot = cannot
 repairs-fine drive n resets Halted can cannot = cannot
 repairs-fine drive n resets OutOfMemory can cannot = cannot
 repairs-fine drive n resets Damaged can cannot = cannot
+repairs-fine drive n resets Failed can cannot = cannot
 
 clears-fine : (drive : DriveState) (n : ℕ) (fault : MountFault) → IsToMount drive n → CannotClear drive n fault → ⊥
 clears-fine drive n fault can cannot = repairs-fine drive n cannot.0 fault (can.mountable.holds.repair cannot.0 cannot.1) cannot.2
@@ -144,6 +145,7 @@ not-refused drive n Spent can (inr cannot) = clears-fine drive n Spent can canno
 not-refused drive n Halted can fails = fails
 not-refused drive n OutOfMemory can fails = fails
 not-refused drive n Damaged can fails = fails
+not-refused drive n Failed can fails = fails
 not-refused drive n (TornZone zone) can fails = clears-fine drive n (TornZone zone) can fails.2
 
 -- a mount of it ends early only by a stop or a failed allocation

@@ -64,10 +64,17 @@ pub reset-halts : (old new : DriveState) (reported : List ReportedZone) (zone st
     → ResetGives {V = Unit {0}} old start (Err fault) new → ResetKeeps {V = Unit {0}} old start (Err fault) new → Obeys {V = Unit {0}} old (Err fault) new → (CanReset old start → IsNotRefused {V = Unit {0}} (Err fault)) → SendHalts (λ a b. Resets a b zone) old new fault
 reset-halts old new reported zone start (port.Refused status) known lt is gives kept obeys passed = absurd (passed (starts-there old reported zone start known lt is).can_reset)
 reset-halts old new reported zone start port.Memory known lt is gives kept obeys passed = record { halt = tt; kept = rw gives.1.1.1 (may-change-none (λ a b. Resets a b zone) old known.lawful); cause = inl refl }
+reset-halts old new reported zone start port.Failed known lt is gives kept obeys passed =
+    let failed = obeys.fails refl in
+    record {
+      halt = tt;
+      kept = record { geometry = obeys.geometry; lawful = obeys.lawful; refused = failed.1.refused; durable = obeys.durable; trusted = obeys.trusted; contents_are = inl kept.contents };
+      cause = inr (inl (inr (refl, failed.0)));
+    }
 reset-halts old new reported zone start port.Stopped known lt is gives kept obeys passed = record {
   halt = tt;
   kept = record { geometry = obeys.geometry; lawful = obeys.lawful; refused = (obeys.counts refl).refused; durable = obeys.durable; trusted = obeys.trusted; contents_are = by kept };
-  cause = inr (inl (refl, obeys.stops refl));
+  cause = inr (inl (inl (refl, obeys.stops refl)));
 }
   where
     by : SameContents old new ⊎ ResetContents old new start → (contents new.zones ≡ contents old.zones) ⊎ Resets (contents old.zones) (contents new.zones) zone
@@ -79,10 +86,17 @@ pub finish-halts : (old new : DriveState) (reported : List ReportedZone) (zone s
     → FinishGives {V = Unit {0}} old start (Err fault) new → FinishKeeps {V = Unit {0}} old start (Err fault) new → Obeys {V = Unit {0}} old (Err fault) new → (CanFinish old start → IsNotRefused {V = Unit {0}} (Err fault)) → SendHalts (λ a b. Finishes a b zone) old new fault
 finish-halts old new reported zone start (port.Refused status) known lt is gives kept obeys passed = absurd (passed (starts-there old reported zone start known lt is).can_finish)
 finish-halts old new reported zone start port.Memory known lt is gives kept obeys passed = record { halt = tt; kept = rw gives.1.1.1 (may-change-none (λ a b. Finishes a b zone) old known.lawful); cause = inl refl }
+finish-halts old new reported zone start port.Failed known lt is gives kept obeys passed =
+    let failed = obeys.fails refl in
+    record {
+      halt = tt;
+      kept = record { geometry = obeys.geometry; lawful = obeys.lawful; refused = failed.1.refused; durable = obeys.durable; trusted = obeys.trusted; contents_are = inl kept.contents };
+      cause = inr (inl (inr (refl, failed.0)));
+    }
 finish-halts old new reported zone start port.Stopped known lt is gives kept obeys passed = record {
   halt = tt;
   kept = record { geometry = obeys.geometry; lawful = obeys.lawful; refused = (obeys.counts refl).refused; durable = obeys.durable; trusted = obeys.trusted; contents_are = by kept };
-  cause = inr (inl (refl, obeys.stops refl));
+  cause = inr (inl (inl (refl, obeys.stops refl)));
 }
   where
     by : SameContents old new ⊎ FinishedContents old new start → (contents new.zones ≡ contents old.zones) ⊎ Finishes (contents old.zones) (contents new.zones) zone

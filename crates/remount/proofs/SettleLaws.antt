@@ -171,6 +171,8 @@ pub reset-halts : (n : ℕ) (start now new : DriveState) (tables : TablesView) (
 reset-halts n start now new tables plan heads address (port.Refused status) a at kept leaves obeys passed = absurd passed
 reset-halts n start now new tables plan heads address port.Memory a at kept leaves obeys passed =
     mountable-both n start now new (moving-mounts n start now plan.torn plan.into (moves_before (source_of start tables plan.torn) plan (move_count plan)) a.moving) (mountable-same n now new kept obeys.lawful (ap (λ (d : DriveState). d.refused) leaves) (ap (λ (d : DriveState). d.durable) leaves))
+reset-halts n start now new tables plan heads address port.Failed a at kept leaves obeys passed =
+    mountable-both n start now new (moving-mounts n start now plan.torn plan.into (moves_before (source_of start tables plan.torn) plan (move_count plan)) a.moving) (mountable-same n now new kept obeys.lawful (obeys.fails refl).1.refused obeys.durable)
 reset-halts n start now new tables plan heads address port.Stopped a at kept leaves obeys passed = by kept
   where
     by : SameContents now new ⊎ ResetContents now new address → KeepsMountable n start new

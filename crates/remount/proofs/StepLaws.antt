@@ -373,6 +373,7 @@ plan-fault drive n resets fault sound spare clearing is = by fault (subst (λ (k
     by faults.Halted bad = absurd bad
     by faults.OutOfMemory bad = absurd bad
     by faults.Damaged bad = absurd bad
+    by faults.Failed bad = absurd bad
 
 -- a fault of planning the repair is a fault of the plan
 pub repair-refused : (old new : DriveState) (n : ℕ) (resets : List ℕ) (survey : Survey) (fault : MountFault) (geometry : Geometry) → geometry ≡ old.geometry → KeepsZones old new → AreSound (2 ^ 63) n (drive_logs old)
@@ -399,6 +400,7 @@ plan-mount drive n faults.TooManyPartial can logs has fails = absurd fails.1.2
 plan-mount drive n faults.Halted can logs has fails = absurd fails.1.2
 plan-mount drive n faults.OutOfMemory can logs has fails = absurd fails.1.2
 plan-mount drive n faults.Damaged can logs has fails = absurd fails.1.2
+plan-mount drive n faults.Failed can logs has fails = absurd fails.1.2
 
 plan-back : (old new : DriveState) (n : ℕ) (fault : MountFault) → KeepsZones old new → PlanFails new n fault → PlanFails old n fault
 plan-back old new n faults.NoSpare k none = λ spare. none (rw (kept-logs old new k, k.geometry) spare)
@@ -414,6 +416,7 @@ plan-back old new n faults.TooManyPartial k fails = absurd fails.1.2
 plan-back old new n faults.Halted k fails = absurd fails.1.2
 plan-back old new n faults.OutOfMemory k fails = absurd fails.1.2
 plan-back old new n faults.Damaged k fails = absurd fails.1.2
+plan-back old new n faults.Failed k fails = absurd fails.1.2
 
 -- a fault of the plan is a fault of the mount
 pub plan-refused : (old new last : DriveState) (n : ℕ) (survey : Survey) (fault : MountFault) → KeepsZones old new → Surveys old new n survey → FailsBy (PlanFails new n) last fault → FailsBy (MountFails old n) last fault
@@ -526,10 +529,11 @@ pub carry-refused : (old third last : DriveState) (n : ℕ) (fault : MountFault)
 carry-refused old third last n fault fails = fails-more (λ _. ⊥) (MountFails old n) last fault (λ f bad. absurd bad) fails
 
 -- a fault of the repairs is nothing else than a halt or out of memory
-pub carry-kept : (P : Type 0) (last : DriveState) (fault : MountFault) → FailsBy (λ _. ⊥) last fault → fault ≢ faults.Halted → fault ≢ faults.OutOfMemory → P
-carry-kept P last fault (inl memory) not_halted not_memory = absurd (not_memory memory)
-carry-kept P last fault (inr (inl halted)) not_halted not_memory = absurd (not_halted halted.0)
-carry-kept P last fault (inr (inr bad)) not_halted not_memory = absurd bad
+pub carry-kept : (P : Type 0) (last : DriveState) (fault : MountFault) → FailsBy (λ _. ⊥) last fault → fault ≢ faults.Halted → fault ≢ faults.OutOfMemory → fault ≢ faults.Failed → P
+carry-kept P last fault (inl memory) not_halted not_memory not_failed = absurd (not_memory memory)
+carry-kept P last fault (inr (inl (inl halted))) not_halted not_memory not_failed = absurd (not_halted halted.0)
+carry-kept P last fault (inr (inl (inr failed))) not_halted not_memory not_failed = absurd (not_failed failed.0)
+carry-kept P last fault (inr (inr bad)) not_halted not_memory not_failed = absurd bad
 
 -- ---- what is left
 

@@ -76,6 +76,7 @@ pub takes-some : (old new : DriveState) (zone start : ℕ) (builder : BuilderVie
     → AppendKeeps old start bytes (Err fault) new → AppendLeaves old start bytes (Err fault) new → Obeys {V = ℕ} old (Err fault) new → IsNotRefused {V = ℕ} (Err fault) → TakesSome old new zone (built old.geometry.block builder)
 takes-some old new zone start builder bytes (port.Refused status) bytes-are is can kept leaves obeys passed = absurd passed
 takes-some old new zone start builder bytes port.Memory bytes-are is can kept leaves obeys passed = inl (λ n. mountable-same n old new kept obeys.lawful (ap (λ (d : DriveState). d.refused) leaves) (ap (λ (d : DriveState). d.durable) leaves))
+takes-some old new zone start builder bytes port.Failed bytes-are is can kept leaves obeys passed = inl (λ n. mountable-same n old new kept obeys.lawful (obeys.fails refl).1.refused obeys.durable)
 takes-some old new zone start builder bytes port.Stopped bytes-are is can kept leaves obeys passed = by kept
   where
     by : SameContents old new ⊎ AppendedFront old new start bytes → TakesSome old new zone (built old.geometry.block builder)

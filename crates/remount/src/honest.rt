@@ -48,7 +48,7 @@ pub fn mount<D: Device + Honest>(
     ensures ok { IfOk result (Mounts (D.drive device.old) (D.drive device.new) given) }
     // A fault is the first that is met, and changes no zone, unless the drive stops or memory runs out.
     ensures err { IfErr result (FailsBy (MountFails (D.drive device.old) given) (D.drive device.new)) }
-    ensures refused { IfErr result (λ fault. fault ≢ faults.Halted → fault ≢ faults.OutOfMemory
+    ensures refused { IfErr result (λ fault. fault ≢ faults.Halted → fault ≢ faults.OutOfMemory → fault ≢ faults.Failed
         → KeepsZones (D.drive device.old) (D.drive device.new)) }
     // Only a drive that can be mounted is changed. It still can be, with the same array, and no command was refused.
     ensures early { IfErr result (λ _. KeepsZones (D.drive device.old) (D.drive device.new)

@@ -111,7 +111,7 @@ pub fn mount<D: Device>(alloc: Global, device: &mut D, given: u64) -> Result<Tab
     ensures err { IsTrue (D.drive device.new).clean
         → IfErr result (FailsBy (MountFails (D.drive device.old) given) (D.drive device.new)) }
     ensures refused { IsTrue (D.drive device.new).clean
-        → IfErr result (λ fault. fault ≢ faults.Halted → fault ≢ faults.OutOfMemory
+        → IfErr result (λ fault. fault ≢ faults.Halted → fault ≢ faults.OutOfMemory → fault ≢ faults.Failed
         → KeepsZones (D.drive device.old) (D.drive device.new)) }
     // Only a drive that can be mounted is changed. It still can be, with the same array, and no command was refused.
     ensures early { IsTrue (D.drive device.new).clean

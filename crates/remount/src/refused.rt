@@ -12,6 +12,7 @@ pub(crate) fn fault_or_damaged(fault: PortFault) -> MountFault
 {
     match fault {
         PortFault::Memory => MountFault::OutOfMemory,
+        PortFault::Failed => MountFault::Failed,
         PortFault::Stopped => MountFault::Halted,
         PortFault::Refused(_) => MountFault::Damaged,
     }

@@ -1,6 +1,6 @@
 -- The line by which a program tells why a drive is not repaired.
 use Rattle.std.specs.Prelude.{ℕ, List, ◌++◌, codes, decimal}
-use Rattle.drive_port.specs.declared.device.Halt.TheVariants.{Memory, Stopped}
+use Rattle.drive_port.specs.declared.device.Halt.TheVariants.{Memory, Failed, Stopped}
 use Rattle.tail_repair.specs.declared.fault.RepairFault.{RepairFault}
 use Rattle.tail_repair.specs.declared.fault.RepairFault.TheVariants as repair
 
@@ -13,6 +13,7 @@ fault_number repair.NoEmptyZone = 5
 fault_number (repair.Halted Stopped) = 6
 fault_number (repair.Halted Memory) = 7
 fault_number repair.Unfinished = 8
+fault_number (repair.Halted Failed) = 9
 
 abbrev pub fault_name : RepairFault → List ℕ
 fault_name repair.Limits = codes "Limits"
@@ -23,6 +24,7 @@ fault_name repair.NoEmptyZone = codes "NoEmptyZone"
 fault_name (repair.Halted Stopped) = codes "Halted"
 fault_name (repair.Halted Memory) = codes "OutOfMemory"
 fault_name repair.Unfinished = codes "Unfinished"
+fault_name (repair.Halted Failed) = codes "Failed"
 
 -- the zone that a fault names, and the block of it
 abbrev pub fault_zone : RepairFault → List ℕ

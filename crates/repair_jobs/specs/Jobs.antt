@@ -1,5 +1,5 @@
 -- What a job on a drive finds and does of which zones end in something foreign.
-use Rattle.std.specs.Prelude.{◌≡◌, ◌==◌, ℕ, Bool, false, if◌then◌else◌, List, [], length, Option, None, Result, Ok, Err, IfOk, is_none}
+use Rattle.std.specs.Prelude.{◌≡◌, ◌==◌, ℕ, Bool, false, if◌then◌else◌, List, [], length, Option, None, Result, Ok, Err, IfErr, IfOk, is_none}
 use Rattle.std.specs.List.{All}
 use Rattle.disk_files.specs.Output.{AppendsFront}
 use Rattle.drive_inspection.specs.Findings.{AreFindings}
@@ -7,14 +7,14 @@ use Rattle.drive_port.specs.Contents.{SameContents}
 use Rattle.drive_port.specs.Drive.{DriveState}
 use Rattle.drive_port.specs.Run.{restarted}
 use Rattle.drive_port.specs.declared.device.Halt.{Halt}
-use Rattle.drive_port.specs.declared.device.Halt.TheVariants.{Memory, Stopped}
+use Rattle.drive_port.specs.declared.device.Halt.TheVariants.{Memory, Failed, Stopped}
 use Rattle.drive_survey.specs.Reported.{KeepsZones}
 use Rattle.drive_survey.specs.declared.fault.MountFault.{MountFault}
 use Rattle.drive_survey.specs.declared.fault.MountFault.TheVariants as mounts
 use Rattle.job_drives.specs.Kept.{IsReadIn}
 use Rattle.job_drives.specs.Left.{IsLeft, IsUnread, LeavesFile}
 use Rattle.job_drives.specs.declared.left.Left.{Left}
-use Rattle.tail_repair.specs.Repair.{AreRepaired, AreTails, AreWhereTold, FindFails, HaveLogs, KeepsBatches, KeepsDrive, RepairFails, may_change}
+use Rattle.tail_repair.specs.Repair.{AreRepaired, AreTails, AreWhereTold, FindFails, HaveLogs, IsTold, KeepsBatches, KeepsDrive, RepairFails, may_change}
 use Rattle.tail_repair.specs.declared.fault.RepairFault.TheVariants as repair
 use Rattle.tail_repair.specs.declared.tails.ForeignTail.{ForeignTail}
 use Rattle.drive_inspection.specs.declared.finding.Findings.{Findings}
@@ -32,6 +32,7 @@ use Rattle.repair_jobs.specs.declared.mending.Mended.{Mended}
 -- what ends a search for faults
 abbrev pub halt_of : MountFault → Halt
 halt_of mounts.OutOfMemory = Memory
+halt_of mounts.Failed = Failed
 halt_of fault = Stopped
 
 -- why a text is not written
@@ -72,7 +73,7 @@ ListsNone file fault old new = IsUntold fault old new
 
 -- A drive was repaired: each zone holds a log, and no batch is lost with which a zone began. Just the zones are named
 -- that ended in something foreign, how many blocks their batches take, and where these are then. These are all faults
--- that the drive has then.
+-- that the drive has then; or the search for them has a cause to end.
 pub record Mends (old : DriveState) (mended : Mended) (new : DriveState) : Type 0 where
   pub drive : DriveState
   pub keeps : KeepsDrive old drive
@@ -81,6 +82,7 @@ pub record Mends (old : DriveState) (mended : Mended) (new : DriveState) : Type 
   pub idle : mended.moved.items ≡ [] → SameContents old drive
   pub there : All (AreWhereTold old drive) mended.moved.items
   pub faults : IfOk mended.found (AreFindings drive 1)
+  pub halted : IfErr mended.found (λ halt. IsTold new (repair.Halted halt))
   pub looks : KeepsZones drive new
 
 -- All faults that a drive has after a repair are told, and whether it can be mounted.

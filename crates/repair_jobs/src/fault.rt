@@ -34,12 +34,13 @@ pub fn is_refusal(fault: RepairFault) -> bool
     }
 }
 
-/// What ends a search for faults: the drive has stopped, or an allocation failed.
+/// What ends a search for faults: the drive has stopped or failed at a command, or an allocation failed.
 pub(crate) fn halt_of(fault: MountFault) -> Halt
     ensures { result ≡ halt_of fault }
 {
     match fault {
         MountFault::OutOfMemory => Halt::Memory,
+        MountFault::Failed => Halt::Failed,
         _ => Halt::Stopped,
     }
 }

@@ -22,6 +22,7 @@ fn refusal(fault: RepairFault) -> (u8, &'static str)
         RepairFault::Halted(Halt::Stopped) => (6, "Halted"),
         RepairFault::Halted(Halt::Memory) => (7, "OutOfMemory"),
         RepairFault::Unfinished => (8, "Unfinished"),
+        RepairFault::Halted(Halt::Failed) => (9, "Failed"),
     }
 }
 

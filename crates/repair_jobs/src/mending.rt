@@ -3,7 +3,7 @@
 ghost use Rattle.std.specs.Prelude.{IfErr, IfOk};
 ghost use Rattle.drive_inspection.specs.Findings.{AreFindings};
 ghost use Rattle.drive_survey.specs.Reported.{KeepsZones};
-ghost use Rattle.tail_repair.specs.Repair.{AreTails, FindFails, KeepsBatches};
+ghost use Rattle.tail_repair.specs.Repair.{AreTails, FindFails, IsTold, KeepsBatches};
 ghost use Rattle.tool_jobs.specs.Asked.{any_text};
 ghost use Rattle.tool_jobs.specs.Telling.{TellsFound};
 ghost use Rattle.repair_jobs.specs.Jobs.{AreTailsOf, IsUntold, ListFails, MendsDrive, TellsMended};
@@ -62,16 +62,19 @@ pub fn list_tails<D: Device + Honest, W: Write>(
 /// All faults of a drive, as a check finds them.
 fn find_faults<D: Device + Honest>(alloc: Global, device: &mut D) -> Result<Findings, Halt>
     ensures ok { IfOk result (AreFindings (D.drive device.old) 1) }
+    ensures err { IfErr result (λ halt. IsTold (D.drive device.new) (RepairFault.Halted halt)) }
     ensures kept { KeepsZones (D.drive device.old) (D.drive device.new) }
 {
-    match check_drive(alloc, device, 1) {
+    let checked = check_drive(alloc, device, 1);
+    device.vouch();
+    match checked {
         Ok(findings) => Ok(findings),
         Err(fault) => Err(halt_of(fault)),
     }
 }
 
 /// Repairs each zone of a drive that ends in something foreign, and looks for all faults that the drive has then. A
-/// repair that was stopped can be done again.
+/// repair that was stopped, or that the drive failed at, can be done again.
 pub fn mend<D: Device + Honest>(alloc: Global, device: &mut D) -> Result<Mended, RepairJobFault>
     ensures mends { MendsDrive (D.drive device.old) result (D.drive device.new) }
     ensures batches { KeepsBatches (D.drive device.old) (D.drive device.new) }

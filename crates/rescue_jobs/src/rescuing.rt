@@ -3,6 +3,7 @@
 ghost use Rattle.std.specs.Prelude.{◌≡◌, ◌<◌, ℕ, IfErr, IfOk};
 ghost use Rattle.drive_rescue.specs.Findings.{IsFound};
 ghost use Rattle.drive_rescue.specs.Rescue.{KeepsSource, Rescues};
+ghost use Rattle.drive_survey.specs.Reported.{KeepsZones};
 ghost use Rattle.rescue_jobs.specs.Jobs.{FindsNoDisk, IsFlushed, RescuesInto, RescuesNot};
 
 use crate::fault::RescueJobFault;
@@ -47,7 +48,7 @@ fn give_to<S: Source, D: Device + Honest + Drop>(
 ) -> Result<(D, Rescued), RescueJobFault>
     requires found { (given : ℕ) × IsFound (S.view source.old) given findings.now }
     ensures ok { IfOk result (λ done. (given : ℕ) → IsFound (S.view source.old) given findings.now
-        → RescuesInto (S.view source.old) given done.1 (D.drive done.0)) }
+        → RescuesInto (S.view source.new) given done.1 (D.drive done.0)) }
     ensures kept { KeepsSource (S.view source.old) (S.view source.new) }
 {
     let writer = DiskWriter::new(disk);
@@ -72,8 +73,8 @@ fn find_disk<S: Source>(
 ) -> Result<Findings, RescueJobFault>
     ensures ok { IfOk result (IsFound (S.view source.new) given) }
     ensures some { IfOk result (λ findings. 0 < findings.blocks) }
-    ensures err { IfErr result (FindsNoDisk (S.view source.old) given) }
-    ensures kept { KeepsSource (S.view source.old) (S.view source.new) }
+    ensures err { IfErr result (FindsNoDisk (S.view source.new) given) }
+    ensures kept { KeepsZones (S.view source.old).drive (S.view source.new).drive }
 {
     let findings = match find(alloc, source, given) {
         Ok(findings) => findings,
@@ -93,9 +94,9 @@ pub fn rescue_out<S: Source, W: Write>(
     source: &mut S,
     writer: &mut W,
 ) -> Result<Rescued, RescueJobFault>
-    ensures ok { IfOk result (Rescues (S.view source.old) given (W.contents writer.old) (W.contents writer.new)) }
-    ensures err { IfErr result (RescuesNot (S.view source.old) given (W.contents writer.old) (W.contents writer.new)) }
-    ensures kept { KeepsSource (S.view source.old) (S.view source.new) }
+    ensures ok { IfOk result (Rescues (S.view source.new) given (W.contents writer.old) (W.contents writer.new)) }
+    ensures err { IfErr result (RescuesNot (S.view source.new) given (W.contents writer.old) (W.contents writer.new)) }
+    ensures kept { KeepsZones (S.view source.old).drive (S.view source.new).drive }
 {
     let findings = find_disk(alloc, given, source)?;
     match give(alloc, source, &findings, writer) {
@@ -112,8 +113,8 @@ pub fn rescue_into<S: Source, D: Device + Honest + Drop>(
     source: &mut S,
     new: D,
 ) -> Result<(D, Rescued), RescueJobFault>
-    ensures ok { IfOk result (λ done. RescuesInto (S.view source.old) given done.1 (D.drive done.0)) }
-    ensures kept { KeepsSource (S.view source.old) (S.view source.new) }
+    ensures ok { IfOk result (λ done. RescuesInto (S.view source.new) given done.1 (D.drive done.0)) }
+    ensures kept { KeepsZones (S.view source.old).drive (S.view source.new).drive }
 {
     let findings = find_disk(alloc, given, source)?;
     let disk = match mount_served(alloc, new, Some(u64::from(findings.blocks()))) {

@@ -1,5 +1,5 @@
 -- Why a repair fails.
-use Rattle.std.proofs.Common.{◌≡◌, ◌⊎◌, inl, inr, ℕ, ◌<◌, ◌≤◌, ◌^◌, Bool, IsTrue, true, false, List, [], ◌∷◌, ◌++◌, length, get_or, Option, Some, None, Result, Ok, Err, refl, ap, subst, ◌∙◌, arith}
+use Rattle.std.proofs.Common.{◌≡◌, ◌⊎◌, inl, inr, ℕ, ◌<◌, ◌≤◌, ◌^◌, Bool, IsTrue, IsFalse, true, false, List, [], ◌∷◌, ◌++◌, length, get_or, Option, Some, None, Result, Ok, Err, refl, ap, subst, ◌∙◌, arith}
 use Rattle.std.specs.Prelude.{nat_le, IfErr, IfOk, IsErrAnd}
 use Rattle.std.specs.List.{list_any}
 use Rattle.std.specs.Ordering.{nat_cmp}
@@ -45,16 +45,18 @@ if-fault (Err f) fault P handed p = rw handed p
 
 -- ---- halts
 
--- a command that failed tells of a stop only if there was one
-pub call-told : (drive : DriveState) (fault : PortFault) → (fault ≡ port.Stopped → drive.stopped ≡ true) → IsTold drive (call_fault fault)
-call-told drive port.Stopped stops = stops refl
-call-told drive port.Memory stops = tt
-call-told drive (port.Refused status) stops = tt
+-- a command that was not done tells of a stop, or that it failed, only if there was one, or if it did
+pub call-told : (drive : DriveState) (fault : PortFault) → (fault ≡ port.Stopped → drive.stopped ≡ true) → (fault ≡ port.Failed → IsFalse drive.unfailing) → IsTold drive (call_fault fault)
+call-told drive port.Stopped stops fails = stops refl
+call-told drive port.Failed stops fails = fails refl
+call-told drive port.Memory stops fails = tt
+call-told drive (port.Refused status) stops fails = tt
 
 -- and a look
 pub look-halts : (drive : DriveState) (fault : MountFault) → IsInterruption drive fault → LookFails drive (look_fault fault)
 look-halts drive fault (inl memory) = rw memory tt
-look-halts drive fault (inr (inl halted)) = rw halted.0 halted.1
+look-halts drive fault (inr (inl (inl halted))) = rw halted.0 halted.1
+look-halts drive fault (inr (inl (inr failing))) = rw failing.0 failing.1
 look-halts drive fault (inr (inr none)) = absurd none
 
 -- ---- from cause to cause
@@ -258,17 +260,19 @@ other-kind old zone fault fails not_log not_twice not_spent =
     by (inr spent) = not_spent spent
 
 -- a fault that no scan has
-never : (old new : DriveState) (zone : ℕ) (fault : MountFault) → FailsBy (FailsIn old.geometry (content_at (contents old.zones) zone) zone []) new fault → (fault ≡ mounts.OutOfMemory → ⊥) → (fault ≡ mounts.Halted → ⊥)
+never : (old new : DriveState) (zone : ℕ) (fault : MountFault) → FailsBy (FailsIn old.geometry (content_at (contents old.zones) zone) zone []) new fault → (fault ≡ mounts.OutOfMemory → ⊥) → (fault ≡ mounts.Halted → ⊥) → (fault ≡ mounts.Failed → ⊥)
     → ((o : ℕ) (cause : LogFault) → fault ≡ mounts.Log zone o cause → ⊥) → (fault ≡ mounts.SequenceRepeated → ⊥) → (fault ≡ mounts.Spent → ⊥) → ⊥
-never old new zone fault (inl memory) not_memory not_halted not_log not_twice not_spent = not_memory memory
-never old new zone fault (inr (inl halted)) not_memory not_halted not_log not_twice not_spent = not_halted halted.0
-never old new zone fault (inr (inr fails)) not_memory not_halted not_log not_twice not_spent = other-kind old zone fault fails not_log not_twice not_spent
+never old new zone fault (inl memory) not_memory not_halted not_failed not_log not_twice not_spent = not_memory memory
+never old new zone fault (inr (inl (inl halted))) not_memory not_halted not_failed not_log not_twice not_spent = not_halted halted.0
+never old new zone fault (inr (inl (inr failing))) not_memory not_halted not_failed not_log not_twice not_spent = not_failed failing.0
+never old new zone fault (inr (inr fails)) not_memory not_halted not_failed not_log not_twice not_spent = other-kind old zone fault fails not_log not_twice not_spent
 
-in-batches : (old new : DriveState) (zone : ℕ) (fault : MountFault) → FailsBy (FailsIn old.geometry (content_at (contents old.zones) zone) zone []) new fault → (fault ≡ mounts.OutOfMemory → ⊥) → (fault ≡ mounts.Halted → ⊥)
+in-batches : (old new : DriveState) (zone : ℕ) (fault : MountFault) → FailsBy (FailsIn old.geometry (content_at (contents old.zones) zone) zone []) new fault → (fault ≡ mounts.OutOfMemory → ⊥) → (fault ≡ mounts.Halted → ⊥) → (fault ≡ mounts.Failed → ⊥)
     → ((o : ℕ) (cause : LogFault) → fault ≡ mounts.Log zone o cause → ⊥) → IsUnsound old zone
-in-batches old new zone fault (inl memory) not_memory not_halted not_log = absurd (not_memory memory)
-in-batches old new zone fault (inr (inl halted)) not_memory not_halted not_log = absurd (not_halted halted.0)
-in-batches old new zone fault (inr (inr fails)) not_memory not_halted not_log = fails-so old zone fault fails not_log
+in-batches old new zone fault (inl memory) not_memory not_halted not_failed not_log = absurd (not_memory memory)
+in-batches old new zone fault (inr (inl (inl halted))) not_memory not_halted not_failed not_log = absurd (not_halted halted.0)
+in-batches old new zone fault (inr (inl (inr failing))) not_memory not_halted not_failed not_log = absurd (not_failed failing.0)
+in-batches old new zone fault (inr (inr fails)) not_memory not_halted not_failed not_log = fails-so old zone fault fails not_log
 
 abbrev ScanSays : DriveState → DriveState → ℕ → Result BatchEnd RepairFault → Type 0
 ScanSays old new zone result = IfOk result (λ end. EndsAt old zone end.blocks end.is_foreign) × IfErr result (FindFails old new)
@@ -278,18 +282,23 @@ pub scan-says : (old new : DriveState) (zone : ℕ) (fault : MountFault) → IsI
 scan-says old new zone (mounts.Log z o cause) range fails = (scan-ends old new zone z o [] cause range fails, tt)
 scan-says old new zone mounts.OutOfMemory range fails = (tt, tt)
 scan-says old new zone mounts.Halted range (inl memory) = absurd (cc)
-scan-says old new zone mounts.Halted range (inr (inl halted)) = (tt, halted.1)
+scan-says old new zone mounts.Halted range (inr (inl (inl halted))) = (tt, halted.1)
+scan-says old new zone mounts.Halted range (inr (inl (inr failing))) = let no = failing.0 in absurd (cc)
 scan-says old new zone mounts.Halted range (inr (inr fails)) = absurd (other-kind old zone mounts.Halted fails (λ o cause is. absurd (cc)) (λ is. absurd (cc)) (λ is. absurd (cc)))
-scan-says old new zone mounts.SequenceRepeated range fails = (tt, in-batches old new zone mounts.SequenceRepeated fails (λ is. absurd (cc)) (λ is. absurd (cc)) (λ o cause is. absurd (cc)))
-scan-says old new zone mounts.Spent range fails = (tt, in-batches old new zone mounts.Spent fails (λ is. absurd (cc)) (λ is. absurd (cc)) (λ o cause is. absurd (cc)))
-scan-says old new zone mounts.Reserve range fails = absurd (never old new zone mounts.Reserve fails (λ is. absurd (cc)) (λ is. absurd (cc)) (λ o cause is. absurd (cc)) (λ is. absurd (cc)) (λ is. absurd (cc)))
-scan-says old new zone mounts.Limits range fails = absurd (never old new zone mounts.Limits fails (λ is. absurd (cc)) (λ is. absurd (cc)) (λ o cause is. absurd (cc)) (λ is. absurd (cc)) (λ is. absurd (cc)))
-scan-says old new zone (mounts.ZoneUnusable z) range fails = absurd (never old new zone (mounts.ZoneUnusable z) fails (λ is. absurd (cc)) (λ is. absurd (cc)) (λ o cause is. absurd (cc)) (λ is. absurd (cc)) (λ is. absurd (cc)))
-scan-says old new zone mounts.BlockOutOfRange range fails = absurd (never old new zone mounts.BlockOutOfRange fails (λ is. absurd (cc)) (λ is. absurd (cc)) (λ o cause is. absurd (cc)) (λ is. absurd (cc)) (λ is. absurd (cc)))
-scan-says old new zone mounts.TooManyPartial range fails = absurd (never old new zone mounts.TooManyPartial fails (λ is. absurd (cc)) (λ is. absurd (cc)) (λ o cause is. absurd (cc)) (λ is. absurd (cc)) (λ is. absurd (cc)))
-scan-says old new zone mounts.NoSpare range fails = absurd (never old new zone mounts.NoSpare fails (λ is. absurd (cc)) (λ is. absurd (cc)) (λ o cause is. absurd (cc)) (λ is. absurd (cc)) (λ is. absurd (cc)))
-scan-says old new zone mounts.Damaged range fails = absurd (never old new zone mounts.Damaged fails (λ is. absurd (cc)) (λ is. absurd (cc)) (λ o cause is. absurd (cc)) (λ is. absurd (cc)) (λ is. absurd (cc)))
-scan-says old new zone (mounts.TornZone z) range fails = absurd (never old new zone (mounts.TornZone z) fails (λ is. absurd (cc)) (λ is. absurd (cc)) (λ o cause is. absurd (cc)) (λ is. absurd (cc)) (λ is. absurd (cc)))
+scan-says old new zone mounts.Failed range (inl memory) = absurd (cc)
+scan-says old new zone mounts.Failed range (inr (inl (inl halted))) = let no = halted.0 in absurd (cc)
+scan-says old new zone mounts.Failed range (inr (inl (inr failing))) = (tt, failing.1)
+scan-says old new zone mounts.Failed range (inr (inr fails)) = absurd (other-kind old zone mounts.Failed fails (λ o cause is. absurd (cc)) (λ is. absurd (cc)) (λ is. absurd (cc)))
+scan-says old new zone mounts.SequenceRepeated range fails = (tt, in-batches old new zone mounts.SequenceRepeated fails (λ is. absurd (cc)) (λ is. absurd (cc)) (λ is. absurd (cc)) (λ o cause is. absurd (cc)))
+scan-says old new zone mounts.Spent range fails = (tt, in-batches old new zone mounts.Spent fails (λ is. absurd (cc)) (λ is. absurd (cc)) (λ is. absurd (cc)) (λ o cause is. absurd (cc)))
+scan-says old new zone mounts.Reserve range fails = absurd (never old new zone mounts.Reserve fails (λ is. absurd (cc)) (λ is. absurd (cc)) (λ is. absurd (cc)) (λ o cause is. absurd (cc)) (λ is. absurd (cc)) (λ is. absurd (cc)))
+scan-says old new zone mounts.Limits range fails = absurd (never old new zone mounts.Limits fails (λ is. absurd (cc)) (λ is. absurd (cc)) (λ is. absurd (cc)) (λ o cause is. absurd (cc)) (λ is. absurd (cc)) (λ is. absurd (cc)))
+scan-says old new zone (mounts.ZoneUnusable z) range fails = absurd (never old new zone (mounts.ZoneUnusable z) fails (λ is. absurd (cc)) (λ is. absurd (cc)) (λ is. absurd (cc)) (λ o cause is. absurd (cc)) (λ is. absurd (cc)) (λ is. absurd (cc)))
+scan-says old new zone mounts.BlockOutOfRange range fails = absurd (never old new zone mounts.BlockOutOfRange fails (λ is. absurd (cc)) (λ is. absurd (cc)) (λ is. absurd (cc)) (λ o cause is. absurd (cc)) (λ is. absurd (cc)) (λ is. absurd (cc)))
+scan-says old new zone mounts.TooManyPartial range fails = absurd (never old new zone mounts.TooManyPartial fails (λ is. absurd (cc)) (λ is. absurd (cc)) (λ is. absurd (cc)) (λ o cause is. absurd (cc)) (λ is. absurd (cc)) (λ is. absurd (cc)))
+scan-says old new zone mounts.NoSpare range fails = absurd (never old new zone mounts.NoSpare fails (λ is. absurd (cc)) (λ is. absurd (cc)) (λ is. absurd (cc)) (λ o cause is. absurd (cc)) (λ is. absurd (cc)) (λ is. absurd (cc)))
+scan-says old new zone mounts.Damaged range fails = absurd (never old new zone mounts.Damaged fails (λ is. absurd (cc)) (λ is. absurd (cc)) (λ is. absurd (cc)) (λ o cause is. absurd (cc)) (λ is. absurd (cc)) (λ is. absurd (cc)))
+scan-says old new zone (mounts.TornZone z) range fails = absurd (never old new zone (mounts.TornZone z) fails (λ is. absurd (cc)) (λ is. absurd (cc)) (λ is. absurd (cc)) (λ o cause is. absurd (cc)) (λ is. absurd (cc)) (λ is. absurd (cc)))
 
 -- ---- headers
 

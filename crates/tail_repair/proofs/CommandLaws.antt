@@ -51,6 +51,7 @@ append-leaves old new to start bytes result range is answers = at result refl
     at (Ok address) e = let done : Appended old new start bytes address = rw e at answers.appended in grown (data_blocks old.geometry bytes) done.contents
     at (Err port.Stopped) e = let left : AppendKeeps old start bytes (Err port.Stopped) new = rw e at answers.kept in kept left
     at (Err port.Memory) e = let left : AppendKeeps old start bytes (Err port.Memory) new = rw e at answers.kept in stays-same old new to result obeys left.contents
+    at (Err port.Failed) e = let left : AppendKeeps old start bytes (Err port.Failed) new = rw e at answers.kept in stays-same old new to result obeys left.contents
     at (Err (port.Refused status)) e = let left : AppendKeeps old start bytes (Err (port.Refused status)) new = rw e at answers.kept in stays-same old new to result obeys left.contents
 
 -- ---- a Finish
@@ -75,6 +76,7 @@ finish-leaves old new to start result range is answers = at result refl
     at (Ok u) e = let done : Finished old new start = rw e at answers.finished in full_now done.contents
     at (Err port.Stopped) e = let left : FinishKeeps {V = Unit {0}} old start (Err port.Stopped) new = rw e at answers.kept in kept left
     at (Err port.Memory) e = let left : FinishKeeps {V = Unit {0}} old start (Err port.Memory) new = rw e at answers.kept in stays-same old new to result obeys left.contents
+    at (Err port.Failed) e = let left : FinishKeeps {V = Unit {0}} old start (Err port.Failed) new = rw e at answers.kept in stays-same old new to result obeys left.contents
     at (Err (port.Refused status)) e = let left : FinishKeeps {V = Unit {0}} old start (Err (port.Refused status)) new = rw e at answers.kept in stays-same old new to result obeys left.contents
 
 -- ---- a Reset
@@ -127,4 +129,5 @@ reset-leaves old new zone start blocks to result range is ends moved answers = a
     at (Ok u) e = let done : ResetZone old new start = rw e at answers.reset in empty_now done.contents
     at (Err port.Stopped) e = let left : ResetKeeps {V = Unit {0}} old start (Err port.Stopped) new = rw e at answers.kept in kept left
     at (Err port.Memory) e = let left : ResetKeeps {V = Unit {0}} old start (Err port.Memory) new = rw e at answers.kept in same left.contents
+    at (Err port.Failed) e = let left : ResetKeeps {V = Unit {0}} old start (Err port.Failed) new = rw e at answers.kept in same left.contents
     at (Err (port.Refused status)) e = let left : ResetKeeps {V = Unit {0}} old start (Err (port.Refused status)) new = rw e at answers.kept in same left.contents

@@ -81,7 +81,8 @@ block-small geometry range = at range.block
 -- a scan that fails at a block has found where the batches end, and that something foreign follows
 pub scan-ends : (old new : DriveState) (zone z o : ℕ) (seen : List ℕ) (cause : LogFault) → IsInRange old.geometry → FailsBy (FailsIn old.geometry (content_at (contents old.zones) zone) zone seen) new (faults.Log z o cause) → EndsAt old zone o true
 scan-ends old new zone z o seen cause range (inl memory) = absurd (cc)
-scan-ends old new zone z o seen cause range (inr (inl halted)) = let no = halted.0 in absurd (cc)
+scan-ends old new zone z o seen cause range (inr (inl (inl halted))) = let no = halted.0 in absurd (cc)
+scan-ends old new zone z o seen cause range (inr (inl (inr failing))) = let no = failing.0 in absurd (cc)
 scan-ends old new zone z o seen cause range (inr (inr fails)) = at fails.first
   where
     full : Bool

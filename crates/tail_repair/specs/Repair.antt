@@ -1,5 +1,5 @@
 -- What a repair of zones that end in something foreign finds, keeps and leaves.
-use Rattle.std.specs.Prelude.{◌≡◌, ◌≢◌, ℕ, suc, ◌<◌, ◌≤◌, Bool, true, false, IsTrue, List, [], ◌∷◌, ◌++◌, length, map, Option, Some, None, IfSome, Result, Ok, Err, slice_get, unwrap_or}
+use Rattle.std.specs.Prelude.{◌≡◌, ◌≢◌, ℕ, suc, ◌<◌, ◌≤◌, Bool, true, false, IsTrue, IsFalse, List, [], ◌∷◌, ◌++◌, length, map, Option, Some, None, IfSome, Result, Ok, Err, slice_get, unwrap_or}
 use Rattle.batch_log.specs.Causes.{is_zero}
 use Rattle.batch_log.specs.Header.{Heading, IsHeaderBlock, IsNoHeader}
 use Rattle.batch_log.specs.Log.{Batch, BeginsWith, BeginsWithNoBatch, HaveNoLog, log_size}
@@ -82,6 +82,7 @@ foreign_from false blocks = None
 abbrev pub look_fault : MountFault → RepairFault
 look_fault mounts.OutOfMemory = Halted halts.Memory
 look_fault mounts.Halted = Halted halts.Stopped
+look_fault mounts.Failed = Halted halts.Failed
 look_fault fault = Unfinished
 
 -- where the batches of a zone end whose scan failed
@@ -207,6 +208,7 @@ pub record Extends (old new : DriveState) (to : ℕ) : Type 0 where
 -- what a fault of a command is to a repair
 abbrev pub call_fault : PortFault → RepairFault
 call_fault port.Memory = Halted halts.Memory
+call_fault port.Failed = Halted halts.Failed
 call_fault port.Stopped = Halted halts.Stopped
 call_fault fault = Unfinished
 
@@ -237,12 +239,13 @@ NoneIsEmpty drive = (zone : ℕ) → zone < length drive.zones → is_empty (con
 abbrev pub NoOtherEmpty : List ReportedZone → ℕ → Type 0
 NoOtherEmpty zones beside = (zone : ℕ) (reported : ReportedZone) → zone ≢ beside → slice_get zones zone ≡ Some reported → is_empty (usage_of reported.state) ≡ false
 
--- If a fault says that the drive has stopped, it has.
+-- If a fault says that the drive has stopped, it has. If it says that a command failed, the drive is not unfailing.
 abbrev pub IsTold : DriveState → RepairFault → Type 0
 IsTold drive (Halted halts.Stopped) = drive.stopped ≡ true
+IsTold drive (Halted halts.Failed) = IsFalse drive.unfailing
 IsTold drive fault = Unit {0}
 
--- A look at a drive fails only if the drive stops or memory runs out.
+-- A look at a drive fails only if the drive halts or memory runs out.
 abbrev pub LookFails : DriveState → RepairFault → Type 0
 LookFails drive (Halted halt) = IsTold drive (Halted halt)
 LookFails drive fault = ⊥

@@ -27,7 +27,8 @@ pub enum RepairFault {
     /// No zone is Empty, so nothing can be moved.
     #[error("no zone is Empty")]
     NoEmptyZone,
-    /// The drive stopped, or memory ran out. A part may be done.
+    /// The drive stopped or failed at a command, or memory ran out. A command that failed had no effect. A part may be
+    /// done, and the next repair goes on there.
     #[error("{0}")]
     Halted(Halt),
     /// The drive refused a command, or did not hold what was written. A part may be done.
@@ -60,6 +61,7 @@ impl From<PortFault> for RepairFault {
     fn from(fault: PortFault) -> RepairFault {
         match fault {
             PortFault::Memory => RepairFault::Halted(Halt::Memory),
+            PortFault::Failed => RepairFault::Halted(Halt::Failed),
             PortFault::Stopped => RepairFault::Halted(Halt::Stopped),
             PortFault::Refused(_) => RepairFault::Unfinished,
         }
@@ -73,6 +75,7 @@ impl From<MountFault> for RepairFault {
         match fault {
             MountFault::OutOfMemory => RepairFault::Halted(Halt::Memory),
             MountFault::Halted => RepairFault::Halted(Halt::Stopped),
+            MountFault::Failed => RepairFault::Halted(Halt::Failed),
             _ => RepairFault::Unfinished,
         }
     }

@@ -87,6 +87,7 @@ fn foreign_end(zone: u32, fault: MountFault) -> Result<BatchEnd, RepairFault>
         MountFault::SequenceRepeated | MountFault::Spent => Err(RepairFault::Unsound(zone)),
         MountFault::OutOfMemory => Err(RepairFault::Halted(Halt::Memory)),
         MountFault::Halted => Err(RepairFault::Halted(Halt::Stopped)),
+        MountFault::Failed => Err(RepairFault::Halted(Halt::Failed)),
         _ => Err(RepairFault::Unfinished),
     }
 }
@@ -215,7 +216,7 @@ fn note_tails<D: Device>(
 }
 
 /// The zones whose batches are followed by something foreign, in ascending order. The drive is only read: one report,
-/// the header of each batch, and the foreign blocks.
+/// the header of each batch, and the foreign blocks. After a halt that is no stop, the search can be made again.
 pub fn find_tails<D: Device>(alloc: Global, device: &mut D) -> Result<Vec<ForeignTail>, RepairFault>
     ensures range { OnOk result (IsInRange (D.drive device.new).geometry) }
     // Done, these are just the zones that hold no log, in their order.

@@ -26,6 +26,7 @@ impl FaultKind {
             MountFault::OutOfMemory => (11, "OutOfMemory"),
             MountFault::TornZone(_) => (13, "TornZone"),
             MountFault::Damaged => (14, "Damaged"),
+            MountFault::Failed => (15, "Failed"),
         };
         FaultKind { number, name }
     }

@@ -12,7 +12,7 @@ use Rattle.drive_inspection.specs.declared.finding.Findings.{Findings}
 use Rattle.job_drives.specs.Kept.{IsReadIn, IsRestarted}
 use Rattle.job_drives.specs.declared.kept_drive.Begun.{Begun}
 use Rattle.tool_jobs.specs.Telling.{Bytes}
-use Rattle.tool_jobs.specs.Checks.{AsksNone, FindsFaults, IsInterrupted}
+use Rattle.tool_jobs.specs.Checks.{AsksNone, FindsFaults, HaltsInFile, HasFailed, HasStopped, IsInterrupted}
 use Rattle.tool_jobs.specs.declared.fault.ToolFault.{ToolFault}
 
 module _ (file : Bytes) (habit : Habit) (begun : Begun) (begins : IsRestarted file habit begun) where
@@ -27,16 +27,20 @@ module _ (file : Bytes) (habit : Habit) (begun : Begun) (begins : IsRestarted fi
     are = subst (λ (drive : MemoryDrive). AreFindings drive.state blocks findings) begins.drive_is are;
   }
 
-  -- it was not asked to its end
-  pub not-asked : (last : DriveState) (cause : MountFault) (fault : ToolFault) → KeepsZones begun.drive.state last → IsInterrupted cause fault → IsInterruption last cause → AsksNone file fault
-  not-asked last cause fault keeps told (inl memory) = rw (rw memory at told) tt
-  not-asked last cause fault keeps told (inr (inl halted)) = rw (rw halted.0 at told) (record {
+  halts-in : (Halts : DriveState → Type 0) (last : DriveState) → KeepsZones begun.drive.state last → Halts last → HaltsInFile Halts file
+  halts-in Halts last keeps halts = record {
     saved = begins.opened;
     is_read = read-in;
     last = last;
     keeps = subst (λ (drive : MemoryDrive). KeepsZones drive.state last) begins.drive_is keeps;
-    stopped = halted.1;
-  })
+    halts = halts;
+  }
+
+  -- it was not asked to its end
+  pub not-asked : (last : DriveState) (cause : MountFault) (fault : ToolFault) → KeepsZones begun.drive.state last → IsInterrupted cause fault → IsInterruption last cause → AsksNone file fault
+  not-asked last cause fault keeps told (inl memory) = rw (rw memory at told) tt
+  not-asked last cause fault keeps told (inr (inl (inl stopped))) = rw (rw stopped.0 at told) (halts-in HasStopped last keeps stopped.1)
+  not-asked last cause fault keeps told (inr (inl (inr failed))) = rw (rw failed.0 at told) (halts-in HasFailed last keeps failed.1)
   not-asked last cause fault keeps told (inr (inr none)) = absurd none
 
 -- nothing refuses it

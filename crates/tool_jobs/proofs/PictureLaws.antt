@@ -15,7 +15,7 @@ use Rattle.job_drives.specs.Kept.{IsReadIn}
 use Rattle.tool_jobs.specs.Checks.{IsInterrupted}
 use Rattle.tool_jobs.specs.Pictures.{CountsLive, CountsNone, DrawsNone, FindsLive, LooksNone, live_counts, written_counts}
 use Rattle.tool_jobs.specs.declared.fault.ToolFault.{ToolFault}
-use Rattle.tool_jobs.specs.declared.fault.ToolFault.TheVariants.{Plan, Bytes, Entry, Stopped, Output, File, Memory}
+use Rattle.tool_jobs.specs.declared.fault.ToolFault.TheVariants.{Plan, Bytes, Entry, Stopped, Failed, Output, File, Memory}
 
 length-counts : (zones : List ZoneInfo) → length (written_counts zones) ≡ length zones
 length-counts [] = refl
@@ -53,12 +53,14 @@ counted drive geometry blocks found live same most is counts = record {
 -- a drive that was not looked at to its end
 pub not-looked : (last : DriveState) (cause : MountFault) (fault : ToolFault) → IsInterrupted cause fault → IsInterruption last cause → LooksNone last fault
 not-looked last cause fault told (inl memory) = rw (rw memory at told) tt
-not-looked last cause fault told (inr (inl halted)) = rw (rw halted.0 at told) halted.1
+not-looked last cause fault told (inr (inl (inl stopped))) = rw (rw stopped.0 at told) stopped.1
+not-looked last cause fault told (inr (inl (inr failed))) = rw (rw failed.0 at told) failed.1
 not-looked last cause fault told (inr (inr none)) = absurd none
 
 -- it was the one in the file
 pub not-drawn : (file : Option (List ℕ)) (saved last : DriveState) (fault : ToolFault) → IsReadIn file saved → KeepsZones saved last → LooksNone last fault → DrawsNone file fault
-not-drawn file saved last Stopped is_read keeps none = record { saved = saved; is_read = is_read; last = last; keeps = keeps; stopped = none }
+not-drawn file saved last Stopped is_read keeps none = record { saved = saved; is_read = is_read; last = last; keeps = keeps; halts = none }
+not-drawn file saved last Failed is_read keeps none = record { saved = saved; is_read = is_read; last = last; keeps = keeps; halts = none }
 not-drawn file saved last Memory is_read keeps none = tt
 not-drawn file saved last (Plan f) is_read keeps none = absurd none
 not-drawn file saved last Bytes is_read keeps none = absurd none

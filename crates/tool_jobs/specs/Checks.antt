@@ -1,5 +1,5 @@
 -- Checks of the drive in a file.
-use Rattle.std.specs.Prelude.{◌≡◌, ℕ, Bool, true, is_none, ⊤}
+use Rattle.std.specs.Prelude.{◌≡◌, ℕ, Bool, true, is_none, IsFalse, ⊤}
 use Rattle.drive_port.specs.Drive.{DriveState}
 use Rattle.drive_port.specs.Run.{restarted}
 use Rattle.drive_survey.specs.declared.fault.MountFault.{MountFault}
@@ -10,11 +10,12 @@ use Rattle.drive_inspection.specs.declared.finding.Findings.{Findings}
 use Rattle.job_drives.specs.Kept.{IsReadIn}
 use Rattle.tool_jobs.specs.Telling.{Bytes, HoldsNone}
 use Rattle.tool_jobs.specs.declared.fault.ToolFault.{ToolFault}
-use Rattle.tool_jobs.specs.declared.fault.ToolFault.TheVariants.{Stopped, Memory}
+use Rattle.tool_jobs.specs.declared.fault.ToolFault.TheVariants.{Stopped, Failed, Memory}
 
 -- what an interruption is to a tool
 abbrev pub IsInterrupted : MountFault → ToolFault → Type 0
 IsInterrupted mounts.OutOfMemory fault = fault ≡ Memory
+IsInterrupted mounts.Failed fault = fault ≡ Failed
 IsInterrupted cause fault = fault ≡ Stopped
 
 -- These are all the faults of the drive that the file holds, once it is restarted. They refuse nothing exactly where a
@@ -28,16 +29,25 @@ pub record FindsFaults (file : Bytes) (blocks : ℕ) (findings : Findings) : Typ
 abbrev pub FindsMountable : Bytes → ℕ → Bool → Findings → Type 0
 FindsMountable file blocks mountable findings = FindsFaults file blocks findings × (mountable ≡ is_none findings.refusal)
 
--- the drive in the file, restarted, has stopped once it was asked
-pub record StopsInFile (file : Bytes) : Type 0 where
+-- a drive has stopped; or it failed at a command
+abbrev pub HasStopped : DriveState → Type 0
+HasStopped drive = drive.stopped ≡ true
+
+abbrev pub HasFailed : DriveState → Type 0
+HasFailed drive = IsFalse drive.unfailing
+
+-- the drive in the file, restarted, came to this once it was asked
+pub record HaltsInFile (Halts : DriveState → Type 0) (file : Bytes) : Type 0 where
   pub saved : DriveState
   pub is_read : IsReadIn file saved
   pub last : DriveState
   pub keeps : KeepsZones (restarted saved) last
-  pub stopped : last.stopped ≡ true
+  pub halts : Halts last
 
--- why a drive is not asked to its end: the bytes hold none, by their first fault; or it has stopped, or memory ran out
+-- Why a drive is not asked to its end: the bytes hold none, by their first fault; or it has stopped, or failed at a
+-- command, or memory ran out.
 abbrev pub AsksNone : Bytes → ToolFault → Type 0
-AsksNone file Stopped = StopsInFile file
+AsksNone file Stopped = HaltsInFile HasStopped file
+AsksNone file Failed = HaltsInFile HasFailed file
 AsksNone file Memory = ⊤
 AsksNone file fault = HoldsNone file fault

@@ -1,5 +1,5 @@
 -- The zones of the drive in a file, drawn with their live blocks.
-use Rattle.std.specs.Prelude.{◌≡◌, ◌⊎◌, ℕ, List, [], length, map, slice_get, Some, Result, Ok, Err, true, ⊤}
+use Rattle.std.specs.Prelude.{◌≡◌, ◌⊎◌, ℕ, List, [], length, map, slice_get, Some, Result, Ok, Err, ⊤}
 use Rattle.zone_states.specs.Geometry.{IsInRange}
 use Rattle.drive_array.specs.Repair.{live_data}
 use Rattle.drive_array.specs.Reserve.{most_size}
@@ -12,9 +12,10 @@ use Rattle.remount.specs.Mount.{MountFails}
 use Rattle.drive_inspection.specs.declared.info.Info.{Info}
 use Rattle.drive_inspection.specs.declared.info.ZoneInfo.{ZoneInfo}
 use Rattle.job_drives.specs.Kept.{IsReadIn}
+use Rattle.tool_jobs.specs.Checks.{HasFailed, HasStopped}
 use Rattle.tool_jobs.specs.Telling.{Bytes, HoldsNone}
 use Rattle.tool_jobs.specs.declared.fault.ToolFault.{ToolFault}
-use Rattle.tool_jobs.specs.declared.fault.ToolFault.TheVariants.{Stopped, Memory}
+use Rattle.tool_jobs.specs.declared.fault.ToolFault.TheVariants.{Stopped, Failed, Memory}
 use Rattle.tool_jobs.specs.declared.picturing.PicturedDrive.{PicturedDrive}
 
 -- how many live blocks with data each zone has
@@ -49,22 +50,25 @@ pub record FindsPicture (file : Bytes) (pictured : PicturedDrive) : Type 0 where
   pub keeps : KeepsZones saved pictured.drive.state
   pub live : FindsLive saved pictured.live.items
 
--- why a drive is not looked at to its end: it has stopped, or memory ran out
+-- why a drive is not looked at to its end: it has stopped, or failed at a command, or memory ran out
 abbrev pub LooksNone : DriveState → ToolFault → Type 0
-LooksNone last Stopped = last.stopped ≡ true
+LooksNone last Stopped = HasStopped last
+LooksNone last Failed = HasFailed last
 LooksNone last Memory = ⊤
 LooksNone last fault = ⊥
 
--- the drive in the file has stopped once it was asked
-pub record StopsAsSaved (file : Bytes) : Type 0 where
+-- the drive in the file came to this once it was asked
+pub record HaltsAsSaved (Halts : DriveState → Type 0) (file : Bytes) : Type 0 where
   pub saved : DriveState
   pub is_read : IsReadIn file saved
   pub last : DriveState
   pub keeps : KeepsZones saved last
-  pub stopped : last.stopped ≡ true
+  pub halts : Halts last
 
--- why nothing is drawn: the bytes hold no drive, by their first fault; or it has stopped, or memory ran out
+-- Why nothing is drawn: the bytes hold no drive, by their first fault; or it has stopped, or failed at a command, or
+-- memory ran out.
 abbrev pub DrawsNone : Bytes → ToolFault → Type 0
-DrawsNone file Stopped = StopsAsSaved file
+DrawsNone file Stopped = HaltsAsSaved HasStopped file
+DrawsNone file Failed = HaltsAsSaved HasFailed file
 DrawsNone file Memory = ⊤
 DrawsNone file fault = HoldsNone file fault

@@ -9,6 +9,7 @@ use crate::fault::ToolFault;
 use crate::form::{Form, as_line};
 use crate::telling::tell;
 use drive_inspection::{Findings, check_drive};
+use drive_port::Honest;
 use drive_survey::MountFault;
 use job_drives::restarted_drive;
 use std::alloc::{AllocError, Global};
@@ -44,6 +45,7 @@ pub fn interrupted(fault: MountFault) -> ToolFault
 {
     match fault {
         MountFault::OutOfMemory => ToolFault::Memory,
+        MountFault::Failed => ToolFault::Failed,
         _ => ToolFault::Stopped,
     }
 }
@@ -54,7 +56,9 @@ fn find_faults<I: Read>(alloc: Global, blocks: u64, bytes: &mut I) -> Result<Fin
     ensures err { IfErr result (AsksNone (I.remaining bytes.old)) }
 {
     let mut drive = restarted_drive(alloc, bytes, Habit::Lazy)?.drive;
-    match check_drive(alloc, &mut drive, blocks) {
+    let checked = check_drive(alloc, &mut drive, blocks);
+    drive.vouch();
+    match checked {
         Ok(findings) => Ok(findings),
         Err(fault) => Err(interrupted(fault)),
     }

@@ -28,6 +28,9 @@ pub enum ToolFault {
     /// The drive has stopped: it completes no more commands.
     #[error("the drive has stopped")]
     Stopped,
+    /// The drive failed at a command. No zone was changed, and the call can be made again.
+    #[error("the drive failed at a command")]
+    Failed,
     /// The output failed.
     #[error("standard output failed")]
     Output,

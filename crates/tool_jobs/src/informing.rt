@@ -10,7 +10,7 @@ use crate::fault::ToolFault;
 use crate::form::{Form, as_line};
 use crate::telling::tell;
 use drive_inspection::{DriveInfo, InspectedDrive, blocks_taken, inspect_and_rehearse};
-use drive_port::Device;
+use drive_port::{Device, Honest};
 use job_drives::restarted_drive;
 use std::alloc::{AllocError, Global};
 use std::io::{Read, Write};
@@ -59,7 +59,9 @@ fn find_info<I: Read>(alloc: Global, bytes: &mut I) -> Result<InspectedDrive, To
 {
     let drive = restarted_drive(alloc, bytes, Habit::Lazy)?.drive;
     let given = blocks_taken(&drive.geometry());
-    match inspect_and_rehearse(alloc, drive, given) {
+    let (drive, inspected) = inspect_and_rehearse(alloc, drive, given);
+    drive.vouch();
+    match inspected {
         Ok(found) => Ok(found),
         Err(fault) => Err(interrupted(fault)),
     }

@@ -76,7 +76,9 @@ pub fn find_live<D: Device + Honest>(alloc: Global, device: &mut D) -> Result<Ve
     ensures kept { KeepsZones (D.drive device.old) (D.drive device.new) }
 {
     let given = blocks_taken(&device.geometry());
-    match inspect_drive(alloc, device, given) {
+    let looked = inspect_drive(alloc, device, given);
+    device.vouch();
+    match looked {
         Ok(info) => Ok(live_counts(alloc, &info.found)?),
         Err(fault) => Err(interrupted(fault)),
     }

@@ -63,7 +63,8 @@ fn found_of(
     if let Some(moved) = moved {
         move_out(alloc, &mut drive, GEOMETRY, moved)?;
     }
-    Ok(inspect_and_rehearse(alloc, drive, MOST)?)
+    let (_drive, inspected) = inspect_and_rehearse(alloc, drive, MOST);
+    Ok(inspected?)
 }
 
 /// Shows as lines what is found of a drive.

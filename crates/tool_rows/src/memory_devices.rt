@@ -150,7 +150,7 @@ impl RawDrive for RawMemory {
         match self.drive.submit(entry, bytes, into) {
             Ok(completion) => Ok(completion),
             Err(Halt::Memory) => Err(RawFault::Memory),
-            Err(Halt::Stopped) => Err(RawFault::Unanswered),
+            Err(Halt::Failed | Halt::Stopped) => Err(RawFault::Unanswered),
         }
     }
 }

@@ -42,7 +42,7 @@ fn fresh_disk(alloc: Global) -> Result<Disk<Drive>, Fail> {
 
 /// Imports blocks and exports them again: what is exported.
 fn copy_of(alloc: Global, bytes: &[u8], sparse: bool) -> Result<Vec<u8>, Fail> {
-    let mut disk = fresh_disk(alloc)?;
+    let mut disk = fresh_disk(alloc)?.into_any();
     let mut input = bytes;
     let taken = import_blocks(alloc, &mut disk, &mut input, 0, sparse)?;
     let mut copy = Vec::new(alloc);

@@ -161,42 +161,6 @@ others_are_of below place kept k found are =
     let s = oldest-splits place kept k found in
     rw (ap (λ (p : ℕ). without_oldest p kept) (sym (oldest-place place kept k found)) ∙ s.left) (all-middle (IsOf below) s.older s.newer k (rw s.kept_are at are)).1
 
-write-size : (a b : FlatDisk) (first : ℕ) (blocks : List (List ℕ)) (result : Result (Unit {0}) DiskFault) (known : Option (Result (Unit {0}) DiskFault))
-    → MatchOption known (Begun a (write first blocks) result [] b) (λ r. (with_nothing result ≡ with_nothing r) × (b ≡ a)) → b.size ≡ a.size
-write-size a b first blocks result (Some r) flat = ap (λ (d : FlatDisk). d.size) flat.1
-write-size a b first blocks (Ok done) None flat = ap (λ (d : FlatDisk). d.size) flat.1
-write-size a b first blocks (Err fault) None flat = ap (λ (d : FlatDisk). d.size) flat.3
-
--- and after a write, done or not
-pub writes_are_of : (kind : Bool) (below below' : StoreView) (at first n : ℕ) (blocks : List (List ℕ)) (result : Result (Unit {0}) DiskFault) (kept : List Kept)
-    → Writes kind below (write at blocks) first n (with_nothing result) below' → AreOf below kept → AreOf below' kept
-writes_are_of kind below below' at first n blocks result kept wrote are =
-    let size : disk_size below'.disk ≡ disk_size below.disk = write-size (store_flat below) (store_flat below') at blocks result (known_answer (store_flat below) (write at blocks)) wrote.calls.flat in
-    rw (size, wrote.calls.kept.geometry) are
-
--- and after a call in which the medium failed
-pub spared_are_of : (below below' : StoreView) (first n : ℕ) (kept : List Kept) → Spares below first n below' → AreOf below kept → AreOf below' kept
-spared_are_of below below' first n kept s are =
-    let size : disk_size below'.disk ≡ disk_size below.disk = ap (λ (d : FlatDisk). d.size) s.flat in
-    rw (size, s.kept.geometry) are
-
-pub wrote_are_of : (kind : Bool) (below below' : StoreView) (at first n : ℕ) (blocks : List (List ℕ)) (result : Result (Unit {0}) StoreFault) (kept : List Kept)
-    → OrFails (λ answer. Writes kind below (write at blocks) first n (with_nothing answer) below') (Spares below first n below') result → AreOf below kept → AreOf below' kept
-wrote_are_of kind below below' at first n blocks (Ok done) kept o are = writes_are_of kind below below' at first n blocks (Ok tt) kept o are
-wrote_are_of kind below below' at first n blocks (Err (Disk fault)) kept o are = writes_are_of kind below below' at first n blocks (Err fault) kept o are
-wrote_are_of kind below below' at first n blocks (Err Medium) kept o are = spared_are_of below below' first n kept o are
-
--- and after a sync
-sync-size : (IsDone : List Pending → Type 0) (old new : StoreView) (result : Result (Unit {0}) StoreFault) → SyncsBy IsDone old result new
-    → (disk_size new.disk ≡ disk_size old.disk) × (new.disk.drive.geometry ≡ old.disk.drive.geometry)
-sync-size IsDone old new (Ok done) s = (ap (λ (d : FlatDisk). d.size) s.1.flat, s.1.keeps.kept.geometry)
-sync-size IsDone old new (Err (Disk fault)) (inl s) = (ap (λ (v : StoreView). disk_size v.disk) s.1, ap (λ (v : StoreView). v.disk.drive.geometry) s.1)
-sync-size IsDone old new (Err (Disk fault)) (inr s) = (ap (λ (d : FlatDisk). d.size) s.1.flat, s.1.keeps.kept.geometry)
-sync-size IsDone old new (Err Medium) s = (ap (λ (d : FlatDisk). d.size) s.2, s.1.kept.geometry)
-
-pub sync_are_of : (IsDone : List Pending → Type 0) (old new : StoreView) (result : Result (Unit {0}) StoreFault) (kept : List Kept) → SyncsBy IsDone old result new → AreOf old kept → AreOf new kept
-sync_are_of IsDone old new result kept s are = let same = sync-size IsDone old new result s in rw (same.0, same.1) are
-
 -- ---- one block of the cache
 
 pub apply_done : {S : Type 0} (view : S → StoreView) (old new : Cache S) (place : ℕ) (k : Kept) → oldest_of place old.kept ≡ Some k → AreOf (view old.store) old.kept

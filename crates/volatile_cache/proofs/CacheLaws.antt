@@ -11,7 +11,7 @@ use Rattle.zone_translator.specs.Changes.{batch_commands}
 use Rattle.zone_translator.specs.Flat.{Begun, Call, FlatDisk, IsFront, answer_while, idle, known_answer, replaced, status_after, with_nothing, write}
 use Rattle.zone_translator.specs.View.{CompletesAtMost, disk_array, disk_turns, flat_of}
 use Rattle.zone_translator.specs.declared.fault.DiskFault.{DiskFault}
-use Rattle.zone_translator.specs.declared.fault.DiskFault.TheVariants.{OutOfRange, OutOfMemory, Stopped, Spent, Unmounted, Smaller, Reserve, Damaged}
+use Rattle.zone_translator.specs.declared.fault.DiskFault.TheVariants.{OutOfRange, OutOfMemory, Failed, Stopped, Spent, Unmounted, Smaller, Reserve, Damaged}
 use Rattle.nbd_session.specs.declared.fault.StoreFault.{StoreFault}
 use Rattle.nbd_session.specs.declared.fault.StoreFault.TheVariants.{Disk, Medium}
 use Rattle.nbd_session.specs.Pending.{AreApart, HoldsSome, Pending, overlay, pieces}
@@ -275,6 +275,7 @@ keeps_synced below middle last mine left s nothing k = record {
 -- as a flush may be refused, so may a write
 may-first : (ws : List Pending) (w : Pending) (vs : List Pending) (fault : DiskFault) → may_fail ws fault ≡ true → may_fail (w ∷ vs) fault ≡ true
 may-first ws w vs OutOfMemory may = refl
+may-first ws w vs Failed may = refl
 may-first ws w vs Stopped may = refl
 may-first ws w vs Spent may = refl
 may-first [] w vs OutOfRange may = may

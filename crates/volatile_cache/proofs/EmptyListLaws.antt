@@ -1,22 +1,18 @@
 -- A list that names no block goes through a cache, whatever is pending.
-use Rattle.std.proofs.Common.{◌≡◌, ◌∙◌, inl, inr, ℕ, ◌≤◌, List, [], ◌∷◌, ◌++◌, length, get_or, refl, ap, arith, Some, None, Ok, Err}
-use Rattle.std.specs.Prelude.{Contains, MatchOption, Option, Result}
+use Rattle.std.proofs.Common.{◌≡◌, inl, inr, ℕ, ◌≤◌, List, [], ◌∷◌, ◌++◌, length, refl, arith, Some, Ok}
+use Rattle.std.specs.Prelude.{Contains}
 use Rattle.std.specs.List.{flat_map}
 use Rattle.std.proofs.lemmas.List.{ext_get_or, length-append}
 use Rattle.std.proofs.lemmas.List.Elements.{Contains-append_left, Contains-append_right, Contains-append_cases}
 use Rattle.batch_log.specs.declared.header.Entry.{Entry}
 use Rattle.zone_translator.specs.Changes.{batch_commands}
-use Rattle.zone_translator.specs.Flat.{Answer, Begun, FlatDisk, known_answer, with_nothing, write_list}
-use Rattle.zone_translator.specs.View.{disk_size}
-use Rattle.zone_translator.specs.declared.fault.DiskFault.{DiskFault}
+use Rattle.zone_translator.specs.Flat.{Answer, write_list}
 use Rattle.nbd_session.specs.Pending.{Pending}
 use Rattle.nbd_session.specs.Store.{ComesFrom, IsListTorn, StoreView, WritesList, store_flat}
-use Rattle.volatile_cache.specs.Cache.{AreOf}
 use Rattle.volatile_cache.specs.Outcomes.{cached, deferring, outcomes}
-use Rattle.volatile_cache.specs.declared.kept.Kept.{Kept}
 use Rattle.volatile_cache.proofs.CacheLaws.{empty_cache, mode_up, over}
 use Rattle.volatile_cache.proofs.Lists.{IsOfOne, in_flat_map, of_one}
-use Rattle.volatile_cache.proofs.OutcomeLaws.{cached_flat, outcome_some, some_outcome}
+use Rattle.volatile_cache.proofs.OutcomeLaws.{cached_flat}
 use Rattle.volatile_cache.proofs.ThroughLaws.{known-over, under-due}
 
 none-named : (entries : List Entry) → length entries ≤ 0 → entries ≡ []
@@ -89,10 +85,3 @@ pub list_passed : (below below' : StoreView) (mine : List Pending) (entries : Li
 list_passed below below' mine entries bytes answer few w =
     let none = none-named entries few in
     rw none (empty-list below below' mine bytes answer (rw none at w))
-
--- the blocks that are kept are of the disk still
-pub list_are_of : (below below' : StoreView) (entries : List Entry) (bytes : List ℕ) (answer : Answer) (kept : List Kept) → length entries ≤ 0 → WritesList below entries bytes answer below' → AreOf below kept → AreOf below' kept
-list_are_of below below' entries bytes answer kept few w are =
-    let empty : WritesList below [] bytes answer below' = rw (none-named entries few) at w in
-    let size : disk_size below'.disk ≡ disk_size below.disk = ap (λ (d : FlatDisk). d.size) empty.calls.flat.1 in
-    rw (size, w.calls.kept.geometry) are

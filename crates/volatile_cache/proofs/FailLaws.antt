@@ -5,7 +5,7 @@ use Rattle.std.specs.Prelude.{◌⊎◌, Bool, MatchOption, Option, Result, if�
 use Rattle.zone_translator.specs.Flat.{Answer, Begun, Call, FlatDisk, answer_while, known_answer, known_range, may_refuse, with_nothing, write}
 use Rattle.zone_translator.specs.View.{disk_size}
 use Rattle.zone_translator.specs.declared.fault.DiskFault.{DiskFault}
-use Rattle.zone_translator.specs.declared.fault.DiskFault.TheVariants.{OutOfMemory, OutOfRange, Reserve, Smaller, Spent, Stopped, Unmounted, Damaged}
+use Rattle.zone_translator.specs.declared.fault.DiskFault.TheVariants.{OutOfMemory, Failed, OutOfRange, Reserve, Smaller, Spent, Stopped, Unmounted, Damaged}
 use Rattle.nbd_session.specs.Pending.{Pending}
 use Rattle.nbd_session.specs.Store.{StoreView, Syncs, may_fail, store_flat}
 use Rattle.nbd_session.specs.declared.fault.StoreFault.{StoreFault}
@@ -15,6 +15,7 @@ use Rattle.volatile_cache.specs.Cache.{Applies, Cache, FailsCut, Puts}
 -- a fault by which a write of a block may be refused, or a sync
 by-write : (place : ℕ) (block : List ℕ) (fault : DiskFault) → may_refuse (write place (block ∷ [])) fault ≡ true → may_refuse (write 0 []) fault ≡ true
 by-write place block OutOfMemory may = refl
+by-write place block Failed may = refl
 by-write place block Stopped may = refl
 by-write place block Spent may = refl
 by-write place block OutOfRange may = may
@@ -26,6 +27,7 @@ by-write place block Damaged may = may
 by-sync : (ws : List Pending) (fault : DiskFault) → may_fail ws fault ≡ true → may_refuse (write 0 []) fault ≡ true
 by-sync (w ∷ ws) fault may = by-write w.place w.block fault may
 by-sync [] OutOfMemory may = refl
+by-sync [] Failed may = refl
 by-sync [] Stopped may = refl
 by-sync [] Spent may = refl
 by-sync [] OutOfRange may = may

@@ -1,5 +1,5 @@
 -- The coins of a cut fall one after the other, and leave what they would leave together.
-use Rattle.std.proofs.Common.{◌≡◌, ◌∙◌, ℕ, ◌+◌, ◌<◌, List, [], ◌∷◌, length, drop, set, refl, sym, ap, arith, true}
+use Rattle.std.proofs.Common.{◌≡◌, ◌∙◌, ℕ, ◌+◌, ◌<◌, List, [], ◌∷◌, length, drop, set, refl, sym, ap, arith, true, false}
 use Rattle.std.specs.Prelude.{if◌then◌else◌, Bool}
 use Rattle.rand_core.specs.Stream.{Stream}
 use Rattle.nbd_session.specs.Store.{StoreView, store_array}
@@ -51,3 +51,34 @@ fate_last view coin first chance old now new lost fate none array =
       omega (arith, count, fate.1),
       array ∙ (sym (ap (λ (ks : List Kept). left_by coin chance (all_pending ks) (store_array (view now.store))) none) ∙ fate.0),
     )
+
+-- ---- how many are lost, whatever the Reads of the drive returned
+
+abbrev pub SharesCount : (Stream → Bool × Stream) → Stream → List Kept → ℕ → Stream → List Kept → Type 0
+SharesCount coin first old lost chance now = lost + lost_by coin chance (all_pending now) ≡ lost_by coin first (all_pending old)
+
+pub count_first : (coin : Stream → Bool × Stream) (first chance : Stream) (kept : List Kept) → chance ≡ first → SharesCount coin first kept 0 chance kept
+count_first coin first chance kept same = ap (λ (s : Stream). 0 + lost_by coin s (all_pending kept)) same ∙ omega arith
+
+-- the oldest block is lost
+pub count_lost : (coin : Stream → Bool × Stream) (first a b : Stream) (old now next : List Kept) (lost lost' : ℕ) → SharesCount coin first old lost a now
+    → 0 < length now → (true, b) ≡ coin a → next ≡ drop 1 now → lost' ≡ lost + 1 → SharesCount coin first old lost' b next
+count_lost coin first a b old now next lost lost' counts some falls kept more =
+    let count : 1 + lost_by coin b (all_pending next) ≡ lost_by coin a (all_pending now) = rw kept (lost-count coin a b now some falls) in
+    omega (arith, count, counts, more)
+
+kept-count : (coin : Stream → Bool × Stream) (a b : Stream) (kept : List Kept) → 0 < length kept → (false, b) ≡ coin a → lost_by coin b (all_pending (drop 1 kept)) ≡ lost_by coin a (all_pending kept)
+kept-count coin a b [] some falls = absurd (omega (arith, some))
+kept-count coin a b (k ∷ ks) some falls = rw (← falls) refl
+
+-- or it is not
+pub count_kept : (coin : Stream → Bool × Stream) (first a b : Stream) (old now next : List Kept) (lost : ℕ) → SharesCount coin first old lost a now → 0 < length now → (false, b) ≡ coin a → next ≡ drop 1 now → SharesCount coin first old lost b next
+count_kept coin first a b old now next lost counts some falls kept =
+    let count : lost_by coin b (all_pending next) ≡ lost_by coin a (all_pending now) = rw kept (kept-count coin a b now some falls) in
+    omega (arith, count, counts)
+
+-- none is pending
+pub count_last : (coin : Stream → Bool × Stream) (first chance : Stream) (old now : List Kept) (lost : ℕ) → SharesCount coin first old lost chance now → now ≡ [] → lost ≡ lost_by coin first (all_pending old)
+count_last coin first chance old now lost counts none =
+    let count : lost_by coin chance (all_pending now) ≡ 0 = rw none refl in
+    omega (arith, count, counts)

@@ -9,6 +9,7 @@ pub mod PassLaws
 pub mod IndexLaws
 pub mod KeptIndexLaws
 pub mod OrderLaws
+pub mod StayLaws
 pub mod ApplyLaws
 pub mod ReadLaws
 pub mod KeepLaws

@@ -20,11 +20,11 @@ use Rattle.nbd_session.proofs.PendingLaws.{all-apart}
 use Rattle.nbd_session.specs.Store.{Calls, OrFails, ReadsBlocks, Shows, Spares, StoreView, store_array, store_flat}
 use Rattle.nbd_session.specs.declared.fault.StoreFault.{StoreFault}
 use Rattle.nbd_session.specs.declared.fault.StoreFault.TheVariants.{Disk, Medium}
-use Rattle.volatile_cache.specs.Cache.{AreOf, FailsWithin, ReadsPiece, ShowsMore, SparesWithin}
+use Rattle.volatile_cache.specs.Cache.{FailsWithin, ReadsPiece, ShowsMore, SparesWithin}
 use Rattle.volatile_cache.specs.Outcomes.{cached}
 use Rattle.volatile_cache.specs.Queue.{IsFirstPlace, all_pending, bytes_of, newest_of, oldest_of, pending_of}
 use Rattle.volatile_cache.specs.declared.kept.Kept.{Kept}
-use Rattle.volatile_cache.proofs.ApplyLaws.{range_unknown, spared_are_of, unknown_range}
+use Rattle.volatile_cache.proofs.ApplyLaws.{range_unknown, unknown_range}
 use Rattle.volatile_cache.proofs.CacheLaws.{over}
 use Rattle.volatile_cache.proofs.KeptLaws.{apart-all, apart-before, newest-place, newest-splits, none-of-both, pending-around}
 use Rattle.volatile_cache.proofs.OutcomeLaws.{cached_array, cached_flat, overlay_append}
@@ -393,23 +393,6 @@ clear_failed below below' kept at end next Medium into piece clear known s = rec
 pub failed_piece : (old new : StoreView) (at end : ℕ) (result : Result ℕ StoreFault) (fault : StoreFault) (into : List ℕ) → IsErrAnd result (λ e. e ≡ fault) → ReadsPiece old at end (Err fault) into into new → ReadsPiece old at end result into into new
 failed_piece old new at end (Ok next) fault into is f = absurd is
 failed_piece old new at end (Err e) fault into is f = rw is f
-
--- the pending blocks are of the disk after a read, too
-read-size : (a b : FlatDisk) (first n : ℕ) (result : Result (Unit {0}) DiskFault) (shown : List (List ℕ)) (known : Option (Result (Unit {0}) DiskFault))
-    → MatchOption known (Begun a (read first n) result shown b) (λ r. (record { result = result; shown = shown } ≡ with_nothing r) × (b ≡ a)) → b.size ≡ a.size
-read-size a b first n result shown (Some r) flat = ap (λ (d : FlatDisk). d.size) flat.1
-read-size a b first n (Ok done) shown None flat = ap (λ (d : FlatDisk). d.size) flat.1
-read-size a b first n (Err fault) shown None flat = ap (λ (d : FlatDisk). d.size) flat.3
-
-read-are-of : (below below' : StoreView) (first n : ℕ) (result : Result (Unit {0}) DiskFault) (bytes : List ℕ) (kept : List Kept) → Shows below first n result bytes below' → AreOf below kept → AreOf below' kept
-read-are-of below below' first n result bytes kept s are =
-    let size : disk_size below'.disk ≡ disk_size below.disk = read-size (store_flat below) (store_flat below') first n result s.shown (known_range (store_flat below) first n) s.reads.calls.flat in
-    rw (size, s.reads.calls.kept.geometry) are
-
-pub read_are_of : (below below' : StoreView) (first n : ℕ) (result : Result (Unit {0}) StoreFault) (bytes : List ℕ) (kept : List Kept) → ReadGives below first n bytes result below' → AreOf below kept → AreOf below' kept
-read_are_of below below' first n (Ok done) bytes kept o are = read-are-of below below' first n (Ok tt) bytes kept o are
-read_are_of below below' first n (Err (Disk fault)) bytes kept o are = read-are-of below below' first n (Err fault) bytes kept o are
-read_are_of below below' first n (Err Medium) bytes kept o are = spared_are_of below below' first n kept o.1 are
 
 -- ---- the pieces of a read
 

@@ -13,7 +13,7 @@ use Rattle.zone_translator.specs.Changes.{batch_commands}
 use Rattle.zone_translator.specs.Flat.{Answer, Begun, Call, FlatDisk, blocks_from, known_answer, may_refuse, read, status_after, with_nothing, write}
 use Rattle.zone_translator.specs.View.{disk_turns}
 use Rattle.zone_translator.specs.declared.fault.DiskFault.{DiskFault}
-use Rattle.zone_translator.specs.declared.fault.DiskFault.TheVariants.{OutOfRange, OutOfMemory, Stopped, Spent, Unmounted, Smaller, Reserve, Damaged}
+use Rattle.zone_translator.specs.declared.fault.DiskFault.TheVariants.{OutOfRange, OutOfMemory, Failed, Stopped, Spent, Unmounted, Smaller, Reserve, Damaged}
 use Rattle.nbd_session.specs.Pending.{AreApart, Pending, overlay}
 use Rattle.nbd_session.specs.Store.{Calls, ComesFrom, FailsSync, ReadsBlocks, StoreView, Writes, commands_due, may_fail, store_array, store_flat}
 use Rattle.volatile_cache.specs.Outcomes.{Settles, cached, deferring, outcomes}
@@ -192,6 +192,7 @@ more-pending d more mine e some = omega (arith, some, mul-le (more + 1) e (more 
 may-write : (ws : List Pending) (w : Pending) (fault : DiskFault) → (ws ≡ [] → ⊥) → may_refuse (write w.place (w.block ∷ [])) fault ≡ true → may_fail ws fault ≡ true
 may-write [] w fault some may = absurd (some refl)
 may-write (x ∷ ws) w OutOfMemory some may = refl
+may-write (x ∷ ws) w Failed some may = refl
 may-write (x ∷ ws) w Stopped some may = refl
 may-write (x ∷ ws) w Spent some may = refl
 may-write (x ∷ ws) w OutOfRange some may = may

@@ -1,12 +1,12 @@
 -- A volatile write cache above a store: what it is seen as, and what its calls give.
-use Rattle.std.specs.Prelude.{◌≡◌, ◌⊎◌, ◌<◌, ◌≤◌, ◌+◌, ◌-◌, ℕ, Bool, true, List, [], ◌∷◌, ◌++◌, length, set, take, drop, Contains, Option, Some, None, Result, Ok, Err}
+use Rattle.std.specs.Prelude.{◌≡◌, ◌⊎◌, ◌<◌, ◌≤◌, ◌+◌, ◌-◌, ℕ, Bool, true, List, [], ◌∷◌, ◌++◌, length, set, take, drop, Contains, IfOk, Option, Some, None, Result, Ok, Err}
 use Rattle.std.specs.List.{AllByRecursion, concat}
 use Rattle.zone_translator.specs.Flat.{answer_while, may_refuse, with_nothing, write}
 use Rattle.zone_translator.specs.Keeping.{KeepsServed}
 use Rattle.zone_translator.specs.View.{DiskCause, DiskView, disk_size}
 use Rattle.zone_translator.specs.declared.fault.DiskFault.{DiskFault}
 use Rattle.nbd_session.specs.Pending.{AreApart, Pending}
-use Rattle.nbd_session.specs.Store.{KeepsMode, OrFails, ReadsBlocks, Spares, StoreView, Writes, store_array}
+use Rattle.nbd_session.specs.Store.{KeepsMode, OrFails, ReadsBlocks, Spares, Stays, StoreView, Writes, store_array}
 use Rattle.nbd_session.specs.declared.fault.StoreFault.{StoreFault}
 use Rattle.nbd_session.specs.declared.fault.StoreFault.TheVariants.{Disk, Medium}
 use Rattle.volatile_cache.specs.declared.cut.Lost.{Lost}
@@ -176,3 +176,10 @@ TellsCut seed odds below mine below' (Err fault) = FailsCut below'.disk fault
 
 abbrev pub Cuts : {S : Type 0} → (S → StoreView) → ℕ → ℕ → Cache S → Result Lost StoreFault → Cache S → Type 0
 Cuts view seed odds old result new = Falls (view old.store) (all_pending old.kept) (view new.store) new.kept × TellsCut seed odds (view old.store) (all_pending old.kept) (view new.store) result
+
+-- Whatever the Reads of the drive returned: nothing is pending. Done, it is told how many blocks were lost, as the seed and the
+-- odds choose.
+pub record CutsAnyway {S : Type 0} (view : S → StoreView) (seed odds : ℕ) (old : Cache S) (result : Result Lost StoreFault) (new : Cache S) : Type 0 where
+  pub none : new.kept ≡ []
+  pub counts : IfOk result (λ lost. (lost.pending ≡ length old.kept) × (lost.lost ≡ lost_by (coin_of odds) (chance_of seed) (all_pending old.kept)))
+  pub stays : Stays (view old.store) (view new.store)

@@ -1,21 +1,22 @@
-ghost use Rattle.std.specs.Prelude.{◌≡◌, Err};
+ghost use Rattle.std.specs.Prelude.{◌≡◌, Err, IsTrue};
 ghost use Rattle.std.specs.Option.{option_map};
 ghost use Rattle.zone_translator.specs.Flat.{answer_while, trim, with_nothing};
-ghost use Rattle.nbd_session.specs.Store.{ForcesBlocks, OrFails, Spares, Writes};
+ghost use Rattle.nbd_session.specs.Store.{ForcesBlocks, OrFails, Spares, StaysByCall, StaysBySync, Writes};
 ghost use Rattle.volatile_cache.specs.Cache.{AddsOnly, LeavesOthers, view_of};
 
 use crate::cache::VolatileCache;
-use nbd_session::{Store, StoreFault};
+use nbd_session::{HonestStore, Store, StoreFault};
 use zone_translator::{DiskFault, DiskStatus, Entry};
 
 impl<S: Store + Drop> VolatileCache<S> {
     /// Makes blocks zeros below, trimmed or not.
     fn send_zeros(&mut self, first: u64, blocks: u64, is_trim: bool) -> Result<(), StoreFault>
-        ensures writes { OrFails
+        ensures writes { IsTrue (S.view self.new.store).disk.drive.clean → OrFails
             (λ answer. Writes is_trim (S.view self.old.store) (trim (S.view self.old.store).disk.drive.geometry.block first blocks) first blocks
             (with_nothing answer) (S.view self.new.store))
             (Spares (S.view self.old.store) first blocks (S.view self.new.store)) result }
         ensures kept { self.new.kept ≡ self.old.kept }
+        ensures stays { StaysByCall (S.view self.old.store) (S.view self.new.store) }
     {
         if is_trim {
             self.store.trim(first, blocks)
@@ -26,11 +27,12 @@ impl<S: Store + Drop> VolatileCache<S> {
 
     /// Makes blocks zeros, trimmed or not: they are kept if there is room, and else they go below after all others.
     fn put_zeros(&mut self, first: u64, blocks: u64, is_trim: bool) -> Result<(), StoreFault>
-        ensures writes { OrFails
+        ensures writes { IsTrue (S.view self.new.store).disk.drive.clean → OrFails
             (λ answer. Writes is_trim (view_of S.view self.old) (trim (S.view self.old.store).disk.drive.geometry.block first blocks) first blocks
             (with_nothing answer) (view_of S.view self.new))
             (Spares (view_of S.view self.old) first blocks (view_of S.view self.new)) result }
         ensures kind { AddsOnly is_trim self.old self.new }
+        ensures stays { StaysByCall (S.view self.old.store) (S.view self.new.store) }
     {
         if self.is_known(first, blocks) {
             return self.send_zeros(first, blocks, is_trim);
@@ -60,8 +62,9 @@ impl<S: Store + Drop> VolatileCache<S> {
 
     /// Makes blocks durable. The pending blocks of other places stay so.
     fn force_blocks(&mut self, first: u64, blocks: u64) -> Result<(), StoreFault>
-        ensures forces { ForcesBlocks first blocks (view_of S.view self.old) result (view_of S.view self.new) }
+        ensures forces { IsTrue (S.view self.new.store).disk.drive.clean → ForcesBlocks first blocks (view_of S.view self.old) result (view_of S.view self.new) }
         ensures others { LeavesOthers first blocks self.old self.new }
+        ensures stays { StaysBySync (S.view self.old.store) result (S.view self.new.store) }
     {
         if let Some(fault) = self.refusal() {
             return Err(StoreFault::Disk(fault));
@@ -154,5 +157,11 @@ impl<S: Store + Drop> Store for VolatileCache<S> {
 
     fn rest(&mut self) {
         self.store.rest()
+    }
+}
+
+impl<S: HonestStore + Drop> HonestStore for VolatileCache<S> {
+    fn vouch(&self) {
+        self.store.vouch();
     }
 }

@@ -5,7 +5,7 @@ ghost use Rattle.drive_port.specs.Calls.{data_blocks};
 ghost use Rattle.zone_translator.specs.Answers.{AreBlocksOf, count_of_blocks};
 ghost use Rattle.zone_translator.specs.Flat.{known_range};
 ghost use Rattle.nbd_session.specs.Pending.{AreApart, pieces};
-ghost use Rattle.nbd_session.specs.Store.{store_array, store_flat};
+ghost use Rattle.nbd_session.specs.Store.{StaysByCall, store_array, store_flat};
 ghost use Rattle.volatile_cache.specs.Cache.{AddsOnly, Applies, HasOnly, HasOutcomesOf, HasRoom, IsPut, Keeps};
 ghost use Rattle.volatile_cache.specs.Cache.{KeepsSome, LeavesOthers, MakesRoom, PutsOrFails};
 ghost use Rattle.volatile_cache.specs.Queue.{all_pending, bytes_of, is_trim, oldest_of, pending_of};
@@ -42,7 +42,9 @@ impl<S: Store + Drop> Model for VolatileCache<S> {
 /// Writes a pending block to the store below.
 fn put<S: Store>(store: &mut S, kept: &Kept) -> Result<(), StoreFault>
     requires { length (bytes_of kept.now.content) ≡ (S.view store.old).disk.drive.geometry.block }
-    ensures { PutsOrFails (is_trim kept.now.content) (S.view store.old) (pending_of kept.now) result (S.view store.new) }
+    ensures puts { IsTrue (S.view store.new).disk.drive.clean
+        → PutsOrFails (is_trim kept.now.content) (S.view store.old) (pending_of kept.now) result (S.view store.new) }
+    ensures stays { StaysByCall (S.view store.old) (S.view store.new) }
 {
     // A block has some bytes.
     let _size = store.block_bytes();
@@ -110,12 +112,15 @@ impl<S: Store + Drop> VolatileCache<S> {
 
     /// Writes the oldest block of a place to the store below. If that refuses it, it stays pending.
     fn apply(&mut self, place: u64) -> Result<(), StoreFault>
-        ensures applies { Applies S.view self.old result self.new }
+        ensures applies { IsTrue (S.view self.new.store).disk.drive.clean → Applies S.view self.old result self.new }
         ensures ok { OnOk result (self.new.kept ≡ without_oldest place self.old.kept) }
-        ensures put { OnOk result (IsPut (oldest_of place self.old.kept) (store_array (S.view self.old.store)) (store_array (S.view self.new.store))) }
+        ensures put { IsTrue (S.view self.new.store).disk.drive.clean
+            → OnOk result (IsPut (oldest_of place self.old.kept) (store_array (S.view self.old.store)) (store_array (S.view self.new.store))) }
         ensures most { self.new.most ≡ self.old.most }
         ensures err { OnErr result (self.new.kept ≡ self.old.kept) }
-        ensures outcomes { HasOutcomesOf S.view self.old self.new }
+        ensures outcomes { IsTrue (S.view self.new.store).disk.drive.clean → HasOutcomesOf S.view self.old self.new }
+        // Whatever the Reads returned, the store below stays what it is.
+        ensures stays { StaysByCall (S.view self.old.store) (S.view self.new.store) }
     {
         let Some(kept) = self.queue.oldest_of(place) else {
             return Ok(());
@@ -129,12 +134,15 @@ impl<S: Store + Drop> VolatileCache<S> {
 
     /// Writes the oldest block to the store below. If that refuses it, it stays pending.
     pub(crate) fn apply_oldest(&mut self) -> Result<(), StoreFault>
-        ensures applies { Applies S.view self.old result self.new }
+        ensures applies { IsTrue (S.view self.new.store).disk.drive.clean → Applies S.view self.old result self.new }
         ensures ok { OnOk result (self.new.kept ≡ drop 1 self.old.kept) }
-        ensures put { OnOk result (IsPut (slice_get self.old.kept 0) (store_array (S.view self.old.store)) (store_array (S.view self.new.store))) }
+        ensures put { IsTrue (S.view self.new.store).disk.drive.clean
+            → OnOk result (IsPut (slice_get self.old.kept 0) (store_array (S.view self.old.store)) (store_array (S.view self.new.store))) }
         ensures most { self.new.most ≡ self.old.most }
         ensures err { OnErr result (self.new.kept ≡ self.old.kept) }
-        ensures outcomes { HasOutcomesOf S.view self.old self.new }
+        ensures outcomes { IsTrue (S.view self.new.store).disk.drive.clean → HasOutcomesOf S.view self.old self.new }
+        // Whatever the Reads returned, the store below stays what it is.
+        ensures stays { StaysByCall (S.view self.old.store) (S.view self.new.store) }
     {
         let Some(kept) = self.queue.oldest() else {
             return Ok(());
@@ -145,9 +153,10 @@ impl<S: Store + Drop> VolatileCache<S> {
 
     /// Writes the oldest blocks to the store below, until there is room for so many more or none is pending.
     pub(crate) fn make_room(&mut self, blocks: u64) -> Result<(), StoreFault>
-        ensures applies { Applies S.view self.old result self.new }
+        ensures applies { IsTrue (S.view self.new.store).disk.drive.clean → Applies S.view self.old result self.new }
         ensures oldest { MakesRoom self.old blocks self.new }
         ensures most { self.new.most ≡ self.old.most }
+        ensures stays { StaysByCall (S.view self.old.store) (S.view self.new.store) }
     {
         while !self.queue.is_empty() && !self.has_room(blocks) {
             if let Err(fault) = self.apply_oldest() {
@@ -159,10 +168,11 @@ impl<S: Store + Drop> VolatileCache<S> {
 
     /// Writes all blocks to the store below, the oldest first.
     pub(crate) fn apply_all(&mut self) -> Result<(), StoreFault>
-        ensures applies { Applies S.view self.old result self.new }
+        ensures applies { IsTrue (S.view self.new.store).disk.drive.clean → Applies S.view self.old result self.new }
         ensures none { OnOk result (self.new.kept ≡ []) }
         ensures only { HasOnly self.old self.new }
         ensures most { self.new.most ≡ self.old.most }
+        ensures stays { StaysByCall (S.view self.old.store) (S.view self.new.store) }
     {
         while !self.queue.is_empty() {
             if let Err(fault) = self.apply_oldest() {
@@ -174,10 +184,11 @@ impl<S: Store + Drop> VolatileCache<S> {
 
     /// Writes the pending blocks of these places to the store below, of each place the oldest first.
     pub(crate) fn apply_within(&mut self, first: u64, blocks: u64) -> Result<(), StoreFault>
-        ensures applies { Applies S.view self.old result self.new }
+        ensures applies { IsTrue (S.view self.new.store).disk.drive.clean → Applies S.view self.old result self.new }
         ensures apart { OnOk result (AreApart first blocks (all_pending self.new.kept)) }
         ensures others { LeavesOthers first blocks self.old self.new }
         ensures most { self.new.most ≡ self.old.most }
+        ensures stays { StaysByCall (S.view self.old.store) (S.view self.new.store) }
     {
         while let Some(place) = self.queue.place_from(first) {
             if place - first >= blocks {

@@ -1,7 +1,8 @@
-ghost use Rattle.volatile_cache.specs.Cache.{Cuts};
+ghost use Rattle.std.specs.Prelude.{IsTrue};
+ghost use Rattle.volatile_cache.specs.Cache.{Cuts, CutsAnyway};
 
 use crate::cache::VolatileCache;
-use nbd_session::{Store, StoreFault};
+use nbd_session::{HonestStore, Store, StoreFault};
 use rand::{RngExt, SeedableRng};
 use rand_xoshiro::SplitMix64;
 
@@ -15,11 +16,10 @@ pub struct Lost {
 }
 
 impl<S: Store + Drop> VolatileCache<S> {
-    /// The power fails. Each pending block is lost or is written to the store below, in order, as the seed chooses:
-    /// so a write may be torn. In 100 blocks about `odds` are lost; 0 loses none, and 100 all. Then the store below is
-    /// synced. Afterwards nothing is pending, also where the store below refuses a block or the sync.
-    pub fn cut(&mut self, seed: u64, odds: u32) -> Result<Lost, StoreFault>
-        ensures { Cuts S.view seed odds self.old result self.new }
+    /// The power fails, as [`cut`](VolatileCache::cut) says, over any device.
+    pub fn cut_any(&mut self, seed: u64, odds: u32) -> Result<Lost, StoreFault>
+        ensures cuts { IsTrue (S.view self.new.store).disk.drive.clean → Cuts S.view seed odds self.old result self.new }
+        ensures anyway { CutsAnyway S.view seed odds self.old result self.new }
     {
         let mut coins = SplitMix64::seed_from_u64(seed);
         let pending = self.queue.len() as u64;
@@ -37,5 +37,18 @@ impl<S: Store + Drop> VolatileCache<S> {
             return Err(fault);
         }
         Ok(Lost { lost, pending })
+    }
+}
+
+impl<S: HonestStore + Drop> VolatileCache<S> {
+    /// The power fails. Each pending block is lost or is written to the store below, in order, as the seed chooses:
+    /// so a write may be torn. In 100 blocks about `odds` are lost; 0 loses none, and 100 all. Then the store below is
+    /// synced. Afterwards nothing is pending, also where the store below refuses a block or the sync.
+    pub fn cut(&mut self, seed: u64, odds: u32) -> Result<Lost, StoreFault>
+        ensures { Cuts S.view seed odds self.old result self.new }
+    {
+        let result = self.cut_any(seed, odds);
+        self.store.vouch();
+        result
     }
 }

@@ -11,7 +11,9 @@
 //!
 //! # What is promised
 //!
-//! Of every store below, also one whose medium may fail:
+//! Of every store below, also one whose medium may fail. What a call does is promised while the drive of that store is
+//! clean; whatever its Reads returned, which blocks are kept, how many, in which order, and what a cut counts as lost
+//! (`CutsAnyway`). [`VolatileCache::cut`] is for a store over an honest device.
 //!
 //! * A cache is a store, and answers as a flat array. A block that is pending is shown from the cache. The others are
 //!   read below, neighbours in one call.

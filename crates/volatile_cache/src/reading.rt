@@ -1,7 +1,7 @@
-ghost use Rattle.std.specs.Prelude.{◌≡◌, ◌<◌, ◌-◌, [], IsTrue, None, false, length};
+ghost use Rattle.std.specs.Prelude.{◌≡◌, ◌<◌, ◌≤◌, ◌-◌, [], IfOk, IsTrue, None, OnErr, false, length};
 ghost use Rattle.zone_translator.specs.Flat.{known_range};
 ghost use Rattle.nbd_session.specs.Pending.{AreApart};
-ghost use Rattle.nbd_session.specs.Store.{OrFails, Shows, Spares, store_flat};
+ghost use Rattle.nbd_session.specs.Store.{OrFails, Shows, Spares, StaysByCall, store_flat};
 ghost use Rattle.volatile_cache.specs.Cache.{ReadsPiece, view_of};
 ghost use Rattle.volatile_cache.specs.Queue.{all_pending};
 
@@ -25,10 +25,14 @@ impl<S: Store + Drop> VolatileCache<S> {
     /// Appends the block `at` if it is pending, and else the blocks up to the next one that is, below `end`. Gives the
     /// block after them.
     fn read_piece(&mut self, at: u64, end: u64, into: &mut Vec<u8>) -> Result<u64, StoreFault>
-        requires known { known_range (store_flat (S.view self.old.store)) at (end - at) ≡ None }
+        requires known { IsTrue (S.view self.old.store).disk.drive.clean
+            → known_range (store_flat (S.view self.old.store)) at (end - at) ≡ None }
         requires some { at < end }
-        ensures reads { ReadsPiece (view_of S.view self.old) at end result into.old.items into.new.items (view_of S.view self.new) }
+        ensures reads { IsTrue (S.view self.new.store).disk.drive.clean
+            → ReadsPiece (view_of S.view self.old) at end result into.old.items into.new.items (view_of S.view self.new) }
+        ensures some { IfOk result (λ next. (at < next) × (next ≤ end)) }
         ensures kept { self.new.kept ≡ self.old.kept }
+        ensures stays { StaysByCall (S.view self.old.store) (S.view self.new.store) }
     {
         // The array has so many blocks.
         let _size = self.store.blocks();
@@ -58,9 +62,11 @@ impl<S: Store + Drop> VolatileCache<S> {
         requires known { known_range (store_flat (S.view self.old.store)) first (end - first) ≡ None }
         requires some { first < end }
         requires pending { 0 < length self.old.kept }
-        ensures { OrFails
+        ensures shows { IsTrue (S.view self.new.store).disk.drive.clean → OrFails
             (λ answer. Shows (view_of S.view self.old) first (end - first) answer into.new.items (view_of S.view self.new))
             ((into.new.items ≡ []) × Spares (view_of S.view self.old) first (end - first) (view_of S.view self.new)) result }
+        ensures none { OnErr result (into.new.items ≡ []) }
+        ensures stays { StaysByCall (S.view self.old.store) (S.view self.new.store) }
     {
         into.clear();
         let mut at = first;

@@ -367,6 +367,7 @@ fn show_answer(answer: Answer, out: &mut String) -> Result<(), ScriptFault> {
         Answer::Number(number) => writeln!(out, "    answered {number}"),
         Answer::Fault(PortFault::Refused(status)) => writeln!(out, "    refused {status:?}"),
         Answer::Fault(PortFault::Memory) => writeln!(out, "    out of memory"),
+        Answer::Fault(PortFault::Failed) => writeln!(out, "    failed"),
         Answer::Fault(PortFault::Stopped) => writeln!(out, "    stopped"),
         Answer::None => return Err(ScriptFault::Words),
     };

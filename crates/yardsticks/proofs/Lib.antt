@@ -10,3 +10,4 @@ pub mod SpareLaws
 pub mod RepairLaws
 pub mod MountableLaws
 pub mod LyingLaws
+pub mod FailingLaws

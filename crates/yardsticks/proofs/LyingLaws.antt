@@ -6,9 +6,9 @@ use Rattle.nvme_wire.specs.Entry.{decode_of}
 use Rattle.nvme_wire.specs.declared.command.Command.{Command}
 use Rattle.nvme_wire.specs.declared.command.DecodeFault.{DecodeFault}
 use Rattle.drive_port.specs.declared.device.Halt.{Halt}
-use Rattle.drive_port.specs.declared.device.Halt.TheVariants.{Memory, Stopped}
+use Rattle.drive_port.specs.declared.device.Halt.TheVariants.{Memory, Failed, Stopped}
 use Rattle.drive_port.specs.Drive.{DriveState, IsLawful}
-use Rattle.drive_port.specs.Halting.{Adds, SubmitAdds, SubmitGives}
+use Rattle.drive_port.specs.Halting.{SubmitAdds, SubmitGives}
 use Rattle.drive_port.specs.Step.{is_read, is_told}
 use Rattle.drive_port.proofs.StopLaws.{hardens-by, may_harden-by}
 use Rattle.yardsticks.specs.Lying.{told_by}
@@ -67,6 +67,7 @@ tells-completed old new was is entry bytes completion held told clean tells give
           length_is = tells.long ∙ p.length_is;
           trusted = λ up. rw (tells.before (not-lied is up)) refl;
           fair = λ up same. rw (tells.fair (same ∙ sym true_bytes), not-lied was up) refl;
+          unfailing = p.unfailing;
           geometry = p.geometry;
           completed = p.completed;
           refused = p.refused;
@@ -84,12 +85,14 @@ tells-completed old new was is entry bytes completion held told clean tells give
 tells-halted : (old new : DriveState) (lied : Bool) (entry bytes returned : List ℕ) (halt : Halt) → SubmitGives old entry bytes (Err halt) returned new
     → SubmitGives (told_by old lied) entry bytes (Err halt) returned (told_by new lied)
 tells-halted old new lied entry bytes returned Memory gives = (gives.0, (gives.1.0, ap (λ (d : DriveState). told_by d lied) gives.1.1))
+tells-halted old new lied entry bytes returned Failed gives = (gives.0, record { running = gives.1.running; closing = gives.1.closing; others = ap (λ (d : DriveState). told_by d lied) gives.1.others })
 tells-halted old new lied entry bytes returned Stopped gives =
     let s = gives.1 in (
       gives.0,
       record {
         already = λ e. ap (λ (d : DriveState). told_by d lied) (s.already e);
         stopped = s.stopped;
+        unfailing = s.unfailing;
         geometry = s.geometry;
         trusted = λ up. up;
         fair = λ up. up;

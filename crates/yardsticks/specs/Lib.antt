@@ -1,3 +1,4 @@
 pub mod Batches
 pub mod Zones
 pub mod Lying
+pub mod Failing

@@ -15,11 +15,15 @@
 //! A `LyingDevice` returns other bytes at one Read than are held. It is a device, but not an honest one: its drive is
 //! clean until then (`specs/Lying.antt`).
 //!
+//! A `FailingDevice` fails at one command, or at each Read of one block. It holds what the device within holds
+//! (`specs/Failing.antt`).
+//!
 //! Tests: the rows of `worked_runs`, which compare it with what the disk does.
 #![tactic(auto)]
 
 mod array;
 mod batches;
+mod failing;
 mod live;
 mod logs;
 mod lying;
@@ -32,6 +36,7 @@ mod spare;
 
 pub use array::encoded_array;
 pub use batches::{Batch, ZoneLog, is_heading, log};
+pub use failing::FailingDevice;
 pub use logs::ZoneImage;
 pub use lying::LyingDevice;
 pub use mountable::is_mountable;

@@ -101,20 +101,26 @@ places-closed a b c zone batch closes noted placed =
       appended = placed.appended ∙ ap (λ (n : ℕ). n + 1) closes.kept.appended;
     }
 
+contents-join : (a b c : MountedView) → KeepsContents a b → KeepsContents b c → KeepsContents a c
+contents-join a b c p q = record {
+  agrees = q.agrees;
+  same = record { geometry = q.same.geometry ∙ p.same.geometry; contents = q.same.contents ∙ p.same.contents };
+  refused = q.refused ∙ p.refused;
+  durable = q.durable ∙ p.durable;
+  appended = q.appended ∙ p.appended;
+}
+
 closes-join : (a b c : MountedView) (zone : ℕ) → ClosesBeside a b zone → ClosesBeside b c zone → ClosesBeside a c zone
 closes-join a b c zone p q = record {
   limit = p.limit;
   other = p.other;
   beside = p.beside;
   tables = q.tables ∙ ap (λ (t : TablesView). tables_closed t zone) p.tables ∙ closed-twice a.tables zone;
-  kept = record {
-    agrees = q.kept.agrees;
-    same = record { geometry = q.kept.same.geometry ∙ p.kept.same.geometry; contents = q.kept.same.contents ∙ p.kept.same.contents };
-    refused = q.kept.refused ∙ p.kept.refused;
-    durable = q.kept.durable ∙ p.kept.durable;
-    appended = q.kept.appended ∙ p.kept.appended;
-  };
+  kept = contents-join a b c p.kept q.kept;
 }
+
+closes-same : (a b c : MountedView) (zone : ℕ) → ClosesBeside a b zone → c.tables ≡ b.tables → KeepsContents b c → ClosesBeside a c zone
+closes-same a b c zone p tables kept = record { limit = p.limit; other = p.other; beside = p.beside; tables = tables ∙ p.tables; kept = contents-join a b c p.kept kept }
 
 stops-closed : (a b c : MountedView) (zone : ℕ) (batch : Batch) → ClosesBeside a b zone → StopsInside b c zone batch → StopsInside a c zone batch
 stops-closed a b c zone batch closes stops =
@@ -141,6 +147,13 @@ append-closed a b c zone batch (Err halt.Memory) closes noted leaves = elim leav
   | inl same ↦ inr (subst (λ (m : MountedView). ClosesBeside a m zone) (sym same) closes)
   | inr more ↦ inr (closes-join a b c zone closes more)
 ]
+append-closed a b c zone batch (Err halt.Failed) closes noted leaves = (
+  leaves.0,
+  elim leaves.1 as (λ _. ((c.tables ≡ a.tables) × KeepsContents a c) ⊎ ClosesBeside a c zone) [
+    | inl same ↦ inr (closes-same a b c zone closes same.0 same.1)
+    | inr more ↦ inr (closes-join a b c zone closes more)
+  ],
+)
 append-closed a b c zone batch (Err halt.Stopped) closes noted leaves = stops-closed a b c zone batch closes leaves
 
 append-with : (a b c : MountedView) (zone : ℕ) (batch : Batch) (result : Result (Unit {0}) Halt) → AloneLeaves a b zone (Ok tt) → BatchLeaves b c zone batch result → BatchLeaves a c zone batch result
@@ -173,6 +186,7 @@ stops-before a b zone batch stops =
 
 halts-before : (a b : MountedView) (zone : ℕ) (batch : Batch) (fault : Halt) → AloneLeaves a b zone (Err fault) → BatchLeaves a b zone batch (Err fault)
 halts-before a b zone batch halt.Memory leaves = inl leaves
+halts-before a b zone batch halt.Failed leaves = (leaves.0, inl (leaves.1, leaves.2))
 halts-before a b zone batch halt.Stopped leaves = stops-before a b zone batch leaves
 
 -- the Close halted, and no batch was appended
@@ -213,6 +227,30 @@ closes-keeps a b zone closes =
 pub memory-keeps : (a b : MountedView) (zone : ℕ) (batch : Batch) → Agrees a → BatchLeaves a b zone batch (Err halt.Memory) → KeepsArray a b
 memory-keeps a b zone batch agrees leaves = elim leaves as (λ _. KeepsArray a b) [
   | inl same ↦ subst (KeepsArray a) (sym same) (keeps-refl a.drive a.tables agrees)
+  | inr closes ↦ closes-keeps a b zone closes
+]
+
+same-keeps : (a b : MountedView) → b.tables ≡ a.tables → KeepsContents a b → KeepsArray a b
+same-keeps a b tables kept = record {
+  agrees = kept.agrees;
+  logs = logs-same a.drive b.drive kept.same;
+  array = rw tables (encoded_same a.drive b.drive a.tables.given kept.same);
+  places = rw tables refl;
+  next = rw tables refl;
+  given = rw tables refl;
+  spare = λ some. rw tables some;
+  sealed = λ zone is. rw tables is;
+  second = rw tables refl;
+  geometry = kept.same.geometry;
+  refused = kept.refused;
+  durable = kept.durable;
+  appended = kept.appended;
+}
+
+-- nor where a command failed
+pub failed-keeps : (a b : MountedView) (zone : ℕ) (batch : Batch) → BatchLeaves a b zone batch (Err halt.Failed) → KeepsArray a b
+failed-keeps a b zone batch leaves = elim leaves.1 as (λ _. KeepsArray a b) [
+  | inl same ↦ same-keeps a b same.0 same.1
   | inr closes ↦ closes-keeps a b zone closes
 ]
 

@@ -24,7 +24,7 @@ use Rattle.logical_map.specs.declared.place.Place.{Place}
 use Rattle.zone_choice.specs.Agreement.{Agrees, mounted, mounted_array}
 use Rattle.drive_array.specs.ZoneLogs.{drive_logs, encoded}
 use Rattle.zone_choice.specs.Builder.{BuilderView, IsBuilt, built, placed}
-use Rattle.zone_choice.specs.Changes.{BatchLeaves, CanPlace, IsHalt, KeepsArray, Places, StopsInside, fault_halt, roles_alone, size_with, told_over}
+use Rattle.zone_choice.specs.Changes.{BatchLeaves, CanPlace, IsHalt, KeepsArray, KeepsContents, Places, StopsInside, fault_halt, roles_alone, size_with, told_over}
 use Rattle.drive_array.specs.Records.{append_log, batch_records, entry_records, over, place, record_of, shown}
 use Rattle.zone_choice.specs.Roles.{RolesView, closed, second_with, wrote}
 use Rattle.drive_array.specs.Sizes.{extended, size_or}
@@ -33,7 +33,7 @@ use Rattle.zone_choice.proofs.AgreementLaws.{AppendsBatch, IsPlaced, agrees_appe
 use Rattle.drive_array.proofs.AllLaws.{all-weaker}
 use Rattle.zone_choice.proofs.BuilderLaws.{placed-over}
 use Rattle.zone_choice.proofs.CommandLaws.{can_append, zone-start}
-use Rattle.zone_choice.proofs.OpenLaws.{OpensNone, OpensOnly, append-opens}
+use Rattle.zone_choice.proofs.OpenLaws.{OpensNone, OpensOnly, append-opens, closing-opens}
 use Rattle.zone_choice.proofs.StopLaws.{Left, left-same, left-torn, left-whole}
 
 -- ---- nothing changes
@@ -290,4 +290,13 @@ pub place_halts : (old new : DriveState) (tables : TablesView) (zone start : ℕ
 place_halts old new tables zone start builder bytes (port.Refused status) bytes-are is can alone start-is gives kept leaves obeys passed =
     absurd (passed (rw bytes-are (place_can old tables zone start builder is can alone start-is)))
 place_halts old new tables zone start builder bytes port.Memory bytes-are is can alone start-is gives kept leaves obeys passed = record { halt = tt; leaves = inl (ap (λ (d : DriveState). mounted d tables) gives.1.1.1) }
+place_halts old new tables zone start builder bytes port.Failed bytes-are is can alone start-is gives kept leaves obeys passed =
+    let failed = obeys.fails refl in
+    let same : KeepsContents (mounted old tables) (mounted new tables) = record {
+      agrees = agrees_same old new tables kept (λ k h. closing-opens old.zones new.zones leaves k h) obeys.lawful can.agrees;
+      same = kept;
+      refused = failed.1.refused;
+      durable = obeys.durable;
+      appended = failed.1.appended;
+    } in record { halt = tt; leaves = (failed.0, inl (refl, same)) }
 place_halts old new tables zone start builder bytes port.Stopped bytes-are is can alone start-is gives kept leaves obeys passed = record { halt = tt; leaves = stops_inside old new tables zone start builder is can start-is (rw bytes-are at kept) (rw bytes-are at leaves) obeys }

@@ -102,6 +102,21 @@ close_halts old new tables zone start other (port.Refused status) agrees is room
     let beside = is-beside old tables zone other agrees is in
     absurd (passed (can_close old tables other start agrees beside.in_range beside.holds beside.may room start-is))
 close_halts old new tables zone start other port.Memory agrees is room start-is gives same leaves obeys passed = record { halt = tt; leaves = gives.1.1.1 }
+close_halts old new tables zone start other port.Failed agrees is room start-is gives same leaves obeys passed =
+    let failed = obeys.fails refl in
+    record {
+      halt = tt;
+      leaves = (
+        failed.0,
+        record {
+          agrees = agrees_same old new tables same (close-opens {V = Unit {0}} old new start (Err port.Failed) leaves) obeys.lawful agrees;
+          same = same;
+          refused = failed.1.refused;
+          durable = obeys.durable;
+          appended = failed.1.appended;
+        },
+      );
+    }
 close_halts old new tables zone start other port.Stopped agrees is room start-is gives same leaves obeys passed = record {
   halt = tt;
   leaves = (

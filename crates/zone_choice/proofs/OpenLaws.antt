@@ -15,7 +15,7 @@ use Rattle.drive_port.specs.Contents.{Content, content_at, content_of, contents,
 use Rattle.drive_port.specs.Drive.{ClosesOne, DriveState, IsClosing}
 use Rattle.drive_port.specs.Step.{nowhere, zone_at}
 use Rattle.drive_port.specs.declared.calls.PortFault.{PortFault}
-use Rattle.drive_port.specs.declared.calls.PortFault.TheVariants.{Refused, Memory, Stopped}
+use Rattle.drive_port.specs.declared.calls.PortFault.TheVariants.{Refused, Memory, Failed, Stopped}
 use Rattle.drive_port.proofs.ClosingLaws.{zone_at-closing}
 use Rattle.zone_choice.specs.declared.roles.Filling.{Filling}
 use Rattle.zone_choice.specs.Agreement.{IsShut, TellsOpen}
@@ -56,6 +56,7 @@ leaves-opens : {V : Type 0} (old new : DriveState) (start : ℕ) (zone : Zone) (
 leaves-opens old new start zone (Ok value) shut leaves k h = closing-opens _ new.zones leaves k (set-opens old.zones (start / old.geometry.size) zone shut k h)
 leaves-opens old new start zone (Err (Refused status)) shut leaves k h = closing-opens old.zones new.zones leaves k h
 leaves-opens old new start zone (Err Memory) shut leaves k h = rw leaves h
+leaves-opens old new start zone (Err Failed) shut leaves k h = closing-opens old.zones new.zones leaves k h
 leaves-opens old new start zone (Err Stopped) shut leaves k h = elim leaves as (λ _. IsShut new.zones k) [
   | inl closing ↦ closing-opens old.zones new.zones closing k h
   | inr closing ↦ closing-opens _ new.zones closing k (set-opens old.zones (start / old.geometry.size) zone shut k h)
@@ -81,6 +82,7 @@ pub append-opens : (old new : DriveState) (start : ℕ) (bytes : List ℕ) (resu
 append-opens old new start bytes (Ok address) leaves = written-opens old new start _ leaves
 append-opens old new start bytes (Err (Refused status)) leaves = λ k other h. closing-opens old.zones new.zones leaves k h
 append-opens old new start bytes (Err Memory) leaves = λ k other h. rw leaves h
+append-opens old new start bytes (Err Failed) leaves = λ k other h. closing-opens old.zones new.zones leaves k h
 append-opens old new start bytes (Err Stopped) leaves = λ k other h. elim leaves as (λ _. IsShut new.zones k) [
   | inl closing ↦ closing-opens old.zones new.zones closing k h
   | inr front ↦ written-opens old new start _ front.zones k other h

@@ -1,5 +1,5 @@
 -- What changes of a mounted disk: nothing that its array tells, or one batch more.
-use Rattle.std.specs.Prelude.{◌≡◌, ◌⊎◌, ℕ, ◌≤◌, ◌<◌, ◌+◌, ◌-◌, ◌*◌, ◌^◌, ◌==◌, nat_lt, if◌then◌else◌, true, List, length, Option, Some, None, Result, Ok, Err}
+use Rattle.std.specs.Prelude.{◌≡◌, ◌⊎◌, ℕ, ◌≤◌, ◌<◌, ◌+◌, ◌-◌, ◌*◌, ◌^◌, ◌==◌, nat_lt, if◌then◌else◌, true, IsFalse, List, length, Option, Some, None, Result, Ok, Err}
 use Rattle.std.specs.List.{AllByRecursion}
 use Rattle.std.specs.Option.{option_map}
 use Rattle.zone_states.specs.declared.geometry.Geometry.{Geometry}
@@ -117,6 +117,7 @@ CloseBesideLeaves old tables zone new (Ok done) =
     ((open_beside tables.roles zone ≡ None) × (new ≡ old))
     ⊎ ((other : Filling) × (open_beside tables.roles zone ≡ Some other) × KeepsContents (mounted old tables) (mounted new (tables_closed tables zone)))
 CloseBesideLeaves old tables zone new (Err halt.Memory) = new ≡ old
+CloseBesideLeaves old tables zone new (Err halt.Failed) = IsFalse new.unfailing × KeepsContents (mounted old tables) (mounted new tables)
 CloseBesideLeaves old tables zone new (Err halt.Stopped) = (new.stopped ≡ true) × KeepsContents (mounted old tables) (mounted new tables)
 
 -- what is left where a zone is to be the only one that may be open, at an open limit of 1, by the answer
@@ -124,6 +125,7 @@ abbrev pub AloneLeaves : MountedView → MountedView → ℕ → Result (Unit {0
 AloneLeaves before after zone (Ok done) =
     (after.tables.roles ≡ roles_alone before.drive.geometry before.tables.roles zone) × ((after ≡ before) ⊎ ClosesBeside before after zone)
 AloneLeaves before after zone (Err halt.Memory) = after ≡ before
+AloneLeaves before after zone (Err halt.Failed) = IsFalse after.drive.unfailing × (after.tables ≡ before.tables) × KeepsContents before after
 AloneLeaves before after zone (Err halt.Stopped) = (after.drive.stopped ≡ true) × (after.tables ≡ before.tables) × KeepsContents before after
 
 -- ---- a batch is appended
@@ -186,10 +188,12 @@ pub record StopsInside (before after : MountedView) (zone : ℕ) (batch : Batch)
   pub durable : after.drive.durable ≡ before.drive.durable
   pub appended : after.drive.appended ≡ before.drive.appended
 
--- what an Append of a batch leaves, by its answer: where an allocation fails, the zone beside may have been closed
+-- what an Append of a batch leaves, by its answer: where an allocation or a command fails, the zone beside may have been closed
 abbrev pub BatchLeaves : MountedView → MountedView → ℕ → Batch → Result (Unit {0}) Halt → Type 0
 BatchLeaves before after zone batch (Ok done) = Places before after zone batch
 BatchLeaves before after zone batch (Err halt.Memory) = (after ≡ before) ⊎ ClosesBeside before after zone
+BatchLeaves before after zone batch (Err halt.Failed) =
+    IsFalse after.drive.unfailing × (((after.tables ≡ before.tables) × KeepsContents before after) ⊎ ClosesBeside before after zone)
 BatchLeaves before after zone batch (Err halt.Stopped) = StopsInside before after zone batch
 
 -- a fault of a command that was not refused
@@ -199,4 +203,5 @@ IsHalt fault = Unit {0}
 
 abbrev pub fault_halt : PortFault → Halt
 fault_halt port.Stopped = halt.Stopped
+fault_halt port.Failed = halt.Failed
 fault_halt fault = halt.Memory

@@ -25,6 +25,7 @@ pub fn halt_of(fault: PortFault) -> Halt
 {
     match fault {
         PortFault::Memory => Halt::Memory,
+        PortFault::Failed => Halt::Failed,
         PortFault::Stopped => Halt::Stopped,
         PortFault::Refused(_) => unreachable!(),
     }

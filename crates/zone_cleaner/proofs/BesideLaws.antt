@@ -19,12 +19,12 @@ use Rattle.drive_array.specs.Reserve.{batch_most}
 use Rattle.zone_choice.specs.Roles.{RolesView, Differ, closed_beside, closed_unless, grown, second_with, wrote, open_beside}
 use Rattle.drive_array.specs.Spare.{HasSpare}
 use Rattle.zone_choice.proofs.AgreementLaws.{empty-spare_after, sound-weaker}
-use Rattle.zone_choice.proofs.AloneLaws.{alone-empty, memory-keeps, stops-tables}
+use Rattle.zone_choice.proofs.AloneLaws.{alone-empty, failed-keeps, memory-keeps, stops-tables}
 use Rattle.zone_choice.proofs.CommandLaws.{filling-in_range}
 use Rattle.zone_cleaner.specs.Clean.{CleanView, HasNoDestination, forgotten, turns_left}
 use Rattle.zone_cleaner.specs.Host.{HostLeaves}
 use Rattle.zone_cleaner.specs.Start.{AgreesWithClean}
-use Rattle.zone_cleaner.proofs.CloseLaws.{memory-closes}
+use Rattle.zone_cleaner.proofs.CloseLaws.{failed-closes, memory-closes}
 use Rattle.zone_cleaner.proofs.CleanLaws.{turns_kept}
 use Rattle.zone_cleaner.proofs.HistoryLaws.{moves-beside, moves_have_spare}
 use Rattle.zone_cleaner.proofs.HostLaws.{host_gives, next-batch}
@@ -124,6 +124,9 @@ pub host-halts : (before after : MountedView) (clean : Option CleanView) (host :
 host-halts before after clean host b halt.Memory is host-is can leaves =
     let kept = memory-keeps before after host.zone b is.0 leaves in
     (kept, refl, record { cleaned = cleaned_kept before after clean is kept; turns = kept_turns before after clean (batch_most before.drive.geometry) is kept }, memory-closes before after host.zone b leaves)
+host-halts before after clean host b halt.Failed is host-is can leaves =
+    let kept = failed-keeps before after host.zone b leaves in
+    (kept, refl, record { cleaned = cleaned_kept before after clean is kept; turns = kept_turns before after clean (batch_most before.drive.geometry) is kept }, failed-closes before after host.zone b leaves, leaves.0)
 host-halts before after clean host b halt.Stopped is host-is can leaves = (leaves, refl, host_stops before after clean host b is host-is can leaves)
 
 -- one Close at most comes before it

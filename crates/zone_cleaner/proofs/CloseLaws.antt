@@ -22,6 +22,10 @@ stops-close before after zone batch stops = elim stops.tables as (λ _. MayClose
 pub memory-closes : (before after : MountedView) (zone : ℕ) (batch : Batch) → BatchLeaves before after zone batch (Err halt.Memory) → MayClose before after.tables
 memory-closes before after zone batch leaves = elim leaves as (λ _. MayClose before after.tables) [ inl same ↦ inl (ap (λ (m : MountedView). m.tables) same) | inr closes ↦ inr (closes.limit, (zone, closes.tables)) ]
 
+-- and so does a failed command
+pub failed-closes : (before after : MountedView) (zone : ℕ) (batch : Batch) → BatchLeaves before after zone batch (Err halt.Failed) → MayClose before after.tables
+failed-closes before after zone batch leaves = elim leaves.1 as (λ _. MayClose before after.tables) [ inl same ↦ inl same.0 | inr closes ↦ inr (closes.limit, (zone, closes.tables)) ]
+
 -- the map and the next sequence are the same
 pub close-keeps : (before : MountedView) (after : TablesView) → MayClose before after → SameBut before.tables after
 close-keeps before after may = elim may as (λ _. SameBut before.tables after) [

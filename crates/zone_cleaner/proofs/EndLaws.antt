@@ -25,7 +25,7 @@ use Rattle.drive_array.specs.Sizes.{array_of}
 use Rattle.drive_array.specs.Spare.{HasSpare}
 use Rattle.zone_choice.specs.Tables.{TablesView, size_of}
 use Rattle.zone_choice.proofs.AgreementLaws.{size-encoded}
-use Rattle.zone_choice.proofs.AloneLaws.{memory-keeps, stops-tables}
+use Rattle.zone_choice.proofs.AloneLaws.{failed-keeps, memory-keeps, stops-tables}
 use Rattle.zone_choice.proofs.ChangeLaws.{keeps-halt, keeps-same}
 use Rattle.zone_choice.proofs.CommandLaws.{filling-in_range, start-below, zone-start}
 use Rattle.zone_choice.proofs.OpenLaws.{OpensNone, reset-opens}
@@ -42,7 +42,7 @@ use Rattle.zone_cleaner.proofs.ResetLaws.{reset_gives}
 use Rattle.zone_cleaner.proofs.SealedLaws.{sealed-apart, sealed-holds, sealed-in_range, second-filling, zone-logs}
 use Rattle.zone_cleaner.proofs.StepLaws.{MoveDue, ResetDue, move-due}
 use Rattle.zone_cleaner.proofs.BuildLaws.{MoveBuilt, data-whole, move-can, move-heading, move_built}
-use Rattle.zone_cleaner.proofs.CloseLaws.{memory-closes, stops-close}
+use Rattle.zone_cleaner.proofs.CloseLaws.{failed-closes, memory-closes, stops-close}
 use Rattle.zone_cleaner.proofs.FailLaws.{stops_kept}
 use Rattle.zone_cleaner.proofs.MovedLaws.{move_gives, mounted-encoded}
 use Rattle.batch_log.specs.Header.{header_block}
@@ -121,6 +121,9 @@ carry_fails : (before after : MountedView) (c : CleanView) (fault : Halt) → Ag
 carry_fails before after c halt.Memory agrees is leaves =
     let b = gathered_move (size_of before.tables) before.tables.next c.victim c.gathered in
     (memory-keeps before after is.destination.zone b agrees leaves, memory-closes before after is.destination.zone b leaves)
+carry_fails before after c halt.Failed agrees is leaves =
+    let b = gathered_move (size_of before.tables) before.tables.next c.victim c.gathered in
+    (failed-keeps before after is.destination.zone b leaves, failed-closes before after is.destination.zone b leaves, leaves.0)
 carry_fails before after c halt.Stopped agrees is leaves = carry_stops before after c agrees is leaves
 
 -- ---- the Reset
@@ -149,6 +152,10 @@ pub reset_fails : (old new : DriveState) (tables : TablesView) (c : CleanView) (
     → ResetGives {V = Unit {0}} old start (Err fault) new → ResetKeeps {V = Unit {0}} old start (Err fault) new → ResetLeaves {V = Unit {0}} old start (Err fault) new → Obeys {V = Unit {0}} old (Err fault) new → (CanReset old start → IsNotRefused {V = Unit {0}} (Err fault)) → ResetFails old new tables fault
 reset_fails old new tables c start (port.Refused status) agrees is due start-is gives kept leaves obeys passed = absurd (passed (can_reset old tables c start agrees is start-is))
 reset_fails old new tables c start port.Memory agrees is due start-is gives kept leaves obeys passed = record { halt = tt; fails = (keeps-halt old new tables gives.1.1.1 agrees, inl refl) }
+reset_fails old new tables c start port.Failed agrees is due start-is gives kept leaves obeys passed =
+    let failed = obeys.fails refl in
+    let opens : OpensNone old.zones new.zones = reset-opens {V = Unit {0}} old new start (Err port.Failed) leaves in
+    record { halt = tt; fails = (keeps-same old new tables agrees kept opens obeys.lawful failed.1.refused obeys.durable failed.1.appended, inl refl, failed.0) }
 reset_fails old new tables c start port.Stopped agrees is due start-is gives kept leaves obeys passed = record { halt = tt; fails = by kept }
   where
     opens : OpensNone old.zones new.zones

@@ -41,6 +41,7 @@ stops_kept before after c agrees is kept same stopped = record {
 -- a record that was not read
 pub read_fails : (before after : MountedView) (c : CleanView) (block : ℕ) (place : Place) (fault : CleanFault) → Agrees before → IsClean before c → KeepsArray before after → after.tables ≡ before.tables → IsGatherFault after.drive fault → StepFails (Gather block place) fault before after
 read_fails before after c block place faults.OutOfMemory agrees is kept same cause = (kept, inl same)
+read_fails before after c block place faults.Failed agrees is kept same cause = (kept, inl same, cause)
 read_fails before after c block place faults.Stopped agrees is kept same cause = stops_kept before after c agrees is kept same cause
 read_fails before after c block place faults.Spent agrees is kept same cause = absurd cause
 read_fails before after c block place faults.Damaged agrees is kept same cause = absurd cause

@@ -44,6 +44,18 @@ fetch_halts old new tables block address returned port.Memory stored gives same 
   reads = record { kept = keeps-halt old new tables gives.1.1 stored.agrees; tables = refl; same = same; completed = obeys.completed };
   cause = tt;
 }
+fetch_halts old new tables block address returned port.Failed stored gives same closing obeys passed =
+    let failed = obeys.fails refl in
+    record {
+      halt = tt;
+      reads = record {
+        kept = keeps-same old new tables stored.agrees same (closing-opens old.zones new.zones closing) obeys.lawful failed.1.refused obeys.durable failed.1.appended;
+        tables = refl;
+        same = same;
+        completed = obeys.completed;
+      };
+      cause = failed.0;
+    }
 fetch_halts old new tables block address returned port.Stopped stored gives same closing obeys passed = record {
   halt = tt;
   reads = record {

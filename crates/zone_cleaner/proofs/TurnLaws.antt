@@ -153,6 +153,7 @@ spent-move before after Reset fails = absurd fails
 
 fails_give : (before after : MountedView) (c : CleanView) (new : Option CleanView) (step : Step) (fault : CleanFault) → AgreesWithClean before (Some c) → StepFails step fault before after → new ≡ Some c → CleaningLeaves before (Err fault) after new
 fails_give before after c new step faults.OutOfMemory is fails same = let kept = keeps-kept before after c is fails.0 in rw same (record { goes_on = kept.0; keeps = kept.1; cause = tt })
+fails_give before after c new step faults.Failed is fails same = let kept = keeps-kept before after c is fails.0 in rw same (record { goes_on = kept.0; keeps = kept.1; cause = fails.2 })
 fails_give before after c new step faults.Stopped is fails same =
     let but = close-keeps before after.tables fails.tables in
     record {
@@ -189,6 +190,7 @@ step_gives before after c new (Err fault) is leaves = fails_give before after c 
 
 fails-turns : (before after : MountedView) (c : CleanView) (most : ℕ) (step : Step) (fault : CleanFault) → StepFails step fault before after → turns_left most after.tables (Some c) ≡ turns_left most before.tables (Some c)
 fails-turns before after c most step faults.OutOfMemory fails = close-turns before after.tables most (Some c) fails.1
+fails-turns before after c most step faults.Failed fails = close-turns before after.tables most (Some c) fails.1
 fails-turns before after c most step faults.Stopped fails = close-turns before after.tables most (Some c) fails.tables
 fails-turns before after c most step faults.Spent fails = rw (spent-move before after step fails).0 refl
 fails-turns before after c most step faults.Damaged fails = absurd fails

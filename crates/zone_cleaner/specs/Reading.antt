@@ -1,5 +1,5 @@
 -- How the record of a block is read from the drive, and gathered.
-use Rattle.std.specs.Prelude.{◌≡◌, ℕ, ◌+◌, ◌<◌, ◌≤◌, ◌++◌, true, List, [], ◌∷◌, length, Option, Some, slice_index_or}
+use Rattle.std.specs.Prelude.{◌≡◌, ℕ, ◌+◌, ◌<◌, ◌≤◌, ◌++◌, true, IsFalse, List, [], ◌∷◌, length, Option, Some, slice_index_or}
 use Rattle.drive_port.specs.Contents.{SameContents}
 use Rattle.drive_port.specs.Drive.{DriveState}
 use Rattle.logical_map.specs.declared.place.Place.{Place}
@@ -50,6 +50,7 @@ pub record OnlyReads (before after : MountedView) : Type 0 where
 -- why a record is not read
 abbrev pub IsGatherFault : DriveState → CleanFault → Type 0
 IsGatherFault drive faults.OutOfMemory = Unit {0}
+IsGatherFault drive faults.Failed = IsFalse drive.unfailing
 IsGatherFault drive faults.Stopped = drive.stopped ≡ true
 IsGatherFault drive faults.Spent = ⊥
 IsGatherFault drive faults.Damaged = ⊥

@@ -1,5 +1,5 @@
 -- When a clean starts, and what a turn and a whole clean leave.
-use Rattle.std.specs.Prelude.{◌≡◌, ℕ, zero, suc, ◌+◌, ◌≤◌, ◌<◌, Bool, true, false, map, Option, Some, None, is_some, Result, Ok, Err, IfErr}
+use Rattle.std.specs.Prelude.{◌≡◌, ℕ, zero, suc, ◌+◌, ◌≤◌, ◌<◌, Bool, true, false, IsFalse, map, Option, Some, None, is_some, Result, Ok, Err, IfErr}
 use Rattle.zone_states.specs.declared.geometry.Geometry.{Geometry}
 use Rattle.drive_port.specs.Drive.{DriveState}
 use Rattle.logical_map.specs.Live.{live}
@@ -89,9 +89,10 @@ abbrev pub GoesOn : Result (Unit {0}) CleanFault → MountedView → Option Clea
 GoesOn (Err faults.Stopped) disk clean = Unit {0}
 GoesOn result disk clean = AgreesWithClean disk clean
 
--- why a turn was not done: the drive has stopped, or no sequence is left for a Move; of memory nothing can be said
+-- why a turn was not done: the drive failed at a command or has stopped, or no sequence is left for a Move; of memory nothing can be said
 abbrev pub IsCleaningCause : DriveState → ℕ → CleanFault → Type 0
 IsCleaningCause drive next faults.OutOfMemory = Unit {0}
+IsCleaningCause drive next faults.Failed = IsFalse drive.unfailing
 IsCleaningCause drive next faults.Stopped = drive.stopped ≡ true
 IsCleaningCause drive next faults.Spent = sequence_end drive.geometry ≤ next
 IsCleaningCause drive next faults.Damaged = ⊥

@@ -1,6 +1,6 @@
 -- What each turn of a clean does.
 use Rattle.std.specs.List.{AllByRecursion}
-use Rattle.std.specs.Prelude.{◌≡◌, ◌⊎◌, ℕ, suc, ◌+◌, ◌<◌, ◌≤◌, nat_lt, if◌then◌else◌, true, List, [], ◌∷◌, ◌++◌, length, Option, Some, None, Result, Ok, Err}
+use Rattle.std.specs.Prelude.{◌≡◌, ◌⊎◌, ℕ, suc, ◌+◌, ◌<◌, ◌≤◌, nat_lt, if◌then◌else◌, true, IsFalse, List, [], ◌∷◌, ◌++◌, length, Option, Some, None, Result, Ok, Err}
 use Rattle.drive_port.specs.declared.device.Halt.{Halt}
 use Rattle.drive_port.specs.declared.device.Halt.TheVariants as halt
 use Rattle.batch_log.specs.declared.header.Kind.TheVariants as kinds
@@ -114,10 +114,12 @@ pub record StopsClean (before after : MountedView) : Type 0 where
   pub durable : after.drive.durable ≡ before.drive.durable
   pub appended : after.drive.appended ≡ before.drive.appended
 
--- What a step leaves that was not done, by its fault. Out of memory, the array is the same. Only a Move needs a
+-- What a step leaves that was not done, by its fault. Out of memory, or where a command
+-- failed, the array is the same. Only a Move needs a
 -- sequence; if none is left for it, nothing was sent.
 abbrev pub StepFails : Step → CleanFault → MountedView → MountedView → Type 0
 StepFails step faults.OutOfMemory before after = KeepsArray before after × MayClose before after.tables
+StepFails step faults.Failed before after = KeepsArray before after × MayClose before after.tables × IsFalse after.drive.unfailing
 StepFails step faults.Stopped before after = StopsClean before after
 StepFails Move faults.Spent before after = (after ≡ before) × (sequence_end before.drive.geometry ≤ before.tables.next)
 StepFails step faults.Spent before after = ⊥
@@ -131,4 +133,5 @@ StepLeaves step before clean (Err fault) after new = StepFails step fault before
 -- what a halt of the drive is to a clean
 abbrev pub clean_fault : Halt → CleanFault
 clean_fault halt.Memory = faults.OutOfMemory
+clean_fault halt.Failed = faults.Failed
 clean_fault halt.Stopped = faults.Stopped

@@ -7,6 +7,9 @@ pub enum CleanFault {
     /// An allocation failed. The drive may have completed a Read or a Close.
     #[error("out of memory")]
     OutOfMemory,
+    /// The drive failed at a command, which had no effect. It may have completed a Close.
+    #[error("the drive failed at a command")]
+    Failed,
     /// The drive has stopped.
     #[error("the drive has stopped")]
     Stopped,

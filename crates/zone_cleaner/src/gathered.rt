@@ -77,6 +77,7 @@ pub fn fault_of(halt: Halt) -> CleanFault
 {
     match halt {
         Halt::Memory => CleanFault::OutOfMemory,
+        Halt::Failed => CleanFault::Failed,
         Halt::Stopped => CleanFault::Stopped,
     }
 }
@@ -87,6 +88,7 @@ pub fn command_fault(fault: PortFault) -> CleanFault
 {
     match fault {
         PortFault::Memory => CleanFault::OutOfMemory,
+        PortFault::Failed => CleanFault::Failed,
         PortFault::Stopped => CleanFault::Stopped,
         PortFault::Refused(_) => CleanFault::Damaged,
     }

@@ -1,6 +1,6 @@
 -- A command that is foreseen gives what it gives.
 use Rattle.std.proofs.Common.{◌≡◌, ◌≢◌, ℕ, ◌/◌, ◌%◌, ◌<◌, ◌≤◌, ◌^◌, Bool, true, false, List, [], length, map, Option, Some, None, Result, Ok, Err, ◌&&◌, ◌||◌, inl, inr, refl, sym, ap, ◌∙◌, subst, arith}
-use Rattle.std.specs.Prelude.{nat_le}
+use Rattle.std.specs.Prelude.{nat_le, not}
 use Rattle.std.specs.Option.{unwrap_or}
 use Rattle.std.specs.Result.{result_err}
 use Rattle.std.proofs.lemmas.Bool.{le-leb}
@@ -87,11 +87,11 @@ or-true true b e = refl
 or-true false b e = e
 
 -- a drive whose zones are stored so
-module _ (geometry : Geometry) (zones : List StoredZone) (durable : List (List Zone)) (completed refused appended : ℕ) (habit : Habit) (halted : Bool) (in_range : IsInRange geometry) (are : AreZones geometry zones) (most : completed ≤ 2 ^ 63) where
+module _ (geometry : Geometry) (zones : List StoredZone) (durable : List (List Zone)) (completed refused appended : ℕ) (habit : Habit) (halted failed : Bool) (in_range : IsInRange geometry) (are : AreZones geometry zones) (most : completed ≤ 2 ^ 63) where
   -- the drive with these zones, counts and habit
   abbrev pub drive : MemoryDrive
   drive = record {
-    state = record { geometry = geometry; zones = zones_of geometry.block zones; durable = durable; completed = completed; refused = refused; appended = appended; stopped = halted || nat_le (2 ^ 63) completed; clean = true };
+    state = record { geometry = geometry; zones = zones_of geometry.block zones; durable = durable; completed = completed; refused = refused; appended = appended; stopped = halted || nat_le (2 ^ 63) completed; clean = true; unfailing = not failed };
     habit = habit;
   }
 

@@ -9,7 +9,7 @@ use Rattle.nvme_wire.specs.declared.zone_state.ZoneState.TheVariants.{Empty, Imp
 use Rattle.zone_states.specs.Transition.{is_state}
 use Rattle.zone_states.specs.Zone.{Zone}
 use Rattle.drive_port.specs.declared.device.Halt.{Halt}
-use Rattle.drive_port.specs.declared.device.Halt.TheVariants.{Memory, Stopped}
+use Rattle.drive_port.specs.declared.device.Halt.TheVariants.{Memory, Failed, Stopped}
 use Rattle.drive_port.specs.Drive.{ClosesOne, DriveState, IsClosing}
 use Rattle.drive_port.specs.Durable.{MayHarden}
 use Rattle.drive_port.specs.Halting.{Halts}
@@ -86,6 +86,7 @@ completes old middle closing new entry bytes returned completion reply gives set
         length_is = refl;
         trusted = λ clean. rw (ap (λ (d : DriveState). d.clean) others) at (rw (ap (λ (d : DriveState). d.clean) ends) at clean);
         fair = λ clean same. rw (ap (λ (d : DriveState). d.clean) ends, ap (λ (d : DriveState). d.clean) others) clean;
+        unfailing = ap (λ (d : DriveState). d.unfailing) ends ∙ ap (λ (d : DriveState). d.unfailing) others;
         effect = record {
           middle = chosen old.habit geometry zones command bytes;
           before = closes-chosen (wants_open_resource (outcome geometry zones command bytes).status && makes_room old.habit) zones;
@@ -104,13 +105,21 @@ completes old middle closing new entry bytes returned completion reply gives set
 
 -- ---- a halt
 
--- The device is out of memory, and nothing changed; or what holds its zones has stopped. Then nothing else changed, but
--- what a Flush may have made durable.
-pub halts-noted : (old new : DriveState) (command : Result Command DecodeFault) (bytes : List ℕ) (halt : Halt) → old.stopped ≡ false
+-- The device is out of memory, and nothing changed; or it failed at a read, and nothing else changed; or what holds its
+-- zones has stopped. Then nothing else changed, but what a Flush may have made durable.
+pub halts-noted : (old new : DriveState) (command : Result Command DecodeFault) (bytes : List ℕ) (halt : Halt) → old.stopped ≡ false → (halt ≡ Failed → new ≡ record old { unfailing = false })
     → (halt ≡ Memory → new ≡ old) → (halt ≡ Stopped → new ≡ record old { stopped = true; durable = new.durable }) → (halt ≡ Stopped → MayHarden command old new)
     → Halts old command bytes halt new
-halts-noted old new command bytes Memory going same stops hardens = (going, same refl)
-halts-noted old new command bytes Stopped going same stops hardens =
+halts-noted old new command bytes Memory going fails same stops hardens = (going, same refl)
+halts-noted old new command bytes Failed going fails same stops hardens =
+    let is = fails refl in
+    let zones = ap (λ (d : DriveState). d.zones) is in
+    record {
+      running = going;
+      closing = rw zones (IsClosing-refl old.zones);
+      others = is ∙ ap (λ (held : List Zone). record old { zones = held; unfailing = false }) (sym zones);
+    }
+halts-noted old new command bytes Stopped going fails same stops hardens =
     let is = stops refl in
     record {
       already = λ (e : old.stopped ≡ true). absurd (cc (sym going ∙ e));
@@ -118,6 +127,7 @@ halts-noted old new command bytes Stopped going same stops hardens =
       geometry = ap (λ (d : DriveState). d.geometry) is;
       trusted = λ clean. rw (ap (λ (d : DriveState). d.clean) is) at clean;
       fair = λ clean. rw (ap (λ (d : DriveState). d.clean) is) clean;
+      unfailing = ap (λ (d : DriveState). d.unfailing) is;
       counts = record {
         completed = ap (λ (d : DriveState). d.completed) is;
         refused = ap (λ (d : DriveState). d.refused) is;

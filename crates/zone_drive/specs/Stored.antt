@@ -18,7 +18,7 @@ with_zeros long bytes = take long bytes ++ replicate (long - length bytes) 0
 
 -- a drive of these zones, which has completed no command, and it says nothing of a loss of power
 abbrev pub unused : Geometry → List Zone → DriveState
-unused geometry zones = record { geometry = geometry; zones = zones; durable = []; completed = 0; refused = 0; appended = 0; stopped = false; clean = true }
+unused geometry zones = record { geometry = geometry; zones = zones; durable = []; completed = 0; refused = 0; appended = 0; stopped = false; clean = true; unfailing = true }
 
 -- a drive in which nothing was ever written
 abbrev pub fresh : Geometry → DriveState

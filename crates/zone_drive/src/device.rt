@@ -49,6 +49,8 @@ impl<Z: HeldZones + Drop> ZoneDrive<Z> {
         ensures returned { OnErr result (into.new.items ≡ into.old.items) }
         ensures kept { OnErr result (Keeps self.old.drive (Ok command) self.new.drive) }
         ensures memory { IsErrOf result Halt.Memory → self.new ≡ self.old }
+        ensures failed { IsErrOf result Halt.Failed → self.new.drive ≡ self.old.drive }
+        ensures fails { IsErrOf result Halt.Failed → IsTrue Z.may_stop }
         ensures stops { IsErrOf result Halt.Stopped → IsTrue Z.may_stop }
         ensures halted { self.new.halted ≡ self.old.halted }
     {
@@ -83,6 +85,8 @@ impl<Z: HeldZones + Drop> ZoneDrive<Z> {
         ensures returned { OnErr result (into.new.items ≡ into.old.items) }
         ensures kept { OnErr result (Keeps self.old.drive command self.new.drive) }
         ensures memory { IsErrOf result Halt.Memory → self.new ≡ self.old }
+        ensures failed { IsErrOf result Halt.Failed → self.new.drive ≡ self.old.drive }
+        ensures fails { IsErrOf result Halt.Failed → IsTrue Z.may_stop }
         ensures stops { IsErrOf result Halt.Stopped → IsTrue Z.may_stop }
         ensures halted { self.new.halted ≡ self.old.halted }
     {
@@ -112,18 +116,24 @@ impl<Z: HeldZones + Drop> ZoneDrive<Z> {
         }
     }
 
-    /// Notes that what holds the zones has stopped, where it has.
+    /// Notes that what holds the zones has stopped, or that a read of it failed.
     fn note(&mut self, halt: Halt) -> Halt
         requires stops { halt ≡ Halt.Stopped → IsTrue Z.may_stop }
+        requires fails { halt ≡ Halt.Failed → IsTrue Z.may_stop }
         ensures same { result ≡ halt }
         ensures memory { halt ≡ Halt.Memory → self.new ≡ self.old }
         ensures stopped { halt ≡ Halt.Stopped → self.new ≡ record self.old {
           halted = true;
           drive = record self.old.drive { state = record self.old.drive.state { stopped = true } };
         } }
+        ensures failed { halt ≡ Halt.Failed → self.new ≡ record self.old {
+          drive = record self.old.drive { state = record self.old.drive.state { unfailing = false } };
+        } }
     {
-        if halt == Halt::Stopped {
-            self.halted = true;
+        match halt {
+            Halt::Stopped => self.halted = true,
+            Halt::Failed => self.failed = true,
+            Halt::Memory => {}
         }
         halt
     }

@@ -16,7 +16,8 @@ use zone_states::{Action, Geometry, ZoneState};
 
 /// What holds the zones of a drive: their states, and the bytes of their written blocks. It decides nothing: the drive
 /// asks only what its rules admit. An answer `Stopped` means that the zones are as they were, and that nothing more may
-/// be asked; where `Memory` is answered nothing changed.
+/// be asked; where `Memory` is answered nothing changed. A read may answer `Failed`: what it asked for cannot be read now,
+/// and nothing changed.
 pub trait HeldZones {
     /// The shape of the drive, which never changes.
     ghost shape: { Self → Geometry };
@@ -28,7 +29,7 @@ pub trait HeldZones {
     /// list for each way that it may end. There is none where nothing is said of a loss of power.
     ghost durable: { Self → List (List StoredZone) };
 
-    /// Whether it may answer `Stopped`.
+    /// Whether it may answer `Stopped`, and to a read `Failed`.
     ghost may_stop: { Bool };
 
     /// The state of a zone.
@@ -69,6 +70,7 @@ pub trait HeldZones {
             ≡ into.old.items ++ with_zeros len (drop from (stored_at (stored self.old) index).bytes)) }
         ensures err { OnErr result (into.new.items ≡ into.old.items) }
         ensures memory { IsErrOf result Halt.Memory → self.new ≡ self.old }
+        ensures fails { IsErrOf result Halt.Failed → IsTrue may_stop }
         ensures stops { IsErrOf result Halt.Stopped → IsTrue may_stop }
         ensures durable { durable self.new ≡ durable self.old };
 
@@ -86,6 +88,7 @@ pub trait HeldZones {
             (stored_write (shape self.old) (stored_at (stored self.old) index) bytes.now)) }
         ensures err { OnErr result (stored self.new ≡ stored self.old) }
         ensures memory { IsErrOf result Halt.Memory → self.new ≡ self.old }
+        ensures unfailing { IsErrOf result Halt.Failed → ⊥ }
         ensures stops { IsErrOf result Halt.Stopped → IsTrue may_stop }
         ensures durable { durable self.new ≡ durable self.old };
 

@@ -56,6 +56,7 @@ impl<Z: HeldZones + Drop> ZoneDrive<Z> {
         ensures same { self.new.drive ≡ self.old.drive }
         ensures halted { self.new.halted ≡ self.old.halted }
         ensures memory { IsErrOf result Halt.Memory → self.new ≡ self.old }
+        ensures fails { IsErrOf result Halt.Failed → IsTrue Z.may_stop }
         ensures stops { IsErrOf result Halt.Stopped → IsTrue Z.may_stop }
         ensures returned { OnErr result (into.new.items ≡ into.old.items) }
     {

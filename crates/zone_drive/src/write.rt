@@ -90,6 +90,7 @@ impl<Z: HeldZones + Drop> ZoneDrive<Z> {
         ensures limit { open_count self.old.drive.state.zones ≤ self.old.drive.state.geometry.open }
         ensures kept { OnErr result (self.new.drive ≡ self.old.drive) }
         ensures memory { IsErrOf result Halt.Memory → self.new ≡ self.old }
+        ensures unfailing { IsErrOf result Halt.Failed → ⊥ }
         ensures stops { IsErrOf result Halt.Stopped → IsTrue Z.may_stop }
         ensures halted { self.new.halted ≡ self.old.halted }
     {
@@ -108,6 +109,7 @@ impl<Z: HeldZones + Drop> ZoneDrive<Z> {
             Gives self.old.drive (Ok (Command.Append zslba blocks)) bytes.now reply [] self.new.drive) }
         ensures kept { OnErr result (self.new.drive ≡ self.old.drive) }
         ensures memory { IsErrOf result Halt.Memory → self.new ≡ self.old }
+        ensures unfailing { IsErrOf result Halt.Failed → ⊥ }
         ensures stops { IsErrOf result Halt.Stopped → IsTrue Z.may_stop }
         ensures halted { self.new.halted ≡ self.old.halted }
     {
@@ -129,6 +131,7 @@ impl<Z: HeldZones + Drop> ZoneDrive<Z> {
             Gives self.old.drive (Ok (Command.Write slba blocks)) bytes.now reply [] self.new.drive) }
         ensures kept { OnErr result (self.new.drive ≡ self.old.drive) }
         ensures memory { IsErrOf result Halt.Memory → self.new ≡ self.old }
+        ensures unfailing { IsErrOf result Halt.Failed → ⊥ }
         ensures stops { IsErrOf result Halt.Stopped → IsTrue Z.may_stop }
         ensures halted { self.new.halted ≡ self.old.halted }
     {

@@ -24,12 +24,14 @@ pub struct ZoneDrive<Z: HeldZones + Drop> {
     pub(crate) appended: u64,
     // What holds the zones has stopped.
     pub(crate) halted: bool,
+    // A read of them has failed.
+    pub(crate) failed: bool,
     pub(crate) habit: Habit,
     pub(crate) alloc: Global,
 }
 
 impl<Z: HeldZones + Drop> Model for ZoneDrive<Z> {
-    ghost use Rattle.std.specs.Prelude.{◌≡◌, ◌||◌, nat_le, ◌^◌, ◌≤◌, IsTrue, map, true};
+    ghost use Rattle.std.specs.Prelude.{◌≡◌, ◌||◌, nat_le, not, ◌^◌, ◌≤◌, IsTrue, map, true};
     ghost use Rattle.zone_drive.specs.Held.{AreDurable, HeldDrive};
 
     ghost Value = { HeldDrive Z };
@@ -48,6 +50,7 @@ impl<Z: HeldZones + Drop> Model for ZoneDrive<Z> {
           appended = d.appended;
           stopped = d.halted || nat_le (2 ^ 63) d.completed;
           clean = true;
+          unfailing = not d.failed;
         };
         habit = d.habit;
       };
@@ -58,7 +61,7 @@ impl<Z: HeldZones + Drop> Model for ZoneDrive<Z> {
     ghost invariant = { λ d. IsInRange d.geometry × AreZones d.geometry (Z.stored d.zones)
         × (Z.shape d.zones ≡ d.geometry) × (IsTrue d.halted → IsTrue Z.may_stop)
         × (d.completed ≤ 2 ^ 63) × (d.refused ≤ d.completed) × (d.appended ≤ d.completed)
-        × AreDurable d.geometry (Z.durable d.zones) };
+        × AreDurable d.geometry (Z.durable d.zones) × (IsTrue d.failed → IsTrue Z.may_stop) };
 }
 
 impl<Z: HeldZones + Drop> ZoneDrive<Z> {
@@ -83,6 +86,7 @@ impl<Z: HeldZones + Drop> ZoneDrive<Z> {
             refused: 0,
             appended: 0,
             halted: false,
+            failed: false,
             habit: Habit::Lazy,
             alloc,
         }

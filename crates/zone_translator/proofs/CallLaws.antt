@@ -17,7 +17,7 @@ use Rattle.drive_array.specs.Reserve.{batch_most, most_size}
 use Rattle.drive_array.specs.Sizes.{extended}
 use Rattle.drive_array.proofs.ReserveLaws.{div_ceil-add, div_ceil-none, div_ceil-positive, positive-most}
 use Rattle.zone_translator.specs.declared.fault.DiskFault.{DiskFault}
-use Rattle.zone_translator.specs.declared.fault.DiskFault.TheVariants.{OutOfRange, OutOfMemory, Stopped, Spent, Unmounted, Smaller, Reserve, Damaged}
+use Rattle.zone_translator.specs.declared.fault.DiskFault.TheVariants.{OutOfRange, OutOfMemory, Stopped, Spent, Unmounted, Smaller, Reserve, Damaged, Failed}
 use Rattle.zone_translator.specs.declared.status.DiskStatus.{DiskStatus}
 use Rattle.zone_translator.specs.declared.status.DiskStatus.TheVariants as statuses
 use Rattle.zone_translator.specs.Batches.{IsBatchCount}
@@ -78,6 +78,7 @@ flat-is old new array size status array-is size-is status-is geometry-is = rw (a
 status-refused : (fault : DiskFault) → status_left fault ≡ status_after (Err fault)
 status-refused OutOfRange = refl
 status-refused OutOfMemory = refl
+status-refused Failed = refl
 status-refused Stopped = refl
 status-refused Spent = refl
 status-refused Smaller = refl
@@ -95,6 +96,7 @@ flat-refused old new fault size status geometry = flat-is old new (disk_array ne
 pub cause-of : (disk : DiskView) (fault : DiskFault) → IsCause disk.drive (next_sequence disk) fault → DiskCause disk fault
 cause-of disk OutOfRange cause = tt
 cause-of disk OutOfMemory cause = cause
+cause-of disk Failed cause = cause
 cause-of disk Stopped cause = cause
 cause-of disk Spent cause = cause
 cause-of disk Smaller cause = tt
@@ -106,6 +108,7 @@ cause-of disk Damaged cause = absurd cause
 pub read-cause : (disk : DiskView) (fault : DiskFault) → IsReadFault disk.drive fault → DiskCause disk fault
 read-cause disk OutOfRange cause = tt
 read-cause disk OutOfMemory cause = tt
+read-cause disk Failed cause = cause
 read-cause disk Stopped cause = cause
 read-cause disk Spent cause = absurd cause
 read-cause disk Smaller cause = tt
@@ -144,6 +147,7 @@ write-done old new first n done blocks long known was most is size serves geomet
 may-refuse : (disk : DiskView) (first : ℕ) (blocks : List (List ℕ)) (fault : DiskFault) → IsCause disk.drive (next_sequence disk) fault → may_refuse (write first blocks) fault ≡ true
 may-refuse disk first blocks OutOfRange cause = absurd cause
 may-refuse disk first blocks OutOfMemory cause = refl
+may-refuse disk first blocks Failed cause = refl
 may-refuse disk first blocks Stopped cause = refl
 may-refuse disk first blocks Spent cause = refl
 may-refuse disk first blocks Smaller cause = absurd cause
@@ -218,6 +222,7 @@ growth-done old new blocks known array size status geometry =
 growth-refuse : (disk : DiskView) (blocks : ℕ) (fault : DiskFault) → IsCause disk.drive (next_sequence disk) fault → may_refuse (grow blocks) fault ≡ true
 growth-refuse disk blocks OutOfRange cause = absurd cause
 growth-refuse disk blocks OutOfMemory cause = refl
+growth-refuse disk blocks Failed cause = refl
 growth-refuse disk blocks Stopped cause = refl
 growth-refuse disk blocks Spent cause = refl
 growth-refuse disk blocks Smaller cause = absurd cause
@@ -236,6 +241,7 @@ growth-refused old new blocks fault known front size status geometry cause =
 read-refuse : (drive : DriveState) (first n : ℕ) (fault : DiskFault) → IsReadFault drive fault → may_refuse (read first n) fault ≡ true
 read-refuse drive first n OutOfRange cause = absurd cause
 read-refuse drive first n OutOfMemory cause = refl
+read-refuse drive first n Failed cause = refl
 read-refuse drive first n Stopped cause = refl
 read-refuse drive first n Spent cause = absurd cause
 read-refuse drive first n Smaller cause = absurd cause
@@ -311,6 +317,7 @@ idle-done old new serves array size status geometry =
 idle-refuse : (disk : DiskView) (fault : DiskFault) → IsCause disk.drive (next_sequence disk) fault → may_refuse idle fault ≡ true
 idle-refuse disk OutOfRange cause = absurd cause
 idle-refuse disk OutOfMemory cause = refl
+idle-refuse disk Failed cause = refl
 idle-refuse disk Stopped cause = refl
 idle-refuse disk Spent cause = refl
 idle-refuse disk Smaller cause = absurd cause
@@ -340,6 +347,7 @@ report-done old new serves array size status geometry =
 report-refuse : (drive : DriveState) (fault : DiskFault) → IsReadFault drive fault → may_refuse report fault ≡ true
 report-refuse drive OutOfRange cause = absurd cause
 report-refuse drive OutOfMemory cause = refl
+report-refuse drive Failed cause = refl
 report-refuse drive Stopped cause = refl
 report-refuse drive Spent cause = absurd cause
 report-refuse drive Smaller cause = absurd cause

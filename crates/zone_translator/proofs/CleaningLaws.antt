@@ -30,7 +30,7 @@ use Rattle.zone_cleaner.proofs.CloseLaws.{close-turns, stops-close}
 use Rattle.zone_cleaner.proofs.BesideLaws.{kept_turns}
 use Rattle.zone_cleaner.proofs.TurnLaws.{refused-turns, turn_gives, turns_fewer}
 use Rattle.zone_translator.specs.declared.fault.DiskFault.{DiskFault}
-use Rattle.zone_translator.specs.declared.fault.DiskFault.TheVariants.{OutOfRange, OutOfMemory, Stopped, Spent, Unmounted, Smaller, Reserve, Damaged}
+use Rattle.zone_translator.specs.declared.fault.DiskFault.TheVariants.{OutOfRange, OutOfMemory, Stopped, Spent, Unmounted, Smaller, Reserve, Damaged, Failed}
 use Rattle.zone_translator.specs.Changes.{NoMoreTurns, cleaning_fault}
 use Rattle.zone_translator.specs.Cleaning.{AddsNewer, AreNewer, GoesOnOrEnds, KeepsCleaning, OnlyNewer, log_in_zone}
 
@@ -173,6 +173,7 @@ adds-any : {V : Type 0} (a b : MountedView) (result : Result V DiskFault) → On
 adds-any a b (Ok done) newer = newer
 adds-any a b (Err OutOfRange) newer = newer
 adds-any a b (Err OutOfMemory) newer = newer
+adds-any a b (Err Failed) newer = newer
 adds-any a b (Err Stopped) newer = tt
 adds-any a b (Err Spent) newer = newer
 adds-any a b (Err Smaller) newer = newer
@@ -197,6 +198,7 @@ newer-after : {V : Type 0} (a b c : MountedView) (result : Result V DiskFault) �
 newer-after a b c (Ok done) le p q = newer-join a.tables.next b.tables.next (drive_logs a.drive) (drive_logs b.drive) (drive_logs c.drive) le p q
 newer-after a b c (Err OutOfRange) le p q = newer-join a.tables.next b.tables.next (drive_logs a.drive) (drive_logs b.drive) (drive_logs c.drive) le p q
 newer-after a b c (Err OutOfMemory) le p q = newer-join a.tables.next b.tables.next (drive_logs a.drive) (drive_logs b.drive) (drive_logs c.drive) le p q
+newer-after a b c (Err Failed) le p q = newer-join a.tables.next b.tables.next (drive_logs a.drive) (drive_logs b.drive) (drive_logs c.drive) le p q
 newer-after a b c (Err Stopped) le p q = tt
 newer-after a b c (Err Spent) le p q = newer-join a.tables.next b.tables.next (drive_logs a.drive) (drive_logs b.drive) (drive_logs c.drive) le p q
 newer-after a b c (Err Smaller) le p q = newer-join a.tables.next b.tables.next (drive_logs a.drive) (drive_logs b.drive) (drive_logs c.drive) le p q
@@ -308,6 +310,7 @@ turn-fails {V} before after (Some c) new cause leaves = (
 
     by : (cause : CleanFault) → StepFails step cause before after → AddsNewer {V = V} before (Err (cleaning_fault cause)) after
     by faults.OutOfMemory fails = newer-same before.tables.next (drive_logs before.drive) (drive_logs after.drive) fails.0.logs
+    by faults.Failed fails = newer-same before.tables.next (drive_logs before.drive) (drive_logs after.drive) fails.0.logs
     by faults.Stopped fails = tt
     by faults.Spent fails = newer-same before.tables.next (drive_logs before.drive) (drive_logs after.drive) (ap (λ (m : MountedView). drive_logs m.drive) (spent step fails))
     by faults.Damaged fails = absurd fails
@@ -365,6 +368,13 @@ append-stays b c old new zone batch (Ok done) can leaves = record {
     forgets None new is turns = tt
     forgets (Some u) new is turns = goes-running b c u (forgotten batch.heading.entries u) new is refl turns
 append-stays b c old new zone batch (Err halt.Memory) can leaves = record {
+  next = omega (arith, leaves.0.next);
+  geometry = leaves.0.geometry;
+  goes = goes-same b c old new leaves.1 leaves.2.turns;
+  turns = leaves.2.turns;
+  newer = newer-same b.tables.next (drive_logs b.drive) (drive_logs c.drive) leaves.0.logs;
+}
+append-stays b c old new zone batch (Err halt.Failed) can leaves = record {
   next = omega (arith, leaves.0.next);
   geometry = leaves.0.geometry;
   goes = goes-same b c old new leaves.1 leaves.2.turns;

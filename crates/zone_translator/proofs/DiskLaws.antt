@@ -20,7 +20,7 @@ use Rattle.zone_cleaner.proofs.NextLaws.{cleaning_kept, cleaned_kept}
 use Rattle.zone_cleaner.proofs.SaneLaws.{sane-same}
 use Rattle.zone_cleaner.proofs.TurnLaws.{cleans_mountable}
 use Rattle.zone_translator.specs.declared.fault.DiskFault.{DiskFault}
-use Rattle.zone_translator.specs.declared.fault.DiskFault.TheVariants.{OutOfRange, OutOfMemory, Stopped, Spent, Unmounted, Smaller, Reserve, Damaged}
+use Rattle.zone_translator.specs.declared.fault.DiskFault.TheVariants.{OutOfRange, OutOfMemory, Stopped, Spent, Unmounted, Smaller, Reserve, Damaged, Failed}
 use Rattle.zone_translator.specs.declared.status.DiskStatus.{DiskStatus}
 use Rattle.zone_translator.specs.declared.status.DiskStatus.TheVariants as statuses
 use Rattle.zone_translator.specs.Calls.{HoldsClean, status_left}
@@ -70,6 +70,7 @@ length-array disk clean serves = length-encoded disk.drive disk.tables.given ∙
 pub refused-status : (fault : DiskFault) (was : DiskStatus) → status_left fault ≡ statuses.Unmounted → was ≡ statuses.Unmounted
 refused-status OutOfRange was e = absurd (cc)
 refused-status OutOfMemory was e = absurd (cc)
+refused-status Failed was e = absurd (cc)
 refused-status Stopped was e = absurd (cc)
 refused-status Spent was e = absurd (cc)
 refused-status Unmounted was e = absurd (cc)
@@ -190,6 +191,7 @@ holds-kept a b clean fits serves kept = holds-serving b clean (reserve-kept a b 
 pub holds-read : (a b : MountedView) (clean : Option CleanView) (fault : DiskFault) → FitsReserve a.drive.geometry a.tables.given → AgreesWithClean a clean → KeepsArray a b → IsReadFault b.drive fault → HoldsClean b clean (status_left fault)
 holds-read a b clean OutOfRange fits serves kept cause = absurd cause
 holds-read a b clean OutOfMemory fits serves kept cause = holds-kept a b clean fits serves kept
+holds-read a b clean Failed fits serves kept cause = holds-kept a b clean fits serves kept
 holds-read a b clean Stopped fits serves kept cause =
     let now = cleaned_kept a b clean serves kept in
     record {
@@ -230,6 +232,7 @@ refused-stopped a b clean clean' was fits serves stops = record {
 pub refused-turn : (a b : MountedView) (clean clean' : Option CleanView) (cause : CleanFault) (was : DiskStatus) → FitsReserve a.drive.geometry a.tables.given → AgreesWithClean a clean → KeepsByCleaning a b → GoesOn (Err cause) b clean' → IsCleaningCause b.drive b.tables.next cause
     → Refused a b clean clean' (cleaning_fault cause) was
 refused-turn a b clean clean' faults.OutOfMemory was fits serves kept on cause = refused-serving a b clean clean' OutOfMemory was fits refl (kept, on)
+refused-turn a b clean clean' faults.Failed was fits serves kept on cause = refused-serving a b clean clean' Failed was fits refl (kept, on)
 refused-turn a b clean clean' faults.Stopped was fits serves kept on cause = refused-stopped a b clean clean' was fits serves (room-stops a b kept cause)
 refused-turn a b clean clean' faults.Spent was fits serves kept on cause = refused-serving a b clean clean' Spent was fits refl (kept, on)
 refused-turn a b clean clean' faults.Damaged was fits serves kept on cause = absurd cause
@@ -250,6 +253,7 @@ refused-write a b clean clean' trim first blocks fault was fits serves leaves = 
     by : (fault : DiskFault) → WriteLeaves trim a b clean' first blocks (Err fault) → RefusedWrite a b clean clean' first blocks fault was
     by OutOfRange leaves = same OutOfRange refl leaves
     by OutOfMemory leaves = same OutOfMemory refl leaves
+    by Failed leaves = same Failed refl leaves
     by Stopped leaves = record { refused = refused-stopped a b clean clean' was fits serves leaves.0; front = leaves.1 }
     by Spent leaves = same Spent refl leaves
     by Smaller leaves = same Smaller refl leaves
@@ -267,6 +271,7 @@ pub refused-growth : (a b : MountedView) (clean clean' : Option CleanView) (size
     → GrowLeaves a b clean' size (Err fault) → RefusedGrowth a b clean clean' size fault was
 refused-growth a b clean clean' size OutOfRange was fits serves leaves = record { refused = refused-serving a b clean clean' OutOfRange was fits refl leaves; front = leaves.0.array }
 refused-growth a b clean clean' size OutOfMemory was fits serves leaves = record { refused = refused-serving a b clean clean' OutOfMemory was fits refl leaves; front = leaves.0.array }
+refused-growth a b clean clean' size Failed was fits serves leaves = record { refused = refused-serving a b clean clean' Failed was fits refl leaves; front = leaves.0.array }
 refused-growth a b clean clean' size Stopped was fits serves leaves = record { refused = refused-stopped a b clean clean' was fits serves leaves.0; front = leaves.1 }
 refused-growth a b clean clean' size Spent was fits serves leaves = record { refused = refused-serving a b clean clean' Spent was fits refl leaves; front = leaves.0.array }
 refused-growth a b clean clean' size Smaller was fits serves leaves = record { refused = refused-serving a b clean clean' Smaller was fits refl leaves; front = leaves.0.array }
@@ -336,6 +341,7 @@ same-clean disk = by disk.clean refl
 newer-unless : (b c : MountedView) (fault : DiskFault) → status_left fault ≡ statuses.Serving → AddsNewer {V = ℕ} b (Err fault) c → OnlyNewer b.tables.next (drive_logs b.drive) (drive_logs c.drive)
 newer-unless b c OutOfRange serves newer = newer
 newer-unless b c OutOfMemory serves newer = newer
+newer-unless b c Failed serves newer = newer
 newer-unless b c Stopped serves newer = absurd (cc)
 newer-unless b c Spent serves newer = newer
 newer-unless b c Smaller serves newer = newer

@@ -17,7 +17,7 @@ use Rattle.zone_choice.proofs.OpenLaws.{closing-opens}
 use Rattle.zone_cleaner.specs.Clean.{CleanView}
 use Rattle.zone_cleaner.specs.Start.{AgreesWithClean}
 use Rattle.zone_translator.specs.declared.fault.DiskFault.{DiskFault}
-use Rattle.zone_translator.specs.declared.fault.DiskFault.TheVariants.{OutOfRange, OutOfMemory, Stopped, Spent, Unmounted, Smaller, Reserve, Damaged}
+use Rattle.zone_translator.specs.declared.fault.DiskFault.TheVariants.{OutOfRange, OutOfMemory, Stopped, Spent, Unmounted, Smaller, Reserve, Damaged, Failed}
 use Rattle.zone_translator.specs.declared.status.DiskStatus.{DiskStatus}
 use Rattle.zone_translator.specs.declared.status.DiskStatus.TheVariants as statuses
 use Rattle.zone_translator.specs.Calls.{is_known, status_left}
@@ -97,6 +97,7 @@ pub record FlushFails (old new : DriveState) (fault : PortFault) : Type 0 where
 pub flush_fails : (old new : DriveState) (fault : PortFault) → FlushAnswers {V = Unit {0}} old (Err fault) new → FlushFails old new fault
 flush_fails old new (port.Refused status) answers = absurd answers.taken
 flush_fails old new port.Memory answers = record { halt = tt; may = λ zones left. inl (rw answers.durable at left); cause = tt }
+flush_fails old new port.Failed answers = record { halt = tt; may = λ zones left. inl (rw answers.durable at left); cause = (answers.fails refl).0 }
 flush_fails old new port.Stopped answers = record { halt = tt; may = answers.durable; cause = (answers.stops refl).0 }
 
 -- and the array is kept
@@ -105,6 +106,9 @@ flush_keeps old new tables (port.Refused status) agrees answers = absurd answers
 flush_keeps old new tables port.Memory agrees answers =
     let same = answers.gives.1.1.1 in
     keeps old new tables agrees answers.kept answers.lawful (ap (λ (drive : DriveState). drive.refused) same) (ap (λ (drive : DriveState). drive.appended) same)
+flush_keeps old new tables port.Failed agrees answers =
+    let failed = answers.fails refl in
+    keeps old new tables agrees answers.kept answers.lawful failed.1.refused failed.1.appended
 flush_keeps old new tables port.Stopped agrees answers =
     let stops = answers.stops refl in
     keeps old new tables agrees answers.kept answers.lawful stops.1.refused stops.1.appended
@@ -120,6 +124,7 @@ flush-done old new serves array size status geometry =
 refuses : (drive : DriveState) (fault : DiskFault) → IsReadFault drive fault → may_refuse flush fault ≡ true
 refuses drive OutOfRange cause = absurd cause
 refuses drive OutOfMemory cause = refl
+refuses drive Failed cause = refl
 refuses drive Stopped cause = refl
 refuses drive Spent cause = absurd cause
 refuses drive Smaller cause = absurd cause

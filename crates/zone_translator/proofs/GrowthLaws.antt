@@ -21,10 +21,10 @@ use Rattle.zone_cleaner.specs.Host.{HostLeaves}
 use Rattle.zone_cleaner.specs.Start.{AgreesWithClean, KeepsByCleaning}
 use Rattle.zone_translator.specs.Batches.{IsRoom, host_heading}
 use Rattle.zone_translator.specs.declared.fault.DiskFault.{DiskFault}
-use Rattle.zone_translator.specs.declared.fault.DiskFault.TheVariants.{OutOfRange, OutOfMemory, Stopped, Spent, Unmounted, Smaller, Reserve, Damaged}
+use Rattle.zone_translator.specs.declared.fault.DiskFault.TheVariants.{OutOfRange, OutOfMemory, Stopped, Spent, Unmounted, Smaller, Reserve, Damaged, Failed}
 use Rattle.zone_translator.specs.Changes.{GrowLeaves, Grows, IsCause, RoomLeaves, disk_fault}
 use Rattle.zone_translator.proofs.RoomLaws.{room-stops}
-use Rattle.zone_translator.proofs.WriteLaws.{append_stops, appended-size, built-batch, can_place, keeps-placed, memory-left}
+use Rattle.zone_translator.proofs.WriteLaws.{append_stops, appended-size, built-batch, can_place, failed-left, keeps-placed, memory-left}
 
 -- its batch, without an entry, is built and can be appended
 pub record IsGrowthBatch (disk : MountedView) (host : Filling) (size : ℕ) (builder : BuilderView) : Type 0 where
@@ -81,6 +81,7 @@ growth-writes a b c old new host size builder kept is next leaves =
 pub growth-halts : (a b c : MountedView) (old new : Option CleanView) (host : Filling) (size : ℕ) (builder : BuilderView) (fault : Halt) → KeepsByCleaning a b → AgreesWithClean b old → IsGrowthBatch b host size builder
     → HostLeaves b old host.zone (built b.drive.geometry.block builder) (Err fault) c new → GrowLeaves a c new size (Err (disk_fault fault)) × IsCause c.drive c.tables.next (disk_fault fault)
 growth-halts a b c old new host size builder halt.Memory kept is next leaves = (memory-left a b c old new host.zone (built b.drive.geometry.block builder) kept is leaves, tt)
+growth-halts a b c old new host size builder halt.Failed kept is next leaves = (failed-left a b c old new host.zone (built b.drive.geometry.block builder) kept is leaves, leaves.4)
 growth-halts a b c old new host size builder halt.Stopped kept is next leaves =
     let stops = leaves.0 in
     let batch = built b.drive.geometry.block builder in
@@ -93,6 +94,7 @@ growth-halts a b c old new host size builder halt.Stopped kept is next leaves =
 growth-without : (a b : MountedView) (clean : Option CleanView) (size : ℕ) (fault : DiskFault) → RoomLeaves {V = Filling} a b clean (Err fault) → IsCause b.drive b.tables.next fault → GrowLeaves a b clean size (Err fault)
 growth-without a b clean size OutOfRange leaves cause = leaves
 growth-without a b clean size OutOfMemory leaves cause = leaves
+growth-without a b clean size Failed leaves cause = leaves
 growth-without a b clean size Stopped leaves cause = (room-stops a b leaves cause, inl leaves.array)
 growth-without a b clean size Spent leaves cause = leaves
 growth-without a b clean size Smaller leaves cause = leaves

@@ -31,7 +31,7 @@ use Rattle.logical_map.specs.declared.place.Place.{Place}
 use Rattle.zone_translator.specs.declared.list.ListRest.{ListRest}
 use Rattle.zone_translator.specs.declared.list.Taken.{Taken}
 use Rattle.zone_translator.specs.declared.fault.DiskFault.{DiskFault}
-use Rattle.zone_translator.specs.declared.fault.DiskFault.TheVariants.{OutOfRange, OutOfMemory, Stopped, Spent, Unmounted, Smaller, Reserve, Damaged}
+use Rattle.zone_translator.specs.declared.fault.DiskFault.TheVariants.{OutOfRange, OutOfMemory, Stopped, Spent, Unmounted, Smaller, Reserve, Damaged, Failed}
 use Rattle.zone_translator.specs.declared.status.DiskStatus.{DiskStatus}
 use Rattle.zone_translator.specs.declared.status.DiskStatus.TheVariants as statuses
 use Rattle.zone_translator.specs.Calls.{answer_before, is_known, status_left}
@@ -57,6 +57,7 @@ refused-list a b clean clean' left fault was fits serves leaves = by fault leave
     by : (fault : DiskFault) → ListedLeaves a left (Err fault) b clean' → RefusedList a b clean clean' puts fault was
     by OutOfRange leaves = same OutOfRange refl leaves
     by OutOfMemory leaves = same OutOfMemory refl leaves
+    by Failed leaves = same Failed refl leaves
     by Stopped leaves = record { refused = refused-stopped a b clean clean' was fits serves leaves.0; front = leaves.1 }
     by Spent leaves = same Spent refl leaves
     by Smaller leaves = same Smaller refl leaves
@@ -269,6 +270,7 @@ list-done old new es bodies none array size status geometry =
 list-may-refuse : (disk : DiskView) (puts : List Put) (fault : DiskFault) → IsCause disk.drive (next_sequence disk) fault → may_refuse (write_list puts) fault ≡ true
 list-may-refuse disk puts OutOfRange cause = absurd cause
 list-may-refuse disk puts OutOfMemory cause = refl
+list-may-refuse disk puts Failed cause = refl
 list-may-refuse disk puts Stopped cause = refl
 list-may-refuse disk puts Spent cause = refl
 list-may-refuse disk puts Smaller cause = absurd cause
@@ -292,6 +294,7 @@ refused-list-clean a b c x y z was is fault same stays keeps serves = refused-cl
     by : (fault : DiskFault) → AddsNewer {V = Taken} b (Err fault) c → AddsNewer {V = ℕ} b (Err fault) c
     by OutOfRange newer = newer
     by OutOfMemory newer = newer
+    by Failed newer = newer
     by Stopped newer = newer
     by Spent newer = newer
     by Smaller newer = newer

@@ -42,11 +42,11 @@ use Rattle.zone_translator.specs.Batches.{IsCut, IsRoom, KeepsCutTo, names}
 use Rattle.zone_translator.specs.Flat.{IsListFront, Put, put_all}
 use Rattle.zone_translator.specs.Listed.{CanPutAll, IsNextListed, ListedLeaves, NamesAll, PutsAll, TakesMost, last_block, left_puts, listed_heading, puts_of}
 use Rattle.zone_translator.specs.declared.fault.DiskFault.{DiskFault}
-use Rattle.zone_translator.specs.declared.fault.DiskFault.TheVariants.{OutOfRange, OutOfMemory, Stopped, Spent, Unmounted, Smaller, Reserve, Damaged}
+use Rattle.zone_translator.specs.declared.fault.DiskFault.TheVariants.{OutOfRange, OutOfMemory, Stopped, Spent, Unmounted, Smaller, Reserve, Damaged, Failed}
 use Rattle.zone_translator.specs.Changes.{IsCause, RoomLeaves, StopKeeps, disk_fault}
 use Rattle.zone_translator.proofs.ListedLaws.{all-front, distinct-front, few-data, length-puts, names-all-placed, names-last_block, over-puts, puts-front}
 use Rattle.zone_translator.proofs.RoomLaws.{filling-host, host-filled, room-stops}
-use Rattle.zone_translator.proofs.WriteLaws.{append_stops, appended-size, cut-batch, keeps-placed, memory-left, room-array, same-room}
+use Rattle.zone_translator.proofs.WriteLaws.{append_stops, appended-size, cut-batch, failed-left, keeps-placed, memory-left, room-array, same-room}
 
 -- ---- what is built can be appended
 
@@ -235,6 +235,7 @@ pub listed_halts : (a b c : MountedView) (old new : Option CleanView) (host : Fi
     → IsNextListed b host left builder count → HostLeaves b old host.zone (built b.drive.geometry.block builder) (Err fault) c new
     → ListedLeaves a left (Err (disk_fault fault)) c new × IsCause c.drive c.tables.next (disk_fault fault)
 listed_halts a b c old new host left count builder halt.Memory kept is next leaves = (memory-left a b c old new host.zone (built b.drive.geometry.block builder) kept is leaves, tt)
+listed_halts a b c old new host left count builder halt.Failed kept is next leaves = (failed-left a b c old new host.zone (built b.drive.geometry.block builder) kept is leaves, leaves.4)
 listed_halts a b c old new host left count builder halt.Stopped kept is next leaves =
     let stops = listed_stops a b c host left count builder kept next leaves.0 leaves.2 in
     ((stops.0, subst (λ (g : Geometry). IsListFront (mounted_array a) (left_puts g left) (mounted_array c)) kept.geometry stops.1), leaves.0.stopped)
@@ -242,6 +243,7 @@ listed_halts a b c old new host left count builder halt.Stopped kept is next lea
 listed_without : (a b : MountedView) (clean : Option CleanView) (left : ListRest) (fault : DiskFault) → RoomLeaves {V = Filling} a b clean (Err fault) → IsCause b.drive b.tables.next fault → ListedLeaves a left (Err fault) b clean
 listed_without a b clean left OutOfRange leaves cause = leaves
 listed_without a b clean left OutOfMemory leaves cause = leaves
+listed_without a b clean left Failed leaves cause = leaves
 listed_without a b clean left Stopped leaves cause = (room-stops a b leaves cause, list-none (mounted_array a) (mounted_array b) (left_puts a.drive.geometry left) leaves.array)
 listed_without a b clean left Spent leaves cause = leaves
 listed_without a b clean left Smaller leaves cause = leaves

@@ -14,7 +14,7 @@ use Rattle.zone_choice.specs.Roles.{RolesView, fillings}
 use Rattle.zone_choice.specs.Tables.{TablesView}
 use Rattle.zone_cleaner.specs.Clean.{CleanView, HasNoDestination}
 use Rattle.drive_survey.specs.declared.fault.MountFault.{MountFault}
-use Rattle.drive_survey.specs.declared.fault.MountFault.TheVariants.{Halted, OutOfMemory}
+use Rattle.drive_survey.specs.declared.fault.MountFault.TheVariants.{Halted, OutOfMemory, Failed}
 use Rattle.remount.specs.Kept.{AreSane, KeepsMountable, Stays}
 use Rattle.remount.specs.Mount.{HostIsBelow, IsToMount, MountFails, Mounts}
 use Rattle.drive_survey.specs.Scan.{FailsBy}
@@ -110,9 +110,10 @@ refused-flat old new n clean fault is range holds kept fails =
     let array : encoded new (given_size old) ≡ disk_array old = (rw is at kept).array holds.mountable in
     (stops (remount-halts old.drive new old.tables old.clean old.status n fault is range holds fails), flat-is old (view_of (mounted new old.tables) clean Unmounted) (disk_array old) (disk_size old) Unmounted array refl refl kept.geometry)
   where
-    stops : FailsBy (λ _. ⊥) new fault → (fault ≡ OutOfMemory) ⊎ (fault ≡ Halted)
+    stops : FailsBy (λ _. ⊥) new fault → (fault ≡ OutOfMemory) ⊎ (fault ≡ Halted) ⊎ (fault ≡ Failed)
     stops (inl memory) = inl memory
-    stops (inr (inl halted)) = inr halted.0
+    stops (inr (inl (inl halted))) = inr (inl halted.0)
+    stops (inr (inl (inr failed))) = inr (inr failed.0)
     stops (inr (inr none)) = absurd none
 
 -- ---- after a remount

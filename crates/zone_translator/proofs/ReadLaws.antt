@@ -1,8 +1,9 @@
 -- Blocks are read, one by itself or neighbours together.
-use Rattle.std.proofs.Common.{◌≡◌, ℕ, zero, suc, ◌+◌, ◌-◌, ◌*◌, ◌/◌, ◌%◌, ◌<◌, ◌≤◌, ◌^◌, List, [], ◌∷◌, length, drop, drop-cons, add-one, false, get_or, replicate, Some, Err, refl, sym, ap, ◌∙◌, append-nil, arith}
+use Rattle.std.proofs.Common.{◌≡◌, ℕ, zero, suc, ◌+◌, ◌-◌, ◌*◌, ◌/◌, ◌%◌, ◌<◌, ◌≤◌, ◌^◌, List, [], ◌∷◌, ◌++◌, length, drop, drop-cons, add-one, false, get_or, replicate, Some, Err, refl, sym, ap, ◌∙◌, append-nil, arith}
 use Rattle.std.specs.List.{concat}
 use Rattle.std.proofs.lemmas.Nat.{div-mul-add, mod-mul-add, mul-le}
-use Rattle.std.proofs.Math.Nat.{mul_comm}
+use Rattle.std.proofs.Math.Nat.{add-mul, mul_comm}
+use Rattle.std.proofs.lemmas.List.{length-append, length-replicate}
 use Rattle.drive_array.proofs.WholeLaws.{length-encoded}
 use Rattle.zone_choice.proofs.AgreementLaws.{size-encoded}
 use Rattle.zone_cleaner.specs.Start.{trims}
@@ -52,6 +53,13 @@ pub row_halts : (old new : DriveState) (tables : TablesView) (address count : �
     → ReadGives {V = Unit {0}} old address count (Err fault) returned new → SameContents old new → IsClosing old.zones new.zones → Obeys {V = Unit {0}} old (Err fault) new → (CanRead old address count → IsNotRefused {V = Unit {0}} (Err fault)) → ReadHalts old new tables fault
 row_halts old new tables address count returned (port.Refused status) agrees can gives same closing obeys passed = absurd (passed can)
 row_halts old new tables address count returned port.Memory agrees can gives same closing obeys passed = record { halt = tt; kept = keeps-halt old new tables gives.1.1 agrees; cause = tt }
+row_halts old new tables address count returned port.Failed agrees can gives same closing obeys passed =
+    let failed = obeys.fails refl in
+    record {
+      halt = tt;
+      kept = keeps-same old new tables agrees same (closing-opens old.zones new.zones closing) obeys.lawful failed.1.refused obeys.durable failed.1.appended;
+      cause = failed.0;
+    }
 row_halts old new tables address count returned port.Stopped agrees can gives same closing obeys passed = record {
   halt = tt;
   kept = keeps-same old new tables agrees same (closing-opens old.zones new.zones closing) obeys.lawful (obeys.counts refl).refused obeys.durable (obeys.counts refl).appended;
@@ -81,6 +89,16 @@ zeros_shown drive tables block p agrees lt at other = sym (no-place drive (encod
 -- a block with a place for its data has data
 pub at-data : (tables : TablesView) (block address : ℕ) → places.At address ≡ get_or tables.map.places block places.None → trims (get_or tables.map.places block places.None) ≡ Some false
 at-data tables block address at = ap trims (sym at)
+
+-- ---- how many bytes are added, whatever a Read returned
+
+-- zeros for one block
+pub zeros-added : (held shown : List ℕ) (n size : ℕ) → shown ≡ held ++ replicate n 0 → n ≡ size → length shown ≡ length held + 1 * size
+zeros-added held shown n size is same = omega (arith, ap length is, length-append held (replicate n 0), length-replicate {A = ℕ} n 0, same)
+
+-- the bytes of some blocks more
+pub more-added : (size was done count before after : ℕ) → was ≡ size → before ≡ done * size → after ≡ before + count * was → after ≡ (done + count) * size
+more-added size was done count before after same so added = omega (arith, rw same at added, so, add-mul done count size)
 
 -- ---- neighbours
 

@@ -58,6 +58,13 @@ pub report_halts : (old new : DriveState) (tables : TablesView) (dwords : ℕ) (
     → Obeys {V = Unit {0}} old (Err fault) new → (0 < end_of old.geometry → IsNotRefused {V = Unit {0}} (Err fault)) → ReadHalts old new tables fault
 report_halts old new tables dwords returned (port.Refused status) agrees gives same closing obeys passed = absurd (passed (can-report old agrees.geometry))
 report_halts old new tables dwords returned port.Memory agrees gives same closing obeys passed = record { halt = tt; kept = keeps-halt old new tables gives.1.1 agrees; cause = tt }
+report_halts old new tables dwords returned port.Failed agrees gives same closing obeys passed =
+    let failed = obeys.fails refl in
+    record {
+      halt = tt;
+      kept = keeps-same old new tables agrees same (closing-opens old.zones new.zones closing) obeys.lawful failed.1.refused obeys.durable failed.1.appended;
+      cause = failed.0;
+    }
 report_halts old new tables dwords returned port.Stopped agrees gives same closing obeys passed = record {
   halt = tt;
   kept = keeps-same old new tables agrees same (closing-opens old.zones new.zones closing) obeys.lawful (obeys.counts refl).refused obeys.durable (obeys.counts refl).appended;
@@ -72,4 +79,5 @@ pub record ReportFails (new : DriveState) (fault : PortFault) : Type 0 where
 pub report_fails : (old new : DriveState) (fault : PortFault) → IsInRange old.geometry → Obeys {V = Unit {0}} old (Err fault) new → (0 < end_of old.geometry → IsNotRefused {V = Unit {0}} (Err fault)) → ReportFails new fault
 report_fails old new (port.Refused status) range obeys passed = absurd (passed (can-report old range))
 report_fails old new port.Memory range obeys passed = record { halt = tt; cause = tt }
+report_fails old new port.Failed range obeys passed = record { halt = tt; cause = (obeys.fails refl).0 }
 report_fails old new port.Stopped range obeys passed = record { halt = tt; cause = obeys.stops refl }

@@ -29,7 +29,7 @@ use Rattle.zone_cleaner.proofs.TurnLaws.{keeps-more}
 use Rattle.zone_translator.proofs.CleaningLaws.{StaysClean, array-stays, goes-same, newer-same, stays-cleaning}
 use Rattle.zone_translator.specs.Cleaning.{KeepsCleaning}
 use Rattle.zone_translator.specs.declared.fault.DiskFault.{DiskFault}
-use Rattle.zone_translator.specs.declared.fault.DiskFault.TheVariants.{OutOfRange, OutOfMemory, Stopped, Spent, Unmounted, Smaller, Reserve, Damaged}
+use Rattle.zone_translator.specs.declared.fault.DiskFault.TheVariants.{OutOfRange, OutOfMemory, Stopped, Spent, Unmounted, Smaller, Reserve, Damaged, Failed}
 use Rattle.zone_translator.specs.Changes.{IsCause, IsHost, NoMoreTurns, RetireLeaves, RoomLeaves, StopKeeps, TakesHost, cleaning_fault, disk_fault}
 
 -- ---- parts of a call that write nothing for the host
@@ -43,6 +43,7 @@ pub room-join : {V : Type 0} (a b c : MountedView) (clean : Option CleanView) (r
 room-join a b c clean (Ok done) kept leaves = (keeps-more a b c kept leaves.0, leaves.1)
 room-join a b c clean (Err OutOfRange) kept leaves = (keeps-more a b c kept leaves.0, leaves.1)
 room-join a b c clean (Err OutOfMemory) kept leaves = (keeps-more a b c kept leaves.0, leaves.1)
+room-join a b c clean (Err Failed) kept leaves = (keeps-more a b c kept leaves.0, leaves.1)
 room-join a b c clean (Err Stopped) kept leaves = keeps-more a b c kept leaves
 room-join a b c clean (Err Spent) kept leaves = (keeps-more a b c kept leaves.0, leaves.1)
 room-join a b c clean (Err Smaller) kept leaves = (keeps-more a b c kept leaves.0, leaves.1)
@@ -54,6 +55,7 @@ room-join a b c clean (Err Damaged) kept leaves = absurd leaves
 pub room-keeps : (V : Type 0) (a b : MountedView) (clean : Option CleanView) (fault : DiskFault) → RoomLeaves {V = V} a b clean (Err fault) → KeepsByCleaning a b
 room-keeps V a b clean OutOfRange leaves = leaves.0
 room-keeps V a b clean OutOfMemory leaves = leaves.0
+room-keeps V a b clean Failed leaves = leaves.0
 room-keeps V a b clean Stopped leaves = leaves
 room-keeps V a b clean Spent leaves = leaves.0
 room-keeps V a b clean Smaller leaves = leaves.0
@@ -85,6 +87,7 @@ retire-stops a b clean is leaves =
 pub retire_room : (V : Type 0) (a b : MountedView) (clean : Option CleanView) (fault : DiskFault) → AgreesWithClean a clean → RetireLeaves a b (Err fault) → RoomLeaves {V = V} a b clean (Err fault)
 retire_room V a b clean OutOfRange is leaves = keeps-serving a b clean is leaves
 retire_room V a b clean OutOfMemory is leaves = keeps-serving a b clean is leaves
+retire_room V a b clean Failed is leaves = keeps-serving a b clean is leaves
 retire_room V a b clean Stopped is leaves = retire-stops a b clean is leaves
 retire_room V a b clean Spent is leaves = keeps-serving a b clean is leaves
 retire_room V a b clean Smaller is leaves = keeps-serving a b clean is leaves
@@ -96,6 +99,7 @@ retire_room V a b clean Damaged is leaves = absurd leaves
 pub retire_clean : (V : Type 0) (a b : MountedView) (clean : Option CleanView) (fault : DiskFault) → AgreesWithClean a clean → RetireLeaves a b (Err fault) → KeepsCleaning {V = V} a clean (Err fault) b clean
 retire_clean V a b clean OutOfRange is leaves = stays-cleaning {V = V} a b clean clean (Err OutOfRange) (array-stays a b clean is leaves)
 retire_clean V a b clean OutOfMemory is leaves = stays-cleaning {V = V} a b clean clean (Err OutOfMemory) (array-stays a b clean is leaves)
+retire_clean V a b clean Failed is leaves = stays-cleaning {V = V} a b clean clean (Err Failed) (array-stays a b clean is leaves)
 retire_clean V a b clean Stopped is leaves =
     let turns : NoMoreTurns a clean b clean = rw leaves.0 (omega arith) in
     record { clean = goes-same a b clean clean refl turns; turns = tt; newer = tt }
@@ -116,6 +120,7 @@ room-stops a b kept stopped = record {
 -- the cause of a fault of cleaning
 pub clean_cause : (drive : DriveState) (next : ℕ) (cause : CleanFault) → IsCleaningCause drive next cause → IsCause drive next (cleaning_fault cause)
 clean_cause drive next faults.OutOfMemory is = tt
+clean_cause drive next faults.Failed is = is
 clean_cause drive next faults.Stopped is = is
 clean_cause drive next faults.Spent is = is
 clean_cause drive next faults.Damaged is = absurd is
@@ -123,6 +128,7 @@ clean_cause drive next faults.Damaged is = absurd is
 -- a whole clean was not done
 pub room-cleaned : (V : Type 0) (a b : MountedView) (clean : Option CleanView) (cause : CleanFault) → KeepsByCleaning a b → GoesOn (Err cause) b clean → IsCleaningCause b.drive b.tables.next cause → RoomLeaves {V = V} a b clean (Err (cleaning_fault cause))
 room-cleaned V a b clean faults.OutOfMemory keeps on is = (keeps, on)
+room-cleaned V a b clean faults.Failed keeps on is = (keeps, on)
 room-cleaned V a b clean faults.Stopped keeps on is = keeps
 room-cleaned V a b clean faults.Spent keeps on is = (keeps, on)
 room-cleaned V a b clean faults.Damaged keeps on is = absurd is
@@ -212,6 +218,10 @@ pub finish_halts : (old new : DriveState) (tables : TablesView) (host : Filling)
     → FinishGives {V = Unit {0}} old start (Err fault) new → FinishKeeps {V = Unit {0}} old start (Err fault) new → FinishLeaves {V = Unit {0}} old start (Err fault) new → Obeys {V = Unit {0}} old (Err fault) new → (CanFinish old start → IsNotRefused {V = Unit {0}} (Err fault)) → FinishHalts old new tables fault
 finish_halts old new tables host start (port.Refused status) agrees is start-is some room gives kept leaves obeys passed = absurd (passed (can_finish old tables host.zone start agrees (filling-host tables.roles host is) start-is))
 finish_halts old new tables host start port.Memory agrees is start-is some room gives kept leaves obeys passed = record { halt = tt; leaves = keeps-halt old new tables gives.1.1.1 agrees; cause = tt }
+finish_halts old new tables host start port.Failed agrees is start-is some room gives kept leaves obeys passed =
+    let failed = obeys.fails refl in
+    let opens : OpensNone old.zones new.zones = finish-opens {V = Unit {0}} old new start (Err port.Failed) leaves in
+    record { halt = tt; leaves = keeps-same old new tables agrees kept opens obeys.lawful failed.1.refused obeys.durable failed.1.appended; cause = failed.0 }
 finish_halts old new tables host start port.Stopped agrees is start-is some room gives kept leaves obeys passed = record { halt = tt; leaves = (refl, by kept); cause = obeys.stops refl }
   where
     opens : OpensNone old.zones new.zones

@@ -42,7 +42,7 @@ use Rattle.zone_cleaner.proofs.TurnLaws.{cleans_mountable, keeps-more}
 use Rattle.zone_translator.specs.declared.write.Rest.{Rest}
 use Rattle.zone_translator.specs.Batches.{CanWrite, IsBatchCount, IsCut, IsNextBatch, IsRoom, KeepsCut, KeepsCutTo, LogsAreCut, WritesRest, batch_count, bytes_of, next_heading, host_heading, is_trim, rest_blocks}
 use Rattle.zone_translator.specs.declared.fault.DiskFault.{DiskFault}
-use Rattle.zone_translator.specs.declared.fault.DiskFault.TheVariants.{OutOfRange, OutOfMemory, Stopped, Spent, Unmounted, Smaller, Reserve, Damaged}
+use Rattle.zone_translator.specs.declared.fault.DiskFault.TheVariants.{OutOfRange, OutOfMemory, Stopped, Spent, Unmounted, Smaller, Reserve, Damaged, Failed}
 use Rattle.zone_translator.specs.Changes.{IsCause, Keeps, Names, RoomLeaves, StopKeeps, WriteLeaves, WritesBlocks, disk_fault}
 use Rattle.zone_translator.specs.Flat.{IsFront, replaced}
 use Rattle.zone_translator.specs.Cleaning.{KeepsCleaning}
@@ -316,11 +316,16 @@ write_stops a b c host rest count builder kept next stops mountable =
 pub memory-left : (a b c : MountedView) (old new : Option CleanView) (zone : ℕ) (batch : Batch) → KeepsByCleaning a b → AgreesWithClean b old → HostLeaves b old zone batch (Err halt.Memory) c new → KeepsByCleaning a c × AgreesWithClean c new
 memory-left a b c old new zone batch kept is leaves = (keeps-more a b c kept (cleaning_kept b c old is leaves.0), leaves.2.cleaned)
 
+-- or that failed
+pub failed-left : (a b c : MountedView) (old new : Option CleanView) (zone : ℕ) (batch : Batch) → KeepsByCleaning a b → AgreesWithClean b old → HostLeaves b old zone batch (Err halt.Failed) c new → KeepsByCleaning a c × AgreesWithClean c new
+failed-left a b c old new zone batch kept is leaves = (keeps-more a b c kept (cleaning_kept b c old is leaves.0), leaves.2.cleaned)
+
 -- what an Append that did not succeed leaves of a write
 pub write_halts : (a b c : MountedView) (old new : Option CleanView) (host : Filling) (rest : Rest) (count : ℕ) (builder : BuilderView) (fault : Halt) → KeepsByCleaning a b → AgreesWithClean b old
     → IsNextBatch b host rest builder count → HostLeaves b old host.zone (built b.drive.geometry.block builder) (Err fault) c new
     → WritesRest a rest (Err (disk_fault fault)) c new × IsCause c.drive c.tables.next (disk_fault fault)
 write_halts a b c old new host rest count builder halt.Memory kept is next leaves = (memory-left a b c old new host.zone (built b.drive.geometry.block builder) kept is leaves, tt)
+write_halts a b c old new host rest count builder halt.Failed kept is next leaves = (failed-left a b c old new host.zone (built b.drive.geometry.block builder) kept is leaves, leaves.4)
 write_halts a b c old new host rest count builder halt.Stopped kept is next leaves =
     let stops = write_stops a b c host rest count builder kept next leaves.0 leaves.2 in
     ((stops.0, subst (λ (g : Geometry). IsFront (mounted_array a) rest.first (rest_blocks g rest) (mounted_array c)) kept.geometry stops.1), leaves.0.stopped)
@@ -329,6 +334,7 @@ write_halts a b c old new host rest count builder halt.Stopped kept is next leav
 write_without : (trim : Bool) (a b : MountedView) (clean : Option CleanView) (first : ℕ) (blocks : List (List ℕ)) (fault : DiskFault) → RoomLeaves {V = Filling} a b clean (Err fault) → IsCause b.drive b.tables.next fault → WriteLeaves trim a b clean first blocks (Err fault)
 write_without trim a b clean first blocks OutOfRange leaves cause = leaves
 write_without trim a b clean first blocks OutOfMemory leaves cause = leaves
+write_without trim a b clean first blocks Failed leaves cause = leaves
 write_without trim a b clean first blocks Stopped leaves cause = (room-stops a b leaves cause, front-none (mounted_array a) (mounted_array b) first blocks leaves.array)
 write_without trim a b clean first blocks Spent leaves cause = leaves
 write_without trim a b clean first blocks Smaller leaves cause = leaves
@@ -377,4 +383,5 @@ cut-found a b c last kept same start cut =
 -- which logs an Append that did not succeed leaves
 pub halted-logs : (b c : MountedView) (old new : Option CleanView) (zone : ℕ) (batch : Batch) (fault : Halt) → HostLeaves b old zone batch (Err fault) c new → (drive_logs c.drive ≡ drive_logs b.drive) ⊎ (drive_logs c.drive ≡ append_log (drive_logs b.drive) zone batch)
 halted-logs b c old new zone batch halt.Memory leaves = inl leaves.0.logs
+halted-logs b c old new zone batch halt.Failed leaves = inl leaves.0.logs
 halted-logs b c old new zone batch halt.Stopped leaves = elim leaves.0.left as (λ _. (drive_logs c.drive ≡ drive_logs b.drive) ⊎ (drive_logs c.drive ≡ append_log (drive_logs b.drive) zone batch)) [ inl same ↦ inl same.logs_are | inr more ↦ inr more.logs_are ]

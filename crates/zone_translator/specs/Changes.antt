@@ -1,5 +1,5 @@
 -- What the parts of a disk's calls change, of a drive and the tables that agree with it.
-use Rattle.std.specs.Prelude.{◌≡◌, ◌⊎◌, ℕ, ◌<◌, ◌≤◌, ◌+◌, ◌*◌, Bool, true, false, List, length, slice_index_or, Option, Some, None, take, Result, Ok, Err}
+use Rattle.std.specs.Prelude.{◌≡◌, ◌⊎◌, ℕ, ◌<◌, ◌≤◌, ◌+◌, ◌*◌, Bool, true, false, IsFalse, List, length, slice_index_or, Option, Some, None, take, Result, Ok, Err}
 use Rattle.zone_states.specs.declared.geometry.Geometry.{Geometry}
 use Rattle.drive_port.specs.Drive.{DriveState}
 use Rattle.drive_port.specs.declared.device.Halt.{Halt}
@@ -22,7 +22,7 @@ use Rattle.zone_cleaner.specs.Clean.{CleanView, turns_left}
 use Rattle.zone_cleaner.specs.Start.{AgreesWithClean, KeepsByCleaning, trims}
 use Rattle.zone_translator.specs.Flat.{IsFront, replaced}
 use Rattle.zone_translator.specs.declared.fault.DiskFault.{DiskFault}
-use Rattle.zone_translator.specs.declared.fault.DiskFault.TheVariants.{OutOfRange, OutOfMemory, Stopped, Spent, Unmounted, Smaller, Reserve, Damaged}
+use Rattle.zone_translator.specs.declared.fault.DiskFault.TheVariants.{OutOfRange, OutOfMemory, Stopped, Spent, Unmounted, Smaller, Reserve, Damaged, Failed}
 
 -- why a refusal came: the drive has stopped, or no sequence is left that a batch may have; of memory nothing can be said. A
 -- drive that is clean gives no cause for `Damaged`.
@@ -33,17 +33,20 @@ IsCause drive next Smaller = ⊥
 IsCause drive next Reserve = ⊥
 IsCause drive next Damaged = ⊥
 IsCause drive next OutOfMemory = Unit {0}
+IsCause drive next Failed = IsFalse drive.unfailing
 IsCause drive next Stopped = drive.stopped ≡ true
 IsCause drive next Spent = sequence_end drive.geometry ≤ next
 
 -- what a halt of the drive is to a disk
 abbrev pub disk_fault : Halt → DiskFault
 disk_fault halt.Memory = OutOfMemory
+disk_fault halt.Failed = Failed
 disk_fault halt.Stopped = Stopped
 
 -- what a fault of a clean is to a disk
 abbrev pub cleaning_fault : CleanFault → DiskFault
 cleaning_fault faults.OutOfMemory = OutOfMemory
+cleaning_fault faults.Failed = Failed
 cleaning_fault faults.Stopped = Stopped
 cleaning_fault faults.Spent = Spent
 cleaning_fault faults.Damaged = Damaged

@@ -7,7 +7,7 @@ use Rattle.drive_array.specs.Sizes.{extended}
 use Rattle.drive_survey.specs.declared.fault.MountFault.{MountFault}
 use Rattle.drive_survey.specs.declared.fault.MountFault.TheVariants as mount
 use Rattle.zone_translator.specs.declared.fault.DiskFault.{DiskFault}
-use Rattle.zone_translator.specs.declared.fault.DiskFault.TheVariants.{OutOfRange, OutOfMemory, Stopped, Spent, Unmounted, Smaller, Reserve, Damaged}
+use Rattle.zone_translator.specs.declared.fault.DiskFault.TheVariants.{OutOfRange, OutOfMemory, Stopped, Spent, Unmounted, Smaller, Reserve, Damaged, Failed}
 use Rattle.zone_translator.specs.declared.status.DiskStatus.{DiskStatus}
 use Rattle.zone_translator.specs.declared.status.DiskStatus.TheVariants as statuses
 
@@ -104,6 +104,7 @@ IsAfterFront disk call fault new = new ≡ disk.array
 -- why a call may be refused midway: any because an allocation failed or the drive stopped; one that may append a batch also for lack of sequences
 abbrev pub may_refuse : Call → DiskFault → Bool
 may_refuse call OutOfMemory = true
+may_refuse call Failed = true
 may_refuse call Stopped = true
 may_refuse (write first blocks) Spent = true
 may_refuse (write_list puts) Spent = true
@@ -185,4 +186,4 @@ FlatCall old call answer new =
 -- unmounted. The array stays.
 abbrev pub FlatRemount : FlatDisk → Result (Unit {0}) MountFault → FlatDisk → Type 0
 FlatRemount old (Ok done) new = new ≡ record old { size = length old.array; status = statuses.Serving }
-FlatRemount old (Err fault) new = ((fault ≡ mount.OutOfMemory) ⊎ (fault ≡ mount.Halted)) × (new ≡ record old { status = statuses.Unmounted })
+FlatRemount old (Err fault) new = ((fault ≡ mount.OutOfMemory) ⊎ (fault ≡ mount.Halted) ⊎ (fault ≡ mount.Failed)) × (new ≡ record old { status = statuses.Unmounted })

@@ -4,7 +4,7 @@ use Rattle.drive_port.specs.Contents.{contents}
 use Rattle.drive_port.specs.Drive.{DriveState}
 use Rattle.drive_array.specs.ZoneLogs.{drive_logs, sequences, encoded}
 use Rattle.drive_survey.specs.declared.fault.MountFault.{MountFault}
-use Rattle.drive_survey.specs.declared.fault.MountFault.TheVariants.{Halted, OutOfMemory}
+use Rattle.drive_survey.specs.declared.fault.MountFault.TheVariants.{Halted, OutOfMemory, Failed}
 use Rattle.drive_survey.specs.Heads.{greatest_sequence}
 use Rattle.remount.specs.Kept.{KeepsMountable}
 use Rattle.remount.specs.Mount.{AreMountedRoles, IsToMount, LeavesMounted, MountFails}
@@ -32,6 +32,6 @@ pub record MountsDisk (old : DriveState) (n : ℕ) (disk : DiskView) : Type 0 wh
 -- mounted as before, with the same array.
 pub record GivesBack (old : DriveState) (n : ℕ) (fault : MountFault) (back : DriveState) : Type 0 where
   pub why : FailsBy (MountFails old n) back fault
-  pub refused : fault ≢ Halted → fault ≢ OutOfMemory → KeepsZones old back
+  pub refused : fault ≢ Halted → fault ≢ OutOfMemory → fault ≢ Failed → KeepsZones old back
   pub early : KeepsZones old back ⊎ IsToMount old n
   pub kept : KeepsMountable n old back

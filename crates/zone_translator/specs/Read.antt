@@ -1,5 +1,5 @@
 -- Why a read or a flush is refused, and which blocks one command reads.
-use Rattle.std.specs.Prelude.{◌≡◌, ◌≢◌, ◌⊎◌, ℕ, ◌+◌, ◌-◌, ◌/◌, ◌<◌, ◌≤◌, List, [], ◌∷◌, Some, false, slice_index_or, true}
+use Rattle.std.specs.Prelude.{◌≡◌, ◌≢◌, ◌⊎◌, ℕ, ◌+◌, ◌-◌, ◌/◌, ◌<◌, ◌≤◌, List, [], ◌∷◌, Some, false, IsFalse, slice_index_or, true}
 use Rattle.zone_states.specs.declared.geometry.Geometry.{Geometry}
 use Rattle.logical_map.specs.declared.place.Place.{Place}
 use Rattle.logical_map.specs.declared.place.Place.TheVariants as places
@@ -7,10 +7,11 @@ use Rattle.zone_choice.specs.Agreement.{MountedView}
 use Rattle.zone_cleaner.specs.Start.{trims}
 use Rattle.drive_port.specs.Drive.{DriveState}
 use Rattle.zone_translator.specs.declared.fault.DiskFault.{DiskFault}
-use Rattle.zone_translator.specs.declared.fault.DiskFault.TheVariants.{OutOfMemory, Stopped}
+use Rattle.zone_translator.specs.declared.fault.DiskFault.TheVariants.{OutOfMemory, Failed, Stopped}
 
 abbrev pub IsReadFault : DriveState → DiskFault → Type 0
 IsReadFault drive OutOfMemory = Unit {0}
+IsReadFault drive Failed = IsFalse drive.unfailing
 IsReadFault drive Stopped = drive.stopped ≡ true
 IsReadFault drive fault = ⊥
 

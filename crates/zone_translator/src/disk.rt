@@ -283,7 +283,10 @@ impl<D: Device + Drop> AnyDisk<D> {
             ++ slice_index_or (disk_array self.old) block []) }
         ensures serving { OnOk result (self.new.status ≡ Serving) }
         ensures err { IsTrue self.new.drive.clean → IfErr result (ReadStops self.old block self.new) }
-        // Whatever the Read returned, shape, size and turns stay. It completes one command at most.
+        // Whatever the Read returned, it adds as many bytes as a block has, and shape, size and turns stay. It completes one
+        // command at most.
+        ensures added { OnOk result (length into.new.items ≡ length into.old.items
+            + 1 * self.old.drive.geometry.block) }
         ensures alike { StaysAlike self.old self.new }
         ensures turns { disk_turns self.new ≡ disk_turns self.old }
         ensures completed { CompletesAtMost self.old 1 self.new }
@@ -312,7 +315,10 @@ impl<D: Device + Drop> AnyDisk<D> {
         ensures piece { IsTrue self.new.drive.clean → IfOk result (λ count. IsPiece self.old.drive.geometry (disk_places self.old) block left count) }
         ensures serving { OnOk result (self.new.status ≡ Serving) }
         ensures err { IsTrue self.new.drive.clean → IfErr result (ReadStops self.old block self.new) }
-        // Whatever the Read returned, shape, size and turns stay. It completes one command at most.
+        // Whatever the Read returned, it adds as many bytes as the piece has, and shape, size and turns stay. It completes
+        // one command at most.
+        ensures added { IfOk result (λ count. length into.new.items ≡ length into.old.items
+            + count * self.old.drive.geometry.block) }
         ensures some { IfOk result (λ count. (1 ≤ count) × (count ≤ left)) }
         ensures alike { StaysAlike self.old self.new }
         ensures turns { disk_turns self.new ≡ disk_turns self.old }
@@ -693,9 +699,12 @@ impl<D: Device + Drop> AnyDisk<D> {
         }
     }
 
-    /// Shows `blocks` blocks from `first` on. `into` is empty after a refusal.
+    /// Shows `blocks` blocks from `first` on. `into` has the bytes of as many blocks then, whatever the Reads returned. It is
+    /// empty after a refusal.
     pub fn read(&mut self, first: u64, blocks: u64, into: &mut Vec<u8>) -> Result<(), DiskFault>
         ensures answers { IsTrue self.new.drive.clean → AnswersRead self.old first blocks result into.new.items self.new }
+        ensures whole { OnOk result (length into.new.items ≡ blocks * self.old.drive.geometry.block) }
+        ensures none { OnErr result (into.new.items ≡ []) }
         ensures turns { disk_turns self.new ≡ disk_turns self.old }
         ensures alike { StaysAlike self.old self.new }
         ensures completed { CompletesAtMost self.old blocks self.new }
@@ -722,6 +731,8 @@ impl<D: Device + Drop> AnyDisk<D> {
         into: &mut Vec<u8>,
     ) -> Result<(), DiskFault>
         ensures answers { IsTrue self.new.drive.clean → AnswersRead self.old first blocks result into.new.items self.new }
+        ensures whole { OnOk result (length into.new.items ≡ blocks * self.old.drive.geometry.block) }
+        ensures none { OnErr result (into.new.items ≡ []) }
         ensures turns { disk_turns self.new ≡ disk_turns self.old }
         // Done, it has sent one command for each piece at most. In any case there are no more than blocks.
         ensures joins { IsTrue self.new.drive.clean → OnOk result (ReadsPieces self.old first blocks self.new) }

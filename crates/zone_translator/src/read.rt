@@ -1,4 +1,4 @@
-ghost use Rattle.std.specs.Prelude.{◌≡◌, ◌≢◌, ◌≤◌, ◌+◌, ◌++◌, ◌<◌, ◌^◌, [], IfErr, IfOk, IsTrue, OnOk, false, length, replicate, slice_index_or};
+ghost use Rattle.std.specs.Prelude.{◌≡◌, ◌≢◌, ◌≤◌, ◌+◌, ◌++◌, ◌*◌, ◌<◌, ◌^◌, [], IfErr, IfOk, IsTrue, OnOk, false, length, replicate, slice_index_or};
 ghost use Rattle.std.specs.List.{concat};
 ghost use Rattle.logical_map.specs.declared.place.Place.TheVariants as places;
 ghost use Rattle.zone_choice.specs.Agreement.{Agrees, mounted_array};
@@ -80,8 +80,11 @@ pub(crate) fn read_piece<D: Device>(
     ensures ok { IsTrue disk.new.drive.clean → IfOk result (λ count. into.new.items ≡ into.old.items
         ++ concat (blocks_from (mounted_array disk.old) block count)) }
     ensures err { IsTrue disk.new.drive.clean → IfErr result (IsBlockFault disk.new block) }
-    // Done, the blocks are a piece. Whatever the Read returned, the tables are the same.
+    // Done, the blocks are a piece, and it adds as many bytes as they have. Whatever the Read returned, the tables are the
+    // same.
     ensures piece { IfOk result (λ count. IsPiece disk.old.drive.geometry disk.old.tables.map.places block left count) }
+    ensures added { IfOk result (λ count. length into.new.items ≡ length into.old.items
+        + count * disk.old.drive.geometry.block) }
     ensures tables { disk.new.tables ≡ disk.old.tables }
     ensures shape { KeepsShape disk.old.drive disk.new.drive }
     // It completes one command at most.
@@ -114,8 +117,11 @@ pub(crate) fn read_block<D: Device>(
     ensures ok { IsTrue disk.new.drive.clean → OnOk result (into.new.items ≡ into.old.items
         ++ slice_index_or (mounted_array disk.old) block []) }
     ensures err { IsTrue disk.new.drive.clean → IfErr result (IsBlockFault disk.new block) }
-    // Whatever the Read returned, the tables are the same. It completes one command at most.
+    // Whatever the Read returned, the tables are the same, and it adds as many bytes as a block has. It completes one
+    // command at most.
     ensures tables { disk.new.tables ≡ disk.old.tables }
+    ensures added { OnOk result (length into.new.items ≡ length into.old.items
+        + 1 * disk.old.drive.geometry.block) }
     ensures shape { KeepsShape disk.old.drive disk.new.drive }
     ensures completed { disk.new.drive.completed ≤ disk.old.drive.completed + 1 }
 {

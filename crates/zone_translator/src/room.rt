@@ -19,6 +19,7 @@ pub(crate) fn fault_of(fault: PortFault) -> DiskFault
 {
     match fault {
         PortFault::Memory => DiskFault::OutOfMemory,
+        PortFault::Failed => DiskFault::Failed,
         PortFault::Stopped => DiskFault::Stopped,
         PortFault::Refused(_) => DiskFault::Damaged,
     }

@@ -108,6 +108,7 @@ static int pass_command(struct nvme_passthru_cmd64 *passed) {
     assert(passed->nsid == NAMESPACE && passed->flags == 0 && passed->metadata_len == 0 && passed->timeout_ms != 0);
     assert((passed->data_len == 0) == (passed->addr == 0));
     if (world.command_error != 0) return answer(world.command_error, 0);
+    if (world.command_status != 0) return world.command_status;
     if (passed->data_len > world.most_bytes || pieces(passed) > PIECES) return answer(EINVAL, 0);
     const struct command command = {
         .opcode = passed->opcode,

@@ -16,6 +16,7 @@ struct world {
     const char *link;       // what the system calls the character device
     const char *subsystem;  // what the system says that it belongs to
     int command_error;      // of each command
+    int command_status;     // what Linux gives for each command by itself, if it is not 0
     unsigned opened;        // how often the character device was opened
     int open_files;         // how many files are open
     unsigned commands;      // how many commands the drive has got

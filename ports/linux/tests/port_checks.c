@@ -303,6 +303,25 @@ static void try_large(void) {
     end_world();
 }
 
+// A status of the drive is given without More and Do Not Retry. One of the path is no answer of the drive.
+static void try_statuses(uint64_t session, uint64_t *moment) {
+    static const struct {
+        int given;
+        uint16_t status;
+    } rows[] = {{0x280, 0x280},        {0x6280, 0x280},       {0x4002, 0x002},
+                {0x370, NOT_ANSWERED}, {0x371, NOT_ANSWERED}, {0x4371, NOT_ANSWERED}};
+    uint64_t value = 1;
+    uint8_t entry[64];
+    put_entry(entry, 0x7d, 0, 0, 0);
+    for (size_t i = 0; i < sizeof rows / sizeof *rows; i++) {
+        world.command_status = rows[i].given;
+        uint16_t status = zonedisk_submit(session, moment, entry, room, BLOCK, 0, NULL, 0, &value);
+        expect(status == rows[i].status && value == 0, "a status");
+    }
+    world.command_status = 0;
+    expect(zonedisk_submit(session, moment, entry, room, BLOCK, 0, NULL, 0, &value) == DONE, "after a status");
+}
+
 static void try_errors(uint64_t session, uint64_t moment) {
     static const int errors[] = {EINTR, EINVAL, EIO, ENODEV, ENOMEM, ETIMEDOUT, EFAULT, EACCES};
     uint64_t value = 1;
@@ -316,6 +335,7 @@ static void try_errors(uint64_t session, uint64_t moment) {
     }
     world.command_error = 0;
     expect(zonedisk_submit(session, &moment, entry, room, BLOCK, 0, NULL, 0, &value) == DONE, "after an error");
+    try_statuses(session, &moment);
 }
 
 // Whether something ends the process by SIGABRT.
@@ -351,10 +371,10 @@ static void submit_after_raw(uint64_t session) {
     static const uint8_t flush[64];
     uint64_t value;
     zonedisk_raw(session, flush, NULL, 0, NULL, 0, &value);
-    submit_at(session, 9);
+    submit_at(session, 16);
 }
 
-static void submit_now(uint64_t session) { submit_at(session, 9); }
+static void submit_now(uint64_t session) { submit_at(session, 16); }
 
 static void try_moments(uint64_t session) {
     expect(aborts(submit_in_past, session), "a submit in the past");

@@ -8,5 +8,5 @@ pub returns-in-Ok-clause-ok : goal.returns-in-Ok-clause-ok
 returns-in-Ok-clause-ok g c = record {
   blocks = c.blocks_taken-given.result;
   most = subst (λ (geometry : Geometry). IsInRange geometry → c.blocks_taken-given.result ≡ most_size geometry) c.geometry.ensures.value c.blocks_taken-given.ensures;
-  is_info = c.in-Ok.ensures.ok;
+  is_info = c.in-Ok.ensures.ok c.vouch.ensures;
 }

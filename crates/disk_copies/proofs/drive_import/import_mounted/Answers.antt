@@ -9,11 +9,11 @@ returns g c =
     let input = g.R.Read.remaining c.args.reader.now in
     let rest = g.R.Read.remaining c.import_blocks-taken.new.reader in
     let imports : ImportsDisk c.args.job.now input rest old c.import_blocks-taken.result new = record {
-      disk = c.in-Ok.disk;
-      served = c.in-Ok.ensures.disk;
+      disk = c.into_any-disk.result;
+      served = rw c.into_any-disk.ensures c.in-Ok.ensures.disk;
       last = c.import_blocks-taken.new.disk;
-      imports = c.import_blocks-taken.ensures.imports;
-      keeps = c.import_blocks-taken.ensures.keeps.mounted c.in-Ok.ensures.disk.mountable;
+      imports = c.import_blocks-taken.ensures.imports (rw c.device.ensures at c.vouch.ensures);
+      keeps = (c.import_blocks-taken.ensures.keeps (rw c.device.ensures at c.vouch.ensures)).mounted (rw c.into_any-disk.ensures c.in-Ok.ensures.disk.mountable);
       drive = c.into_device.ensures;
     } in
     rw c.import_end.ensures (drive-imported c.args.job.now input rest old c.import_blocks-taken.result new imports)

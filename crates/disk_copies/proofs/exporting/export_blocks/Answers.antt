@@ -1,11 +1,13 @@
 use Rattle.std.proofs.Common.{refl, arith}
+use Rattle.zone_translator.proofs.DiskLaws.{alike-join}
 use Rattle.zone_translator.proofs.KeepingLaws.{keeps_again}
 use Rattle.zone_translator.specs.View.{disk_size}
 use Rattle.disk_copies.proofs.FlatReads.{exports-err, exports-fail, exports-more, within-size}
 use Rattle.disk_copies.proofs.exporting.export_blocks.Goals as goal
 
 pub returns-in_err-export_piece-clause-exports : goal.returns-in_err-export_piece-clause-exports
-returns-in_err-export_piece-clause-exports g c =
+returns-in_err-export_piece-clause-exports g c clean =
+    let was = c.export_piece.ensures.alike.shape.trusted clean in
     let old = c.args.disk.now in
     let at = c.loop-done in
     let new = c.export_piece.new in
@@ -13,10 +15,13 @@ returns-in_err-export_piece-clause-exports g c =
     let fits = within-size c.blocks-2.result c.args.first c.args.blocks (disk_size old) c.blocks-2.ensures.size c.if-is_past_end.ensures (omega (arith, c.loop-done-test.true)) in
     exports-err old new.disk c.args.first c.args.blocks (held c.args.writer.now) (held new.writer) c.from_residual.result c.in_err-export_piece.field-0.0 c.from_residual.ensures.1
     (exports-fail old at.disk new.disk c.args.first at.done _ c.min-count.result c.args.blocks c.in_err-export_piece.field-0.0 (held c.args.writer.now) (held at.writer) (held new.writer)
-    refl (omega (arith, c.min-count.ensures, c.loop-done-test.true, c.piece_blocks.ensures)) (omega (arith, c.min-count.ensures, at.invariant.within)) fits at.invariant.exports c.in_err-export_piece.ensures.exports)
+    refl (omega (arith, c.min-count.ensures, c.loop-done-test.true, c.piece_blocks.ensures)) (omega (arith, c.min-count.ensures, at.invariant.within)) fits (at.invariant.exports was) (c.in_err-export_piece.ensures.exports clean))
 
 pub returns-in_err-export_piece-clause-keeps : goal.returns-in_err-export_piece-clause-keeps
-returns-in_err-export_piece-clause-keeps g c = keeps_again c.args.disk.now c.loop-done.disk c.export_piece.new.disk c.loop-done.invariant.keeps c.export_piece.ensures.keeps
+returns-in_err-export_piece-clause-keeps g c clean = keeps_again c.args.disk.now c.loop-done.disk c.export_piece.new.disk (c.loop-done.invariant.keeps (c.export_piece.ensures.alike.shape.trusted clean)) (c.export_piece.ensures.keeps clean)
+
+pub returns-in_err-export_piece-clause-alike : goal.returns-in_err-export_piece-clause-alike
+returns-in_err-export_piece-clause-alike g c = alike-join c.args.disk.now c.loop-done.disk c.export_piece.new.disk c.loop-done.invariant.alike c.export_piece.ensures.alike
 
 pub loop-done-preserved : goal.loop-done-preserved
 loop-done-preserved g c =
@@ -26,6 +31,19 @@ loop-done-preserved g c =
     let held = g.W.Write.contents in
     record {
       within = omega (arith, c.min-count.ensures, at.invariant.within);
-      exports = exports-more old at.disk new.disk c.args.first at.done _ c.min-count.result _ (held c.args.writer.now) (held at.writer) (held new.writer) refl refl at.invariant.exports c.in_ok-export_piece.ensures.exports;
-      keeps = keeps_again old at.disk new.disk at.invariant.keeps c.export_piece.ensures.keeps;
+      exports = λ clean. exports-more old at.disk new.disk c.args.first at.done _ c.min-count.result _ (held c.args.writer.now) (held at.writer) (held new.writer) refl refl (at.invariant.exports (c.export_piece.ensures.alike.shape.trusted clean)) (c.in_ok-export_piece.ensures.exports clean);
+      keeps = λ clean. keeps_again old at.disk new.disk (at.invariant.keeps (c.export_piece.ensures.alike.shape.trusted clean)) (c.export_piece.ensures.keeps clean);
+      alike = alike-join old at.disk new.disk at.invariant.alike c.export_piece.ensures.alike;
     }
+
+pub returns-in_err-export_piece-clause-past : goal.returns-in_err-export_piece-clause-past
+returns-in_err-export_piece-clause-past g c = λ some past.
+    let fits = within-size c.blocks-2.result c.args.first c.args.blocks (disk_size c.args.disk.now) c.blocks-2.ensures.size c.if-is_past_end.ensures some in
+    let bad : ⊥ = omega (arith, fits, past) in
+    absurd bad
+
+pub returns-clause-past : goal.returns-clause-past
+returns-clause-past g c = λ some past.
+    let fits = within-size c.blocks-2.result c.args.first c.args.blocks (disk_size c.args.disk.now) c.blocks-2.ensures.size c.if-is_past_end.ensures some in
+    let bad : ⊥ = omega (arith, fits, past) in
+    absurd bad

@@ -1,9 +1,11 @@
-use Rattle.std.proofs.Common.{◌+◌, ◌∙◌, sym, arith}
+use Rattle.std.proofs.Common.{ℕ, ◌+◌, ◌∙◌, [], append-nil, refl, subst, sym, arith}
 use Rattle.std.specs.Prelude.{IsTrue}
-use Rattle.zone_translator.proofs.KeepingLaws.{keeps_again, keeps_call}
+use Rattle.zone_translator.proofs.KeepingLaws.{keeps_again, keeps_call, keeps_same}
 use Rattle.zone_translator.specs.View.{disk_array, disk_size, flat_of}
-use Rattle.disk_runs.proofs.CallLaws.{ShowsBlock, block_refused, block_shown, cause_of, line_more, reads_more, reads_within}
-use Rattle.disk_runs.proofs.ShapeLaws.{shape_join}
+use Rattle.disk_runs.proofs.CallLaws.{ShowsBlock, block_refused, block_shown, cause_of, line_more, puts_more, reads_more, reads_within}
+use Rattle.disk_runs.specs.AnyDevice.{PutsLines}
+use Rattle.disk_runs.specs.KeepingLaws.{reads_none}
+use Rattle.disk_runs.proofs.ShapeLaws.{alike_join, alike_same}
 use Rattle.disk_runs.proofs.reads.show_blocks.Goals as goal
 
 pub returns-in-Err-clause-err : goal.returns-in-Err-clause-err
@@ -22,7 +24,7 @@ returns-in-Err-clause-cause g c = λ clean.
 pub loop-i-preserved : goal.loop-i-preserved
 loop-i-preserved g c =
     let was : IsTrue c.read.new.self.drive.clean → IsTrue c.loop-i.disk.drive.clean = c.read.ensures.alike.shape.trusted in
-    let first : IsTrue c.loop-i.disk.drive.clean → IsTrue c.args.disk.now.drive.clean = c.loop-i.invariant.6.trusted in
+    let first : IsTrue c.loop-i.disk.drive.clean → IsTrue c.args.disk.now.drive.clean = c.loop-i.invariant.6.shape.trusted in
     let shows : IsTrue c.read.new.self.drive.clean → ShowsBlock (flat_of c.args.disk.now) (c.args.first + c.loop-i.i) c.read.new.into.items (flat_of c.read.new.self) = λ clean. block_shown (flat_of c.args.disk.now) (flat_of c.loop-i.disk) (flat_of c.read.new.self) c.args.first c.loop-i.i c.args.blocks c.read.new.into.items
     (omega (arith, c.loop-i-test.true)) c.requires.in_range (c.loop-i.invariant.0 (was clean)) (c.in_default.ensures.answers clean).flat in (
       λ clean. (shows clean).same,
@@ -32,7 +34,8 @@ loop-i-preserved g c =
       λ clean. line_more (disk_array c.args.disk.now) (disk_size c.args.disk.now) c.args.first c.loop-i.i c.args.blocks c.args.reply.now.items c.loop-i.reply.items c.block_line.new.out.items c.deref.result.now
           (sym (c.requires.array (first (was clean)) (shows clean).serves)) (omega (arith, c.loop-i-test.true)) c.requires.in_range (c.deref.ensures.value ∙ (shows clean).bytes_are) (c.loop-i.invariant.4 (was clean)) c.in_ok-block_line.ensures.ok,
       λ clean. (c.read.ensures.answers clean).durable ∙ c.loop-i.invariant.5 (was clean),
-      shape_join c.args.disk.now.drive c.loop-i.disk.drive c.read.new.self.drive c.loop-i.invariant.6 c.read.ensures.alike.shape,
+      alike_join c.args.disk.now c.loop-i.disk c.read.new.self c.loop-i.invariant.6 c.read.ensures.alike,
+      puts_more c.args.first c.loop-i.i c.args.reply.now.items c.loop-i.reply.items c.block_line.new.out.items c.deref.result.now c.loop-i.invariant.7 c.in_ok-block_line.ensures.ok,
     )
 
 pub returns-in-Err-clause-costs : goal.returns-in-Err-clause-costs
@@ -47,3 +50,25 @@ returns-in_err-block_line-clause-costs g c =
 
 pub returns-clause-costs : goal.returns-clause-costs
 returns-clause-costs g c = reads_within c.loop-i.i c.args.blocks c.args.disk.now c.loop-i.disk (omega (arith, c.loop-i-test.false)) c.loop-i.invariant.3
+
+pub returns-in-Err-clause-alike : goal.returns-in-Err-clause-alike
+returns-in-Err-clause-alike g c = alike_join c.args.disk.now c.loop-i.disk c.read.new.self c.loop-i.invariant.6 c.read.ensures.alike
+
+pub returns-in_err-block_line-clause-alike : goal.returns-in_err-block_line-clause-alike
+returns-in_err-block_line-clause-alike g c = alike_join c.args.disk.now c.loop-i.disk c.read.new.self c.loop-i.invariant.6 c.read.ensures.alike
+
+pub loop-i-init : goal.loop-i-init
+loop-i-init g c = (
+  λ clean. refl,
+  λ clean some. absurd (omega (arith, some)),
+  λ clean. keeps_same c.args.disk.now,
+  reads_none 0 c.args.disk.now,
+  λ clean. sym (append-nil c.args.reply.now.items),
+  λ clean. refl,
+  alike_same c.args.disk.now,
+  record { shown = []; long = refl; after_is = sym (append-nil c.args.reply.now.items) },
+)
+
+pub returns-clause-form : goal.returns-clause-form
+returns-clause-form g c =
+    subst (λ (n : ℕ). PutsLines c.args.first n c.args.reply.now.items c.loop-i.reply.items) (omega (arith, c.loop-i.auto.i-end, c.loop-i-test.false)) c.loop-i.invariant.7

@@ -6,7 +6,7 @@ use Rattle.zone_translator.specs.View.{flat_of}
 use Rattle.zone_translator.specs.declared.status.DiskStatus.TheVariants.{Serving}
 use Rattle.disk_runs.specs.Trace.{TakesTurns}
 use Rattle.disk_runs.proofs.RequestLaws.{idle_unchanged, takes_more, takes_one, takes_rest, turns_done, turns_fewer, turns_stop}
-use Rattle.disk_runs.proofs.ShapeLaws.{shape_join}
+use Rattle.disk_runs.proofs.ShapeLaws.{alike_join}
 use Rattle.disk_runs.proofs.requests.clean.Goals as goal
 
 pub loop-turn-preserved : goal.loop-turn-preserved
@@ -23,7 +23,8 @@ loop-turn-preserved g c =
           (takes_more c.loop-turn._turn c.args.disk.now c.loop-turn.disk c.idle.new.self (so_far.3 (was clean))
           (takes_one c.loop-turn.disk c.idle.new.self (c.in_ok-idle.ensures.answers clean).kept ((c.in_ok-idle.ensures.turn clean).turn (done clean).1) ((c.in_ok-idle.ensures.turn clean).turns (done clean).1) c.in_ok-idle.ensures.completed)),
       λ clean. (c.idle.ensures.answers clean).durable ∙ so_far.4 (was clean),
-      shape_join c.args.disk.now.drive c.loop-turn.disk.drive c.idle.new.self.drive so_far.5 c.idle.ensures.alike.shape,
+      alike_join c.args.disk.now c.loop-turn.disk c.idle.new.self so_far.5 c.idle.ensures.alike,
+      omega (arith, so_far.6, c.idle.ensures.completed),
     )
 
 pub returns-clause-flat : goal.returns-clause-flat
@@ -71,8 +72,17 @@ pub returns-then-not-is_cleaning-clause-keeps : goal.returns-then-not-is_cleanin
 returns-then-not-is_cleaning-clause-keeps g c = λ clean.
     keeps_again c.args.disk.now c.loop-turn.disk c.idle.new.self (c.loop-turn.invariant.2 (c.idle.ensures.alike.shape.trusted clean)) (keeps_call c.loop-turn.disk c.idle.new.self (c.idle.ensures.answers clean).kept)
 
-pub returns-in_err-idle-clause-shape : goal.returns-in_err-idle-clause-shape
-returns-in_err-idle-clause-shape g c = shape_join c.args.disk.now.drive c.loop-turn.disk.drive c.idle.new.self.drive c.loop-turn.invariant.5 c.idle.ensures.alike.shape
+pub returns-in_err-idle-clause-alike : goal.returns-in_err-idle-clause-alike
+returns-in_err-idle-clause-alike g c = alike_join c.args.disk.now c.loop-turn.disk c.idle.new.self c.loop-turn.invariant.5 c.idle.ensures.alike
 
-pub returns-then-not-is_cleaning-clause-shape : goal.returns-then-not-is_cleaning-clause-shape
-returns-then-not-is_cleaning-clause-shape g c = shape_join c.args.disk.now.drive c.loop-turn.disk.drive c.idle.new.self.drive c.loop-turn.invariant.5 c.idle.ensures.alike.shape
+pub returns-then-not-is_cleaning-clause-alike : goal.returns-then-not-is_cleaning-clause-alike
+returns-then-not-is_cleaning-clause-alike g c = alike_join c.args.disk.now c.loop-turn.disk c.idle.new.self c.loop-turn.invariant.5 c.idle.ensures.alike
+
+pub returns-in_err-idle-clause-completed : goal.returns-in_err-idle-clause-completed
+returns-in_err-idle-clause-completed g c = omega (arith, c.loop-turn.invariant.6, c.idle.ensures.completed, c.loop-turn-test.true)
+
+pub returns-then-not-is_cleaning-clause-completed : goal.returns-then-not-is_cleaning-clause-completed
+returns-then-not-is_cleaning-clause-completed g c = omega (arith, c.loop-turn.invariant.6, c.idle.ensures.completed, c.loop-turn-test.true)
+
+pub returns-clause-completed : goal.returns-clause-completed
+returns-clause-completed g c = omega (arith, c.loop-turn.invariant.6, c.loop-turn-test.false)

@@ -7,24 +7,14 @@ use Rattle.drive_survey.specs.Heads.{greatest_sequence, sequences_in}
 use Rattle.drive_survey.specs.Scan.{heads_in}
 use Rattle.drive_survey.specs.Survey.{greatest_in}
 use Rattle.remount.specs.Mount.{IsPlaced}
-use Rattle.remount.proofs.StepLaws.{knows-fits}
-use Rattle.remount.proofs.TornPlanLaws.{can-count}
 use Rattle.drive_inspection.specs.Found.{TellZones}
 use Rattle.drive_inspection.proofs.HoldLaws.{holds-drive}
 use Rattle.drive_inspection.proofs.holding.holdings.Goals as goal
 
-pub all_live-requires : goal.all_live-requires
-all_live-requires c = record { few = (can-count c.args.geometry.now c.args.survey.now.given c.args.survey.now c.in_ok-tables.tables c.requires.surveyed c.in_ok-tables.ensures.placed).few }
-
-pub zone_infos-requires-clause-few : goal.zone_infos-requires-clause-few
-zone_infos-requires-clause-few c = (can-count c.args.geometry.now c.args.survey.now.given c.args.survey.now c.in_ok-tables.tables c.requires.surveyed c.in_ok-tables.ensures.placed).few
-
 pub zone_infos-requires-clause-zones : goal.zone_infos-requires-clause-zones
 zone_infos-requires-clause-zones c =
-    let was = c.requires.surveyed in
-    let fits = knows-fits was.drive c.args.survey.now.given was.logs c.args.survey.now was.knows in
     let scanned = ap (λ (zs : List ScannedZone). length zs) c.deref-3.ensures.value in
-    omega (arith, c.in_ok-tables.ensures.zones, scanned, fits.scanned, was.knows.zones.count, was.knows.zones.lawful.count, ap (λ (g : Geometry). g.zones) was.geometry_is)
+    omega (arith, c.in_ok-tables.ensures.zones, scanned, c.requires.long)
 
 pub returns : goal.returns
 returns c = λ drive same known.

@@ -1,11 +1,11 @@
 use Rattle.std.proofs.Common.{◌≡◌, ◌++◌, [], ◌∷◌, refl}
 use Rattle.drive_survey.proofs.ReadLaws.{keeps-both, keeps-none}
 use Rattle.drive_survey.proofs.AllScanLaws.{all-known, there-is}
-use Rattle.drive_inspection.proofs.CheckLaws.{each-none, one-more, reads-more}
+use Rattle.drive_inspection.proofs.CheckLaws.{each-none, one-more, reads-more, tells-more}
 use Rattle.drive_inspection.proofs.reading.read_zones.Goals as goal
 
 pub loop-number-init : goal.loop-number-init
-loop-number-init g c = rw c.new-reads.ensures.items (record { kept = keeps-none _ c.requires.zones.lawful; count = refl; each = each-none (g.D.Device.drive c.args.device.now) })
+loop-number-init g c = rw c.new-reads.ensures.items (record { kept = keeps-none _ c.requires.zones.lawful; count = refl; tell = tt; each = λ clean. each-none (g.D.Device.drive c.args.device.now) })
 
 pub read_zone-requires : goal.read_zone-requires
 read_zone-requires g c =
@@ -23,5 +23,6 @@ loop-number-preserved g c =
     record {
       kept = keeps-both _ _ _ c.loop-number.invariant.kept c.read_zone.ensures.kept;
       count = one-more c.loop-number.reads.items c.push.new.self.items c.in_ok-read.read c.loop-number.number c.loop-number.invariant.count pushed;
-      each = reads-more (g.D.Device.drive c.args.device.now) (g.D.Device.drive c.loop-number.device) c.loop-number.reads.items c.push.new.self.items c.in_ok-read.read c.loop-number.number c.loop-number.invariant.kept c.loop-number.invariant.count pushed c.loop-number.invariant.each c.in_ok-read.ensures.ok;
+      tell = rw pushed (tells-more c.loop-number.reads.items c.in_ok-read.read c.loop-number.invariant.tell c.in_ok-read.ensures.tells);
+      each = λ clean. reads-more (g.D.Device.drive c.args.device.now) (g.D.Device.drive c.loop-number.device) c.loop-number.reads.items c.push.new.self.items c.in_ok-read.read c.loop-number.number c.loop-number.invariant.kept c.loop-number.invariant.count pushed (c.loop-number.invariant.each (c.read_zone.ensures.kept.trusted clean)) (c.in_ok-read.ensures.ok clean);
     }

@@ -17,7 +17,7 @@ pub loop-rescued-preserved : goal.loop-rescued-preserved
 loop-rescued-preserved g c = (
   keeps-source_both _ _ _ c.loop-rescued.invariant.0 c.give_next.ensures.kept,
   omega (arith, c.in_ok-give_next.ensures.blocks, c.loop-rescued-test.true),
-  λ finding kept. gives-next (g.S.Source.view c.args.source.now) (g.S.Source.view c.loop-rescued.source) c.args.search.now finding c.loop-rescued.rescued c.give_next.new.rescued (g.W.Write.contents c.args.writer.now) (g.W.Write.contents c.loop-rescued.writer) (g.W.Write.contents c.give_next.new.writer) c.loop-rescued.invariant.0
+  λ finding kept. gives-next (g.S.Source.view c.args.source.now) (g.S.Source.view c.loop-rescued.source) (g.S.Source.view c.give_next.new.source) c.args.search.now finding c.loop-rescued.rescued c.give_next.new.rescued (g.W.Write.contents c.args.writer.now) (g.W.Write.contents c.loop-rescued.writer) (g.W.Write.contents c.give_next.new.writer) c.loop-rescued.invariant.0 c.give_next.ensures.kept
       c.in_ok-give_next.ensures.ok kept (c.loop-rescued.invariant.2 finding kept),
 )
 
@@ -26,5 +26,5 @@ returns-in_err-give_next-clause-kept g c = keeps-source_both _ _ _ c.loop-rescue
 
 pub returns-in_err-give_next-clause-err : goal.returns-in_err-give_next-clause-err
 returns-in_err-give_next-clause-err g c =
-    let more = gives-no_more (g.S.Source.view c.args.source.now) (g.S.Source.view c.loop-rescued.source) c.args.search.now c.loop-rescued.rescued (g.W.Write.contents c.args.writer.now) (g.W.Write.contents c.loop-rescued.writer) (g.W.Write.contents c.give_next.new.writer) c.in_err-give_next.field-0.0 c.loop-rescued.invariant.0 c.requires.finds c.in_err-give_next.ensures.err (c.loop-rescued.invariant.2 c.requires.finds.finding c.requires.finds.kept) in
+    let more = gives-no_more (g.S.Source.view c.args.source.now) (g.S.Source.view c.loop-rescued.source) (g.S.Source.view c.give_next.new.source) c.args.search.now c.loop-rescued.rescued (g.W.Write.contents c.args.writer.now) (g.W.Write.contents c.loop-rescued.writer) (g.W.Write.contents c.give_next.new.writer) c.in_err-give_next.field-0.0 c.loop-rescued.invariant.0 c.give_next.ensures.kept c.requires.finds c.in_err-give_next.ensures.err (c.loop-rescued.invariant.2 c.requires.finds.finding c.requires.finds.kept) in
     if-fault c.from_residual.result c.in_err-give_next.field-0.0 _ c.from_residual.ensures.1 more

@@ -8,7 +8,7 @@ abbrev pub invariant-loop-rescued : goal.invariant-loop-rescued
 invariant-loop-rescued g l =
     KeepsSource (g.S.Source.view l.fn.source) (g.S.Source.view l.source) × (l.rescued.blocks ≤ l.size)
     × ((finding : Finding) → IsKept (g.S.Source.view l.fn.source) l.search finding
-    → GivesAll (g.S.Source.view l.fn.source) finding l.rescued (g.W.Write.contents l.fn.writer) (g.W.Write.contents l.writer))
+    → GivesAll (g.S.Source.view l.source) finding l.rescued (g.W.Write.contents l.fn.writer) (g.W.Write.contents l.writer))
 
 abbrev pub decreases-loop-rescued : goal.decreases-loop-rescued
 decreases-loop-rescued g l = l.size - l.rescued.blocks

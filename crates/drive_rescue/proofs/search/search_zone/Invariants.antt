@@ -9,7 +9,7 @@ abbrev pub invariant-loop-search : goal.invariant-loop-search
 invariant-loop-search g l =
     KeepsSource (g.S.Source.view l.fn.source) (g.S.Source.view l.source)
     × ((finding : Finding) (end : ℕ) → HoldsFinding l.fn.search finding → IsSought l.zone (cut (zone_with (read_zones (g.S.Source.view l.fn.source).drive) l.zone.number) end)
-    → GetsIn (g.S.Source.view l.fn.source) l.zone.number end finding l.search)
+    → GetsIn (g.S.Source.view l.source) l.zone.number end finding l.search)
 
 abbrev pub decreases-loop-search : goal.decreases-loop-search
 decreases-loop-search g l = l.zone.blocks - l.search.offset

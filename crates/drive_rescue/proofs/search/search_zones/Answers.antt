@@ -1,7 +1,6 @@
 use Rattle.std.proofs.Common.{◌+◌, arith, ap, ◌∙◌}
 use Rattle.zone_states.specs.declared.geometry.Geometry.{Geometry}
 use Rattle.drive_survey.proofs.AllScanLaws.{there-is}
-use Rattle.drive_rescue.proofs.CutLaws.{sought-in-kept}
 use Rattle.drive_rescue.proofs.KeepLaws.{keeps-source_both, keeps-source_none}
 use Rattle.drive_rescue.proofs.SearchLaws.{searched-more, searched-none, sought-at, told-kept}
 use Rattle.drive_rescue.proofs.search.search_zones.Goals as goal
@@ -17,16 +16,14 @@ cut-requires-clause-zone g c =
 pub returns-in_err-zone-clause-kept : goal.returns-in_err-zone-clause-kept
 returns-in_err-zone-clause-kept g c = keeps-source_both _ _ _ c.loop-number.invariant.0 c.cut.ensures.kept
 
-pub search_zone-requires-clause-zone : goal.search_zone-requires-clause-zone
-search_zone-requires-clause-zone g c = sought-in-kept (g.S.Source.view c.loop-number.source) (g.S.Source.view c.cut.new.source) c.in_ok-zone.zone c.cut.ensures.kept c.in_ok-zone.ensures.ok
-
 pub returns-in_err-search_zone-clause-kept : goal.returns-in_err-search_zone-clause-kept
 returns-in_err-search_zone-clause-kept g c = keeps-source_both _ _ _ (keeps-source_both _ _ _ c.loop-number.invariant.0 c.cut.ensures.kept) c.search_zone.ensures.kept
 
 pub loop-number-preserved : goal.loop-number-preserved
 loop-number-preserved g c =
-    let kept = keeps-source_both (g.S.Source.view c.args.source.now) (g.S.Source.view c.loop-number.source) (g.S.Source.view c.cut.new.source) c.loop-number.invariant.0 c.cut.ensures.kept in (
-      keeps-source_both _ _ _ kept c.search_zone.ensures.kept,
-      searched-more (g.S.Source.view c.args.source.now) (g.S.Source.view c.cut.new.source) c.loop-number.number (c.loop-number.number + 1) c.in_ok-zone.zone.number c.loop-number.search c.search_zone.new.search kept (omega arith) (c.in_ok-zone.ensures.number ∙ c.sought.ensures.number)
+    let last = g.S.Source.view c.search_zone.new.source in
+    let kept = keeps-source_both (g.S.Source.view c.loop-number.source) (g.S.Source.view c.cut.new.source) last c.cut.ensures.kept c.search_zone.ensures.kept in (
+      keeps-source_both _ _ _ c.loop-number.invariant.0 kept,
+      searched-more (g.S.Source.view c.loop-number.source) last c.loop-number.number (c.loop-number.number + 1) c.in_ok-zone.zone.number c.loop-number.search c.search_zone.new.search kept (omega arith) (c.in_ok-zone.ensures.number ∙ c.sought.ensures.number)
           c.in_ok-search_zone.ensures.ok c.loop-number.invariant.1,
     )

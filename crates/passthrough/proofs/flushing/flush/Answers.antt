@@ -13,7 +13,7 @@ pub returns-clause-looked : goal.returns-clause-looked
 returns-clause-looked g c = flush-looked _ _ _ _ _ _ _ c.send_flush.ensures.closes c.in_ok-look_at_due.ensures.seen c.settle.ensures
 
 pub returns-clause-ready : goal.returns-clause-ready
-returns-clause-ready g c = λ going. ready-settled _ _ _ _ _ c.in_ok-look_at_due.ensures.ready c.settle.ensures
+returns-clause-ready g c = λ going. ready-settled _ _ _ _ _ (c.in_ok-look_at_due.ensures.ready (λ e. cc)) c.settle.ensures
 
 pub returns-in_default-clause-err : goal.returns-in_default-clause-err
 returns-in_default-clause-err g c = (λ memory. refl, IsClosing-refl _)

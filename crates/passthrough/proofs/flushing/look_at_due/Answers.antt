@@ -13,7 +13,7 @@ pub loop-first-preserved : goal.loop-first-preserved
 loop-first-preserved g c = (
   omega (arith, c.min-count.ensures, c.loop-first.invariant.0),
   due-then _ _ _ _ _ _ _ _ _ c.loop-first.invariant.1 c.loop-first.invariant.3 c.in_ok-look_at_stretch.ensures.seen c.look_at_stretch.ensures.closes,
-  c.in_ok-look_at_stretch.ensures.ready,
+  c.in_ok-look_at_stretch.ensures.ready (λ e. cc),
   IsClosing-trans _ _ _ c.loop-first.invariant.3 c.look_at_stretch.ensures.closes,
   λ flushed. c.look_at_stretch.ensures.flushed (c.loop-first.invariant.4 flushed),
 )

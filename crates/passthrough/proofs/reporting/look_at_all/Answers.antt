@@ -13,7 +13,7 @@ pub loop-first-preserved : goal.loop-first-preserved
 loop-first-preserved g c = (
   omega (arith, c.min-count.ensures, c.loop-first.invariant.0),
   seen-then _ _ _ _ _ _ _ _ _ c.loop-first.invariant.1 c.loop-first.invariant.3 c.in_ok-look.ensures.seen c.in_ok-look.ensures.closes,
-  c.in_ok-look.ensures.ready,
+  c.in_ok-look.ensures.ready (λ e. cc),
   IsClosing-trans _ _ _ c.loop-first.invariant.3 c.look.ensures.closes,
   λ flushed. c.look.ensures.flushed (c.loop-first.invariant.4 flushed),
 )

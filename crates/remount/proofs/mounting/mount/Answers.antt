@@ -1,4 +1,4 @@
-use Rattle.std.proofs.Common.{◌≡◌, length, List, ℕ, ◌+◌, ◌-◌, ◌<◌, ◌≤◌, ◌^◌, min, inl, inr, sym, ap, subst, ◌∙◌, arith}
+use Rattle.std.proofs.Common.{◌≡◌, length, List, ℕ, ◌+◌, ◌-◌, ◌<◌, ◌≤◌, ◌^◌, min, inl, inr, refl, sym, ap, subst, ◌∙◌, arith}
 use Rattle.std.specs.List.{AllByRecursion}
 use Rattle.zone_states.specs.declared.geometry.Geometry.{Geometry}
 use Rattle.drive_port.specs.Contents.{contents}
@@ -51,7 +51,7 @@ returns-in_err-plan-clause-err g c clean =
 
 pub returns-in_err-plan-clause-refused : goal.returns-in_err-plan-clause-refused
 returns-in_err-plan-clause-refused g c = λ clean.
-    if-fault c.from_residual-in_err-plan.result c.in_err-plan.field-0.0 _ c.from_residual-in_err-plan.ensures.1 (λ not_halted not_memory. keeps-both _ _ _ c.survey_drive.ensures.kept c.plan_mount.ensures.kept)
+    if-fault c.from_residual-in_err-plan.result c.in_err-plan.field-0.0 _ c.from_residual-in_err-plan.ensures.1 (λ not_halted not_memory not_failed. keeps-both _ _ _ c.survey_drive.ensures.kept c.plan_mount.ensures.kept)
 
 pub returns-in_err-plan-clause-early : goal.returns-in_err-plan-clause-early
 returns-in_err-plan-clause-early g c clean =
@@ -202,3 +202,7 @@ returns-clause-sane g c =
 
 pub returns-clause-asked : goal.returns-clause-asked
 returns-clause-asked g c = record { geometry = c.in_ok-survey.ensures.reported.can.geometry; reserve = c.in_ok-survey.ensures.reported.can.reserve }
+
+pub returns-in_err-tables-clause-refused : goal.returns-in_err-tables-clause-refused
+returns-in_err-tables-clause-refused g c = λ clean.
+    if-fault c.from_residual-in_err-tables.result faults.OutOfMemory _ c.from_residual-in_err-tables.ensures.1 (λ not_halted not_memory not_failed. absurd (not_memory refl))

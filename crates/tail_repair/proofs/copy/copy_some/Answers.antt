@@ -21,8 +21,8 @@ returns-clause-kept g c =
 
 pub returns-in_err-read-clause-told : goal.returns-in_err-read-clause-told
 returns-in_err-read-clause-told g c =
-    if-fault c.from_residual.result _ _ c.from_residual.ensures.1 (call-told (g.D.Device.drive c.read.new.device) c.in_err-read.field-0.0 (λ is. c.in_err-read.ensures.obeys.stops (ap (λ (f : PortFault). Err f) is)))
+    if-fault c.from_residual.result _ _ c.from_residual.ensures.1 (call-told (g.D.Device.drive c.read.new.device) c.in_err-read.field-0.0 (λ is. c.in_err-read.ensures.obeys.stops (ap (λ (f : PortFault). Err f) is)) (λ is. (c.in_err-read.ensures.obeys.fails (ap (λ (f : PortFault). Err f) is)).0))
 
 pub returns-in_err-append-clause-told : goal.returns-in_err-append-clause-told
 returns-in_err-append-clause-told g c =
-    if-fault c.from_residual-in_err-append.result _ _ c.from_residual-in_err-append.ensures.1 (call-told (g.D.Device.drive c.append.new.device) c.in_err-append.field-0.0 (λ is. c.in_err-append.ensures.obeys.stops (ap (λ (f : PortFault). Err f) is)))
+    if-fault c.from_residual-in_err-append.result _ _ c.from_residual-in_err-append.ensures.1 (call-told (g.D.Device.drive c.append.new.device) c.in_err-append.field-0.0 (λ is. c.in_err-append.ensures.obeys.stops (ap (λ (f : PortFault). Err f) is)) (λ is. (c.in_err-append.ensures.obeys.fails (ap (λ (f : PortFault). Err f) is)).0))

@@ -11,7 +11,7 @@ returns-in_err-reset g c =
     record {
       there = λ clean. (leaves.batches clean).there;
       beside = λ clean. (leaves.batches clean).beside;
-      told = if-fault c.from_residual.result _ _ c.from_residual.ensures.1 (call-told (g.D.Device.drive c.reset.new.device) c.in_err-reset.field-0.0 (λ is. c.in_err-reset.ensures.obeys.stops (ap (λ (f : PortFault). Err f) is)));
+      told = if-fault c.from_residual.result _ _ c.from_residual.ensures.1 (call-told (g.D.Device.drive c.reset.new.device) c.in_err-reset.field-0.0 (λ is. c.in_err-reset.ensures.obeys.stops (ap (λ (f : PortFault). Err f) is)) (λ is. (c.in_err-reset.ensures.obeys.fails (ap (λ (f : PortFault). Err f) is)).0));
       kept = leaves.kept;
     }
 

@@ -5,9 +5,10 @@ use Rattle.tool_jobs.proofs.informing.find_info.Goals as goal
 
 pub returns-in-Ok-clause-ok : goal.returns-in-Ok-clause-ok
 returns-in-Ok-clause-ok g c =
-    info-found (g.I.Read.remaining c.args.bytes.now) Lazy c.in_ok-drive.field-0 c.in_ok-drive.ensures.ok c.blocks_taken-given.result c.geometry.result c.in-Ok.found c.geometry.ensures.value c.blocks_taken-given.ensures c.in-Ok.ensures.ok
+    let found = rw c.in-Ok.is at (c.inspect_and_rehearse-drive.ensures.ok c.vouch.ensures) in
+    info-found (g.I.Read.remaining c.args.bytes.now) Lazy c.in_ok-drive.field-0 c.in_ok-drive.ensures.ok c.blocks_taken-given.result c.geometry.result c.in-Ok.found c.geometry.ensures.value c.blocks_taken-given.ensures found
 
-pub returns-in-Err-clause-err : goal.returns-in-Err-clause-err
-returns-in-Err-clause-err g c =
-    let up = c.in-Err.ensures.err in
+pub returns-clause-err : goal.returns-clause-err
+returns-clause-err g c =
+    let up = rw c.in-Err.is at (c.inspect_and_rehearse-drive.ensures.err c.vouch.ensures) in
     not-asked (g.I.Read.remaining c.args.bytes.now) Lazy c.in_ok-drive.field-0 c.in_ok-drive.ensures.ok up.last c.in-Err.fault c.interrupted.result up.keeps c.interrupted.ensures up.interrupted

@@ -1,7 +1,7 @@
 use Rattle.std.proofs.Common.{◌++◌, ◌∙◌, List, ℕ, ap, refl, arith}
 use Rattle.zone_states.specs.declared.geometry.Geometry.{Geometry}
 use Rattle.zone_choice.proofs.ChangeLaws.{keeps-refl}
-use Rattle.zone_translator.proofs.ReadLaws.{alone, at-data, place_kept, row_can, row_halts, row_shown, together, zeros_piece}
+use Rattle.zone_translator.proofs.ReadLaws.{alone, at-data, place_kept, row_can, row_halts, row_shown, together, zeros-added, zeros_piece}
 use Rattle.zone_translator.proofs.read.read_piece.Goals as goal
 
 -- ---- a block without data
@@ -61,6 +61,14 @@ returns-clause-kept g c = λ clean.
     rw (← c.disk.view_is) (place_kept _ _ c.disk.inside.tables agrees c.in_default-read_extending.ensures.kept.contents c.in_default-read_extending.ensures.kept.closing c.in_default-read_extending.ensures.obeys.lawful c.in_default-read_extending.ensures.obeys.durable c.in_default-read_extending.ensures.shown.counts)
 
 -- ---- whatever the Read returned
+
+pub returns-in_default-clause-added : goal.returns-in_default-clause-added
+returns-in_default-clause-added g c =
+    let geometry = rw (← c.disk.view_is) at c.geometry.ensures in
+    rw (← c.disk.view_is) (zeros-added c.args.into.now.items _ c.geometry.result.block _ c.in_ok-extend_zeros.ensures (ap (λ (x : Geometry). x.block) geometry))
+
+pub returns-clause-added : goal.returns-clause-added
+returns-clause-added g c = rw (← c.disk.view_is) c.in_default-read_extending.ensures.shown.length_is
 
 pub returns-in_default-clause-shape : goal.returns-in_default-clause-shape
 returns-in_default-clause-shape g c = record { geometry = refl; trusted = λ t. t }

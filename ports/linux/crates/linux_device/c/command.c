@@ -27,6 +27,9 @@ enum { GREATEST_ACTION = 5 };
 // All others go through memory that is one piece: a large page of the processor. This is its size and its alignment.
 #define LARGE ((size_t)2 << 20)
 
+// The type of the statuses of a path.
+enum { PATH_STATUS = 3 };
+
 // How long the driver waits before it cancels a command: a minute.
 #define TIME_LIMIT 60000
 
@@ -90,9 +93,13 @@ static bool buffers_fit(uint32_t block, const struct request *request) {
 // after its time, in a reset of the controller, or when the drive was removed. The drive may have done such a command,
 // or may still do it. So it is not answered, and never sent again: an Append would be written twice.
 //
+// A status of the type 3h is of the path to the drive. Linux gives one by itself for a command that it gives up behind a
+// network, or cannot send (370h and 371h). So that is no answer of the drive, either.
+//
 // More and Do Not Retry, above bit 10, are left out.
 static uint16_t status_of(int given) {
-    return given < 0 ? NOT_ANSWERED : (uint16_t)(given & 0x7ff);
+    if (given < 0 || (given >> 8 & 7) == PATH_STATUS) return NOT_ANSWERED;
+    return (uint16_t)(given & 0x7ff);
 }
 
 // Memory for a command with many pages. It is asked for as one large page. The system may refuse that, and then takes

@@ -13,7 +13,7 @@ pub returns-in_default-clause-halts : goal.returns-in_default-clause-halts
 returns-in_default-clause-halts g c =
     let inner = g.D.Device.drive c.self.inside.device in
     let s = stopping inner c.self.inside.limit c.self.inside.tear c.self.inside.uncounted c.self.inside.progress in
-    rw (← c.self.view_is) (stops-here s (record s { progress = Over }) (decode_of c.args.entry.now) c.args.bytes.now (rw (← c.self.view_is) at c.requires.going) refl refl refl refl refl (inl (IsClosing-refl inner.zones)) refl (λ clean. clean) (λ clean. clean))
+    rw (← c.self.view_is) (stops-here s (record s { progress = Over }) (decode_of c.args.entry.now) c.args.bytes.now (rw (← c.self.view_is) at c.requires.going) refl refl refl refl refl (inl (IsClosing-refl inner.zones)) refl (λ clean. clean) (λ clean. clean) refl)
 
 pub returns-in-Ok-clause-halts : goal.returns-in-Ok-clause-halts
 returns-in-Ok-clause-halts g c =

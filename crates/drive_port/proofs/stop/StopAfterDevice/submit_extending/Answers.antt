@@ -14,7 +14,7 @@ pub returns-then-self-completed-clause-gives : goal.returns-then-self-completed-
 returns-then-self-completed-clause-gives g c =
     let inner = g.D.Device.drive c.self.inside.device in
     let s = stopping inner c.self.inside.limit c.self.inside.tear c.self.inside.uncounted c.self.inside.progress in
-    adds-nothing _ _ (refl, rw (← c.self.view_is) (stops-here s (record s { progress = Over }) (decode_of c.args.entry.now) [] (rw (← c.self.view_is) at (sym c.if-stopped.ensures.value)) refl refl refl refl refl (inl (IsClosing-refl inner.zones)) refl (λ clean. clean) (λ clean. clean)))
+    adds-nothing _ _ (refl, rw (← c.self.view_is) (stops-here s (record s { progress = Over }) (decode_of c.args.entry.now) [] (rw (← c.self.view_is) at (sym c.if-stopped.ensures.value)) refl refl refl refl refl (inl (IsClosing-refl inner.zones)) refl (λ clean. clean) (λ clean. clean) refl))
 
 pub returns-clause-gives : goal.returns-clause-gives
 returns-clause-gives g c =

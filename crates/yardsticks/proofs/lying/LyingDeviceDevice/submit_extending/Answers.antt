@@ -1,4 +1,4 @@
-use Rattle.std.proofs.Common.{rules, ◌≡◌, ◌∙◌, List, ℕ, length, drop, refl, sym, ap}
+use Rattle.std.proofs.Common.{rules, ◌≡◌, length, drop, refl}
 use Rattle.yardsticks.proofs.LyingLaws.{tells-after, tells-completed, tells-passed-after}
 use Rattle.yardsticks.proofs.lying.LyingDeviceDevice.submit_extending.Goals as goal
 

@@ -4,6 +4,7 @@ use Rattle.nvme_wire.specs.Entry.{decode_of}
 use Rattle.drive_port.specs.declared.device.Halt.TheVariants.{Stopped}
 use Rattle.drive_port.proofs.CallLaws.{adds-also, adds-nothing}
 use Rattle.drive_port.proofs.StopLaws.{stops-already}
+use Rattle.zone_drive.specs.Habits.{MemoryDrive}
 use Rattle.zone_drive.specs.Held.{HeldDrive}
 use Rattle.zone_drive.proofs.SubmitLaws.{completes, halts-noted, noted-hardens, noted-stop}
 use Rattle.zone_drive.proofs.zone_drive.ZoneDrive.answer.Goals as goal
@@ -23,6 +24,7 @@ returns-in-Err-clause-gives g c =
     let kept = rw c.decode-command.ensures.value at c.in-Err.ensures.kept in
     let stop : c.in-Err.halt ≡ Stopped → new ≡ record middle.state { stopped = true } = λ stopped. ap (λ (d : HeldDrive _). d.drive.state) (c.note.ensures.stopped stopped) in
     let halts = halts-noted old.state new command c.args.bytes.now c.in-Err.halt going
+    (λ failed. ap (λ (d : HeldDrive _). d.drive.state) (c.note.ensures.failed failed) ∙ ap (λ (d : MemoryDrive). record d.state { unfailing = false }) (c.in-Err.ensures.failed (ap Err failed)))
     (λ memory. ap (λ (d : HeldDrive _). d.drive.state) (c.note.ensures.memory memory ∙ c.in-Err.ensures.memory (ap Err memory)))
     (λ stopped. noted-stop old middle new command kept (stop stopped))
     (λ stopped. noted-hardens old middle new command kept (stop stopped)) in

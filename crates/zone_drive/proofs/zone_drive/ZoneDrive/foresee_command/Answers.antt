@@ -10,4 +10,4 @@ pub returns-in-Flush : goal.returns-in-Flush
 returns-in-Flush g c =
     let next = with_durable c.args.self.now.drive [] in
     rw c.in-Flush.is (foresees-by c.args.self.now.drive next (Ok Flush) c.args.bytes.now [] _ (gives-flush c.args.self.now.drive next c.args.bytes.now refl (λ zones left. absurd (omega (arith, left.1))))
-    (lawful-durable next.state c.args.self.now.drive.state.durable (lawful-now c.self.inside.geometry (g.Z.HeldZones.stored c.self.inside.zones) _ c.self.inside.completed c.self.inside.refused c.self.inside.appended c.self.inside.habit c.self.inside.halted c.self.invariant.0 c.self.invariant.1 c.self.invariant.4 c.args.self.now.drive (ap (λ (d : HeldDrive _). d.drive) c.self.view_is))))
+    (lawful-durable next.state c.args.self.now.drive.state.durable (lawful-now c.self.inside.geometry (g.Z.HeldZones.stored c.self.inside.zones) _ c.self.inside.completed c.self.inside.refused c.self.inside.appended c.self.inside.habit c.self.inside.halted c.self.inside.failed c.self.invariant.0 c.self.invariant.1 c.self.invariant.4 c.args.self.now.drive (ap (λ (d : HeldDrive _). d.drive) c.self.view_is))))

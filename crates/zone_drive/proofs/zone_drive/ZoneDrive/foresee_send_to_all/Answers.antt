@@ -10,4 +10,4 @@ pub returns : goal.returns
 returns g c = λ bytes.
     let next = with_zones c.args.self.now.drive (map (sent_zone c.args.action) c.args.self.now.drive.state.zones) in
     foresees-by c.args.self.now.drive next (Ok (Send c.args.slba c.args.action true)) bytes [] _ (gives-all c.args.self.now.drive next c.args.slba c.args.action bytes refl)
-    (rw (← c.self.view_is) (could-send-all c.self.inside.geometry (g.Z.HeldZones.stored c.self.inside.zones) _ c.self.inside.completed c.self.inside.refused c.self.inside.appended c.self.inside.habit c.self.inside.halted c.self.invariant.0 c.self.invariant.1 c.self.invariant.4 c.args.action))
+    (rw (← c.self.view_is) (could-send-all c.self.inside.geometry (g.Z.HeldZones.stored c.self.inside.zones) _ c.self.inside.completed c.self.inside.refused c.self.inside.appended c.self.inside.habit c.self.inside.halted c.self.inside.failed c.self.invariant.0 c.self.invariant.1 c.self.invariant.4 c.args.action))

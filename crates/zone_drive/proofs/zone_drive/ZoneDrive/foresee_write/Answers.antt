@@ -9,7 +9,7 @@ pub returns-in-Some : goal.returns-in-Some
 returns-in-Some g c =
     foresees-by c.args.self.now.drive c.args.self.now.drive (Ok (Write c.args.slba c.args.blocks)) c.args.bytes.now [] (record { status = c.in-Some.status; value = 0 })
     (write-refused c.args.self.now.drive c.args.slba c.args.blocks c.args.bytes.now c.in-Some.status c.in-Some.ensures.checks)
-    (lawful-now c.self.inside.geometry (g.Z.HeldZones.stored c.self.inside.zones) _ c.self.inside.completed c.self.inside.refused c.self.inside.appended c.self.inside.habit c.self.inside.halted c.self.invariant.0 c.self.invariant.1 c.self.invariant.4 c.args.self.now.drive (ap (λ (d : HeldDrive _). d.drive) c.self.view_is))
+    (lawful-now c.self.inside.geometry (g.Z.HeldZones.stored c.self.inside.zones) _ c.self.inside.completed c.self.inside.refused c.self.inside.appended c.self.inside.habit c.self.inside.halted c.self.inside.failed c.self.invariant.0 c.self.invariant.1 c.self.invariant.4 c.args.self.now.drive (ap (λ (d : HeldDrive _). d.drive) c.self.view_is))
 
 pub returns : goal.returns
 returns g c =

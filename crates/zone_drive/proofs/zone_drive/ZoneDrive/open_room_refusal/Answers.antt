@@ -9,4 +9,4 @@ pub returns-clause-could : goal.returns-clause-could
 returns-clause-could g c =
     let gives = subst (λ (d : HeldDrive _). RoomGives d.drive.habit d.drive.state.geometry d.drive.state.zones (zone_at d.drive.state.zones c.args.number) c.room_for.result) (sym c.self.view_is) c.room_for.ensures in
     rw (c.err.ensures.value, ← c.self.view_is)
-    (could-open c.self.inside.geometry (g.Z.HeldZones.stored c.self.inside.zones) _ c.self.inside.completed c.self.inside.refused c.self.inside.appended c.self.inside.habit c.self.inside.halted c.self.invariant.0 c.self.invariant.1 c.self.invariant.4 c.args.number c.room_for.result (rw (← c.self.view_is) at c.requires) gives)
+    (could-open c.self.inside.geometry (g.Z.HeldZones.stored c.self.inside.zones) _ c.self.inside.completed c.self.inside.refused c.self.inside.appended c.self.inside.habit c.self.inside.halted c.self.inside.failed c.self.invariant.0 c.self.invariant.1 c.self.invariant.4 c.args.number c.room_for.result (rw (← c.self.view_is) at c.requires) gives)

@@ -14,6 +14,7 @@ invariant_of-self g c =
       held.5,
       held.6,
       rw c.close_implicit.ensures.durable held.7,
+      held.8,
     )
 
 pub returns-then-eq-clause-settled : goal.returns-then-eq-clause-settled

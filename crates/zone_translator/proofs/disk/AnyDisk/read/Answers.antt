@@ -1,8 +1,10 @@
-use Rattle.std.proofs.Common.{◌∙◌, ◌≡◌, Ok, refl, rules, arith}
-use Rattle.std.specs.Prelude.{IsTrue}
+use Rattle.std.proofs.Common.{◌∙◌, ◌≡◌, Ok, ap, refl, rules, arith}
+use Rattle.std.specs.Prelude.{IsTrue, length}
+use Rattle.zone_states.specs.declared.geometry.Geometry.{Geometry}
 use Rattle.zone_translator.specs.View.{disk_array}
 use Rattle.zone_translator.proofs.CallLaws.{done-known, goes-begun, has-data, none-stopped, read-cause, read-done, read-known, read-refused, read-unknown, shown-more}
 use Rattle.zone_translator.proofs.DiskLaws.{alike-join, alike-same, kept-refl, read-join, read-none}
+use Rattle.zone_translator.proofs.ReadLaws.{more-added}
 use Rattle.zone_translator.proofs.disk.AnyDisk.read.Goals as goal
 
 -- ---- what is known before anything is done
@@ -30,7 +32,7 @@ returns-then-branch-clause-answers g c = λ clean. record {
 -- ---- block by block
 
 pub loop-i-init : goal.loop-i-init
-loop-i-init g c = (λ clean. read-none c.args.self.now (c.is_done.ensures.sound.mountable clean), c.in_ok-is_done.ensures.serving c.if-branch.false, λ clean. c.clear.ensures.items, omega arith, alike-same c.args.self.now, refl)
+loop-i-init g c = (λ clean. read-none c.args.self.now (c.is_done.ensures.sound.mountable clean), c.in_ok-is_done.ensures.serving c.if-branch.false, λ clean. c.clear.ensures.items, omega arith, alike-same c.args.self.now, refl, omega (arith, ap length c.clear.ensures.items))
 
 pub read_one-requires-clause-in_range : goal.read_one-requires-clause-in_range
 read_one-requires-clause-in_range g c =
@@ -49,6 +51,7 @@ loop-i-preserved g c =
       omega (arith, so_far.3, c.read_one.ensures.completed),
       alike-join c.args.self.now c.loop-i.self c.read_one.new.self so_far.4 c.read_one.ensures.alike,
       c.read_one.ensures.turns ∙ so_far.5,
+      more-added _ _ c.loop-i.i 1 _ _ (ap (λ (x : Geometry). x.block) so_far.4.shape.geometry) so_far.6 c.in_default.ensures.added,
     )
 
 pub returns-in-Err-clause-answers : goal.returns-in-Err-clause-answers
@@ -97,6 +100,16 @@ pub returns-clause-completed : goal.returns-clause-completed
 returns-clause-completed g c = let all : c.loop-i.i ≡ c.args.blocks = omega (arith, c.loop-i-test.false, c.loop-i.auto.i-end) in omega (arith, c.loop-i.invariant.3, all)
 
 -- ---- whatever the Reads returned
+
+pub returns-then-branch-clause-whole : goal.returns-then-branch-clause-whole
+returns-then-branch-clause-whole g c =
+    let none = c.in_ok-is_done.ensures.none c.if-branch.true in
+    rw none (omega (arith, ap length c.clear.ensures.items))
+
+pub returns-clause-whole : goal.returns-clause-whole
+returns-clause-whole g c =
+    let all : c.loop-i.i ≡ c.args.blocks = omega (arith, c.loop-i-test.false, c.loop-i.auto.i-end) in
+    rw all at c.loop-i.invariant.6
 
 pub returns-in_err-is_done-clause-alike : goal.returns-in_err-is_done-clause-alike
 returns-in_err-is_done-clause-alike g c = alike-same c.args.self.now

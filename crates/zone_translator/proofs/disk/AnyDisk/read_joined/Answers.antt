@@ -1,10 +1,12 @@
-use Rattle.std.proofs.Common.{◌∙◌, ◌≡◌, ◌+◌, ◌-◌, Ok, refl, rules, arith}
-use Rattle.std.specs.Prelude.{IsTrue}
+use Rattle.std.proofs.Common.{◌∙◌, ◌≡◌, ◌+◌, ◌-◌, Ok, ap, refl, rules, arith}
+use Rattle.std.specs.Prelude.{IsTrue, length}
+use Rattle.zone_states.specs.declared.geometry.Geometry.{Geometry}
 use Rattle.zone_translator.specs.Read.{IsPiece}
 use Rattle.zone_translator.specs.View.{disk_array, disk_places}
 use Rattle.zone_translator.proofs.CallLaws.{done-known, goes-begun, has-data, none-stopped, read-cause, read-done, read-known, read-refused, read-unknown}
 use Rattle.zone_translator.proofs.DiskLaws.{alike-join, alike-same, kept-refl, read-join, read-none}
 use Rattle.zone_translator.proofs.JoinedLaws.{joins-all, joins-more, joins-none, piece-shown}
+use Rattle.zone_translator.proofs.ReadLaws.{more-added}
 use Rattle.zone_translator.proofs.disk.AnyDisk.read_joined.Goals as goal
 
 -- ---- what is known before anything is done
@@ -37,7 +39,7 @@ returns-then-branch-clause-joins g c = λ clean.
 -- ---- piece by piece
 
 pub loop-done-init : goal.loop-done-init
-loop-done-init g c = (λ clean. read-none c.args.self.now (c.is_done.ensures.sound.mountable clean), c.in_ok-is_done.ensures.serving c.if-branch.false, λ clean. c.clear.ensures.items, omega arith, λ clean. joins-none c.args.self.now c.args.first c.args.blocks, alike-same c.args.self.now, refl, omega arith)
+loop-done-init g c = (λ clean. read-none c.args.self.now (c.is_done.ensures.sound.mountable clean), c.in_ok-is_done.ensures.serving c.if-branch.false, λ clean. c.clear.ensures.items, omega arith, λ clean. joins-none c.args.self.now c.args.first c.args.blocks, alike-same c.args.self.now, refl, omega arith, omega (arith, ap length c.clear.ensures.items))
 
 pub read_some-requires-clause-in_range : goal.read_some-requires-clause-in_range
 read_some-requires-clause-in_range g c =
@@ -58,6 +60,7 @@ loop-done-preserved g c =
       alike-join disk c.loop-done.self c.read_some.new.self so_far.5 c.read_some.ensures.alike,
       c.read_some.ensures.turns ∙ so_far.6,
       omega (arith, so_far.7, c.read_some.ensures.completed, c.in-Ok.ensures.some),
+      more-added _ _ c.loop-done.done c.in-Ok.count _ _ (ap (λ (x : Geometry). x.block) so_far.5.shape.geometry) so_far.8 c.in-Ok.ensures.added,
     )
 
 pub returns-in-Err-clause-answers : goal.returns-in-Err-clause-answers
@@ -113,6 +116,16 @@ returns-clause-completed g c =
     omega (arith, c.loop-done.invariant.7, all)
 
 -- ---- whatever the Reads returned
+
+pub returns-then-branch-clause-whole : goal.returns-then-branch-clause-whole
+returns-then-branch-clause-whole g c =
+    let none = c.in_ok-is_done.ensures.none c.if-branch.true in
+    rw none (omega (arith, ap length c.clear.ensures.items))
+
+pub returns-clause-whole : goal.returns-clause-whole
+returns-clause-whole g c =
+    let all : c.loop-done.done ≡ c.args.blocks = omega (arith, c.loop-done-test.false, c.loop-done.invariant.3) in
+    rw all at c.loop-done.invariant.8
 
 pub returns-in_err-is_done-clause-alike : goal.returns-in_err-is_done-clause-alike
 returns-in_err-is_done-clause-alike g c = alike-same c.args.self.now

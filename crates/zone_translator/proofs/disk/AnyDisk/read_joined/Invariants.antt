@@ -1,5 +1,5 @@
-use Rattle.std.proofs.Common.{◌≡◌, ◌-◌, ◌+◌, ◌≤◌}
-use Rattle.std.specs.Prelude.{IsTrue}
+use Rattle.std.proofs.Common.{◌≡◌, ◌-◌, ◌+◌, ◌*◌, ◌≤◌}
+use Rattle.std.specs.Prelude.{IsTrue, length}
 use Rattle.std.specs.List.{concat}
 use Rattle.zone_translator.specs.declared.status.DiskStatus.TheVariants.{Serving}
 use Rattle.zone_translator.specs.Flat.{blocks_from}
@@ -13,6 +13,7 @@ invariant-loop-done g l =
     (IsTrue l.self.drive.clean → KeepsByRead l.fn.self l.self) × (l.self.status ≡ Serving) × (IsTrue l.self.drive.clean → l.into.items ≡ concat (blocks_from (disk_array l.fn.self) l.first l.done))
     × (l.done ≤ l.blocks) × (IsTrue l.self.drive.clean → JoinsSoFar l.fn.self l.first l.blocks l.done l.self) × StaysAlike l.fn.self l.self
     × (disk_turns l.self ≡ disk_turns l.fn.self) × (l.self.drive.completed ≤ l.fn.self.drive.completed + l.done)
+    × (length l.into.items ≡ l.done * l.fn.self.drive.geometry.block)
 
 abbrev pub decreases-loop-done : goal.decreases-loop-done
 decreases-loop-done g l = l.blocks - l.done

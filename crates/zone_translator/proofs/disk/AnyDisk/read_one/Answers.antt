@@ -41,6 +41,9 @@ returns-in-Err-clause-err g c = λ clean.
 
 -- ---- whatever the Read returned
 
+pub returns-in-Ok-clause-added : goal.returns-in-Ok-clause-added
+returns-in-Ok-clause-added g c = rw (← c.self.view_is) c.in-Ok.ensures.added
+
 pub returns-in-Ok-clause-alike : goal.returns-in-Ok-clause-alike
 returns-in-Ok-clause-alike g c = rw (← c.self.view_is) (alike-sent c.self.inside.mounted c.read_block.new.disk c.self.inside.cleaner c.self.inside.status c.self.inside.status c.read_block.ensures.shape c.read_block.ensures.tables)
 

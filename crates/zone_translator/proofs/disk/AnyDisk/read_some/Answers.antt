@@ -47,6 +47,9 @@ returns-in-Ok-clause-piece g c = λ clean.
 
 -- ---- whatever the Read returned
 
+pub returns-in-Ok-clause-added : goal.returns-in-Ok-clause-added
+returns-in-Ok-clause-added g c = rw (← c.self.view_is) c.in-Ok.ensures.added
+
 pub returns-in-Ok-clause-alike : goal.returns-in-Ok-clause-alike
 returns-in-Ok-clause-alike g c = rw (← c.self.view_is) (alike-sent c.self.inside.mounted c.read_piece.new.disk c.self.inside.cleaner c.self.inside.status c.self.inside.status c.read_piece.ensures.shape c.read_piece.ensures.tables)
 

@@ -2,7 +2,7 @@ use Rattle.nbd_session.specs.Session.{session}
 use Rattle.nbd_session.specs.Streams.{streams}
 use Rattle.nbd_session.specs.declared.phase.Phase.TheVariants.{Greeting}
 use Rattle.nbd_session.proofs.RunLaws.{ServedCount}
-use Rattle.nbd_session.proofs.serving.serve_at_most.Given as goal
+use Rattle.nbd_session.proofs.serving.serve_any_at_most.Given as goal
 
 abbrev pub invariant-loop-turn : goal.invariant-loop-turn
 invariant-loop-turn g l =
