@@ -16,7 +16,8 @@ from traces import Line, text_of
 from worn import CLOSED, EMPTY, NAMES, OFFLINE, OPENED, READ_ONLY, ZONES, make_library
 from written import Written
 
-STOPPED, AT_END, HALTED = "fault disk 3 Stopped", "fault device", "fault mount 10 Halted"
+STOPPED, FAILED, AT_END = "fault disk 3 Stopped", "fault disk 10 Failed", "fault device"
+UNMOUNTED, UNREPAIRED = "fault mount 15 Failed", "fault repair 9 Failed"
 MOUNTABLE = ["the drive can be mounted", "status 0"]
 KINDS = "new", "flat"
 UNWORN = "unset LD_PRELOAD WORN; rm -f /tmp/worn"
@@ -54,7 +55,7 @@ def fail_write(disk, name):
         count("writes that did not come to the place")
         return False
     count("failed writes")
-    look(ended == (1, STOPPED), f"{name}: the run ended by {ended}")
+    look(ended in ((1, STOPPED), (1, FAILED)), f"{name}: the run ended by {ended}")
     saved = Saved(disk.guest, name, disk.chance.choice(KINDS))
     saved.judge(disk)
     look(not saved.lost, f"{name}: blocks are lost: {sorted(saved.lost)}")
@@ -84,14 +85,14 @@ def fail_data(disk, name, once):
     wanted = set() if once else {block}
     look((saved.lost, saved.older) == (wanted, set()), f"{name}: lost {saved.lost}, older {saved.older}, not {wanted}")
     look(saved.check[-2:] == MOUNTABLE, f"{name}: check says {saved.check}")
-    look(saved.reply == ("ok" if once else STOPPED), f"{name}: a run says {saved.reply}")
+    look(saved.reply == ("ok" if once else FAILED), f"{name}: a run says {saved.reply}")
 
 
 def write_anew(disk, name, block):
     """Writes a block whose newest data cannot be read: then all can be read again. Only if the cleaner has to make room
-    before, and reads these data, the run stops."""
+    before, and reads these data, the run ends."""
     ended = disk.run([a_fill(disk, block)])
-    if ended == (1, STOPPED):
+    if ended == (1, FAILED):
         told = read_file(disk.guest.share, "replies.said")
         look("the drive answered a Read " in told, f"{name}: block {block} cannot be written: {told}")
         count("unreadable blocks that the cleaner reads before they are written anew")
@@ -106,13 +107,13 @@ def fail_header(disk, name):
     batch = disk.chance.choice(batches_of(disk.shape, disk.guest.image))
     disk.guest.fail("read", batch.header, once=False)
     saved = Saved(disk.guest, name, disk.chance.choice(KINDS))
-    refuse_repair(disk, name, "fault repair 6 Halted")
+    refuse_repair(disk, name, UNREPAIRED)
     disk.guest.mend()
     saved.judge(disk)
     count("unreadable headers")
     look(not saved.lost, f"{name}: lost {sorted(saved.lost)}")
-    look(saved.reply == HALTED, f"{name}: the mount says {saved.reply}")
-    look(saved.is_stopped(), f"{name}: check says {saved.check}")
+    look(saved.reply == UNMOUNTED, f"{name}: the mount says {saved.reply}")
+    look(saved.has_failed(), f"{name}: check says {saved.check}")
 
 
 def wear(disk, name, kind, state):

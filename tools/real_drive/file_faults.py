@@ -63,12 +63,14 @@ class Files:
         """Writes and syncs more files until that fails. Whether it did."""
         return self.guest.ask("write_more")[0] != 0
 
-    def end(self, command=None):
-        """Ends the session. If a command failed, the server has to say which, and that its drive stopped."""
+    def end(self, command=None, stops=True):
+        """Ends the session. If a command failed, the server has to say which. A failed Read stops no drive, but a failed
+        write does: then the server has to say that, too."""
         self.guest.ask("abandon")
         status, said = read_file(self.guest.share, "ended_by").strip(), read_file(self.guest.share, "served")
-        is_told = "stopped" in said and re.search(rf"the drive answered {command}", said)
-        is_right = status == "1" and is_told if command else status == "0" and "stopped" not in said
+        is_told = command is None or re.search(rf"the drive answered {command}", said)
+        has_stopped = command is not None and stops
+        is_right = is_told and status == str(int(has_stopped)) and ("stopped" in said) == has_stopped
         look(is_right, f"{self.name}: the server ended by {status}: {said}")
 
     def is_refused(self, why):
@@ -171,7 +173,7 @@ def fail_data(files):
     number = file_of(wanted[block])
     files.guest.fail("read", places[block], once=False)
     look(files.guest.ask("read_all")[0] != 0, f"{files.name}: all files can be read")
-    files.end("a Read .*Unrecovered Read Error")
+    files.end("a Read .*Unrecovered Read Error", stops=False)
     count("unreadable data blocks under ext4")
     found = files.rescue()
     look(found == ({block}, set()), f"{files.name}: lost and older are {found}, and not {block}")
@@ -200,8 +202,8 @@ def fail_header(files):
     batch = files.chance.choice(files.chance.choice([batches, with_files]))
     files.guest.fail("read", batch.header, once=False)
     files.is_refused("Unrecovered Read Error")
-    files.check("has stopped")
-    refuse_repair(files, files.name, "fault repair 6 Halted")
+    files.check("the drive failed at a command")
+    refuse_repair(files, files.name, "fault repair 9 Failed")
     lost, older = files.rescue()
     files.guest.mend()
     count("unreadable headers under ext4")

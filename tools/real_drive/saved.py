@@ -75,9 +75,9 @@ class Saved:
         """Whether `check` says why the drive is not mounted."""
         return self.check[-1] == "status 1" and self.check[0].startswith(f"refused: {why}")
 
-    def is_stopped(self):
-        """Whether `check` says that the drive stopped, and at which command."""
-        return self.check[-1] == "status 1" and "answered a Read" in self.check[0] and "has stopped" in self.check[-2]
+    def has_failed(self):
+        """Whether `check` says that the drive failed at a command, and at which."""
+        return self.check[-1] == "status 1" and "answered a Read" in self.check[0] and "the drive failed" in self.check[-2]
 
     def judge(self, disk):
         """Looks at each block: what is not listed has to be what it may be. A lost one is zeros, and one that is
