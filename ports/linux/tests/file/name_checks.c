@@ -142,10 +142,24 @@ static void try_errors(void) {
     calls = (struct calls){.data_error = 0};
     zonedisk_file_close(session);
     end_telling(before);
-    expect(strcmp(told, "zonedisk: " PATH ": a read failed: Input/output error\n"
-                        "zonedisk: " PATH ": a write failed: No space left on device\n"
+    expect(strcmp(told, "zonedisk: " PATH ": a read failed at byte 0: Input/output error\n"
+                        "zonedisk: " PATH ": a write failed at byte 0: No space left on device\n"
                         "zonedisk: " PATH ": a sync failed: Disk quota exceeded\n") == 0, told);
     expect(access(PATH, F_OK) == 0, "a file that was there is removed");
+}
+
+// Of the sync at the opening its caller tells, and so nothing else does.
+static void try_late(void) {
+    FILE *before = stderr;
+    zonedisk_file_close(new_file(PATH, 100));
+    begin_telling();
+    calls = (struct calls){.data_error = EIO};
+    uint64_t session = old_file(PATH, true, 100), moment = 0;
+    calls = (struct calls){.data_error = 0};
+    expect(zonedisk_file_sync(session, &moment) == EIO, "the sync at the opening");
+    zonedisk_file_close(session);
+    end_telling(before);
+    expect(lines_told() == 0, told);
 }
 
 static void put_pipe(void) {
@@ -186,5 +200,6 @@ int main(int count, char **words) {
     try_new(true);
     try_replaced_new();
     try_errors();
+    try_late();
     return end_checks("name checks");
 }

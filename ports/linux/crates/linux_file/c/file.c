@@ -18,8 +18,11 @@
 
 enum { MOST_SESSIONS = 16, MOST_TRIES = 2000, WORD = 8 };
 
-// What is asked of a file. An error of each kind is told once in a session.
-enum work { READING = 1, WRITING = 2, SYNCING = 4 };
+// What a file may fail at: each is told once in a session.
+enum work { WRITING = 1, SYNCING = 2 };
+
+// So many failed reads are told in a session, each at another place than the one before.
+enum { MOST_TOLD = 20 };
 
 struct session {
     uint64_t number; // from 1 on, or 0 where there is none
@@ -31,6 +34,8 @@ struct session {
     bool is_made;      // this session made the file
     bool is_move_told; // it was told that the name leads elsewhere
     unsigned failed;   // the kinds of work that failed
+    unsigned told;     // how many failed reads were told
+    uint64_t unread;   // where the last one of them failed
     uint32_t late; // the error of the sync at the opening, which the first sync of the session gives, or 0
     bool is_lost;  // a sync has failed, or the first bytes of a file that is looked at have changed
     uint8_t *held; // the first bytes of such a file, as they were at one moment, or NULL
@@ -89,12 +94,30 @@ static uint32_t number_of(int given) {
     return given == 0 ? 0 : (uint32_t)errno;
 }
 
-// Tells people of an error of the system, once for each kind of work.
-static void tell_failed(struct session *used, enum work work, uint32_t number) {
-    const char *call = work == READING ? "read" : work == WRITING ? "write" : "sync";
+// Whether this is the first failure of its kind in a session.
+static bool is_first(struct session *used, enum work work) {
     bool is_told = (used->failed & work) != 0;
     used->failed |= work;
-    if (!is_told) fprintf(stderr, "zonedisk: %s: a %s failed: %s\n", used->named.name, call, strerror((int)number));
+    return !is_told;
+}
+
+static void tell_failed_sync(struct session *used, uint32_t number) {
+    if (!is_first(used, SYNCING)) return;
+    fprintf(stderr, "zonedisk: %s: a sync failed: %s\n", used->named.name, strerror((int)number));
+}
+
+// Tells people at which byte a call failed.
+static void tell_failed_at(const struct session *used, const char *call, uint64_t at, uint32_t number) {
+    fprintf(stderr, "zonedisk: %s: a %s failed at byte %llu: %s\n", used->named.name, call, (unsigned long long)at,
+            strerror((int)number));
+}
+
+// A read is asked for again, and then of fewer bytes. So it is told once for a place.
+static void tell_unread(struct session *used, uint64_t at, uint32_t number) {
+    if (used->told == MOST_TOLD || (used->told != 0 && used->unread == at)) return;
+    used->unread = at;
+    tell_failed_at(used, "read", at, number);
+    if (++used->told == MOST_TOLD) fprintf(stderr, "zonedisk: %s: no more such reads are told\n", used->named.name);
 }
 
 static void tell_moved(struct session *used) {
@@ -291,7 +314,7 @@ static uint32_t read_range(struct session *used, uint64_t at, uint8_t *room, siz
         else if (errno != EINTR) number = (uint32_t)errno;
     }
     count_bytes(FILE_READS, FILE_BYTES_READ, done);
-    if (number != 0) tell_failed(used, READING, number);
+    if (number != 0) tell_unread(used, at + done, number);
     return number;
 }
 
@@ -365,7 +388,7 @@ static uint32_t write_range(struct session *used, uint64_t at, const uint8_t *by
         else if (errno != EINTR) number = (uint32_t)errno;
     }
     count_bytes(FILE_WRITES, FILE_BYTES_WRITTEN, *done);
-    if (number != 0) tell_failed(used, WRITING, number);
+    if (number != 0 && is_first(used, WRITING)) tell_failed_at(used, "write", at + *done, number);
     return number;
 }
 
@@ -398,7 +421,8 @@ uint32_t zonedisk_file_sync(uint64_t session, uint64_t *moment) {
     struct session *used = change_at(session, moment);
     if (used->is_lost) return EIO;
     uint32_t number = used->late != 0 ? used->late : sync_data(used->file);
-    if (number != 0) tell_failed(used, SYNCING, number);
+    // Whoever opens the file tells of the sync at the opening (`tell.h`).
+    if (number != 0 && used->late == 0) tell_failed_sync(used, number);
     if (number == 0 && !has_name(used)) {
         number = ENOENT;
         tell_removed(used, true);

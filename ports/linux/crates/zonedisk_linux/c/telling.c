@@ -1,4 +1,5 @@
-// Tells what was asked of drives so far when SIGUSR1 comes.
+// Tells what was asked of drives so far when SIGUSR1 comes. An image is in memory: then it tells what Linux counts of the
+// process.
 //
 // The handler writes the line itself, so that a session that waits for its client tells at once. A call of the system
 // that it interrupts goes on (SA_RESTART).
@@ -7,6 +8,7 @@
 #include "../../linux_device/c/counts.h"
 #include "../../linux_file/c/counts.h"
 #include <errno.h>
+#include <fcntl.h>
 #include <signal.h>
 #include <stdbool.h>
 #include <stddef.h>
@@ -66,6 +68,38 @@ static void tell_of_file(void) {
     tell(&line);
 }
 
+// The number after a name in a text, or 0.
+static uint64_t number_after(const char *text, const char *name) {
+    const char *found = strstr(text, name);
+    uint64_t number = 0;
+    if (found == NULL) return 0;
+    for (found += strlen(name); *found >= '0' && *found <= '9'; found++) number = 10 * number + (uint64_t)(*found - '0');
+    return number;
+}
+
+// Reads what Linux counts of this process. Whether it tells it.
+static bool read_process_counts(char *text, size_t room) {
+    int file = open("/proc/self/io", O_RDONLY | O_CLOEXEC);
+    ssize_t length = file < 0 ? 0 : read(file, text, room - 1);
+    if (file >= 0) close(file);
+    text[length > 0 ? length : 0] = 0;
+    return length > 0;
+}
+
+static void tell_of_process(void) {
+    struct line line = {.length = 0};
+    char text[512];
+    add(&line, "zonedisk: so far no drive was asked: an image is held in memory");
+    if (read_process_counts(text, sizeof text)) {
+        add_count(&line, ". In all this program did ", number_after(text, "syscr: "), " read", "s");
+        add_count(&line, " of ", number_after(text, "rchar: "), " byte", "s");
+        add_count(&line, " and ", number_after(text, "syscw: "), " write", "s");
+        add_count(&line, " of ", number_after(text, "wchar: "), " byte", "s");
+        add(&line, ", also to and from its client");
+    }
+    tell(&line);
+}
+
 // Calls only what a handler may call.
 static void tell_counts(int number) {
     int kept = errno;
@@ -75,11 +109,7 @@ static void tell_counts(int number) {
     bool has_file = zonedisk_file_count(FILE_READS) + zonedisk_file_count(FILE_WRITES) != 0;
     if (has_device) tell_of_device();
     if (has_file) tell_of_file();
-    if (!has_device && !has_file) {
-        struct line line = {.length = 0};
-        add(&line, "zonedisk: so far no drive was asked: one in memory is not counted");
-        tell(&line);
-    }
+    if (!has_device && !has_file) tell_of_process();
     errno = kept;
 }
 
