@@ -133,12 +133,13 @@ class Worker:
             shutil.rmtree(folder, ignore_errors=True)
 
 
-worker = None
+worker, is_ending = None, None
 
 
-def start_worker(plan):
-    """Makes the worker of this process."""
-    global worker
+def start_worker(plan, ending):
+    """Makes the worker of this process. No cut is begun once `ending` is set."""
+    global worker, is_ending
+    is_ending = ending
     for number in (signal.SIGTERM, signal.SIGHUP, signal.SIGINT):
         signal.signal(number, signal.SIG_DFL)
     worker = Worker(plan)
@@ -146,18 +147,20 @@ def start_worker(plan):
 
 def look_at_batch(cuts):
     """Looks at several cuts in this process."""
-    return [worker.look(cut) for cut in cuts]
+    return [worker.look(cut) for cut in cuts if not is_ending.is_set()]
 
 
 def results_of(plan, cuts):
     """The results, in the order of the cuts."""
     batches = [cuts[first:first + BATCH] for first in range(0, len(cuts), BATCH)]
     forks = multiprocessing.get_context("fork")
-    jobs = concurrent.futures.ProcessPoolExecutor(plan.jobs, forks, start_worker, (plan,))
+    ending = forks.Event()
+    jobs = concurrent.futures.ProcessPoolExecutor(plan.jobs, forks, start_worker, (plan, ending))
     try:
         for results in jobs.map(look_at_batch, batches):
             yield from results
     finally:
+        ending.set()
         jobs.shutdown(cancel_futures=True)
 
 

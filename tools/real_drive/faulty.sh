@@ -24,7 +24,7 @@ write_more() {
 }
 
 read_all() {
-    echo 3 > /proc/sys/vm/drop_caches
+    forget_pages
     cat /tmp/files/* > /dev/null
 }
 
@@ -36,7 +36,7 @@ write_over() {
 # Ends a session.
 abandon() {
     umount -l /tmp/files
-    nbd-client -d $node > /dev/null
+    detach
     wait $server
     echo $? > /share/ended_by
 }
@@ -44,7 +44,7 @@ abandon() {
 # Ends a session by a kill. Requests that have no answer fail once the client is gone, and not before.
 kill_session() {
     kill -9 $server
-    nbd-client -d $node > /dev/null
+    detach
     umount -l /tmp/files
     wait $server
 }
@@ -74,6 +74,6 @@ look_at() {
     DRIVE=
     look_for_files
     looked=$?
-    nbd-client -d $node > /dev/null
+    detach
     wait $server && return $looked
 }

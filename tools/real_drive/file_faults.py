@@ -5,6 +5,7 @@ import random
 import re
 
 from asked import AskedGuest
+from fake_guest import FakeGuest
 from file_systems import PROGRAMS
 from looks import count, look
 from machine import files_of, install, modules_of, read_file, script_of
@@ -25,6 +26,8 @@ MOUNTABLE = ["the drive can be mounted", "status 0"]
 WORN = [(kind, state) for state in NAMES for kind in ZONES]
 # How many places are taken until a fault comes to one.
 MOST = 9
+# What a machine needs that has no guests.
+FAKE_PROGRAMS = ["socat", "mkfs.ext4", "e2fsck", "losetup", "nbdfuse", "fusermount3"]
 # A line of a file, and what no block is that has one.
 LINE, NO_FILE = re.compile(rb"\n(\d+)\.\d+\n"), ""
 
@@ -173,6 +176,8 @@ def fail_data(files):
     number = file_of(wanted[block])
     files.guest.fail("read", places[block], once=False)
     look(files.guest.ask("read_all")[0] != 0, f"{files.name}: all files can be read")
+    status, said = files.guest.ask("write 21")
+    look(status == 0, f"{files.name}: nothing can be written any more: {said}")
     files.end("a Read .*Unrecovered Read Error", stops=False)
     count("unreadable data blocks under ext4")
     found = files.rescue()
@@ -266,12 +271,19 @@ def faults_of(turn):
     return [(fail_write,), (fail_data,), (fail_header,), last]
 
 
-def some_turns(machine, library, turns):
+def guest_of(machine, turns):
+    """A guest with a drive that can fail, and what it needs to serve the disk."""
+    if machine.fakes:
+        return FakeGuest(machine, OF_FILE_FAULTS, ["faulty.sh"])
+    scripts = [script_of(name) for name in ("asked.sh", "serving.sh", "faulty.sh")]
+    options = [*modules_of(["nbd", "ext4"]), *files_of([*install(PROGRAMS), *scripts, make_library(machine)])]
+    return AskedGuest(machine, OF_FILE_FAULTS, options, seconds=300 + 1800 * len(turns))
+
+
+def some_turns(machine, turns):
     """Some turns in a guest. Each fault is one of a new drive with a new file system. It says whether it came to its
     place: if not, another one is taken."""
-    scripts = [script_of(name) for name in ("asked.sh", "serving.sh", "faulty.sh")]
-    options = [*modules_of(["nbd", "ext4"]), *files_of([*install(PROGRAMS), *scripts, library])]
-    with AskedGuest(machine, OF_FILE_FAULTS, options, seconds=300 + 1800 * len(turns)) as guest:
+    with guest_of(machine, turns) as guest:
         guest.ask(". /in/faulty.sh; export LD_PRELOAD=/in/worn.so")
         for turn in turns:
             for fault, *words in faults_of(turn):
@@ -282,7 +294,7 @@ def some_turns(machine, library, turns):
 
 def try_files(machine, number):
     """Faults under a file system, a number of turns."""
-    install(PROGRAMS)
-    library, shares = make_library(machine), min(machine.guests, number)
+    install(FAKE_PROGRAMS if machine.fakes else PROGRAMS)
+    shares = min(machine.guests, number)
     turns = [list(range(number))[share::shares] for share in range(shares)]
-    machine.side_by_side(lambda some: some_turns(machine, library, some), turns)
+    machine.side_by_side(lambda some: some_turns(machine, some), turns)

@@ -12,7 +12,8 @@ HERE = os.path.dirname(os.path.abspath(__file__))
 GUEST = os.path.join(HERE, "..", "zns_guest", "run")
 # A program of each package that is not one of the guest's.
 PACKAGES = {"nbd-client": "nbd-client", "socat": "socat", "mkfs.ext4": "e2fsprogs", "e2fsck": "e2fsprogs",
-            "mkfs.btrfs": "btrfs-progs", "mkfs.f2fs": "f2fs-tools", "sqlite3": "sqlite3", "fio": "fio"}
+            "losetup": "mount", "nbdfuse": "libnbd-bin", "fusermount3": "fuse3", "mkfs.btrfs": "btrfs-progs",
+            "mkfs.f2fs": "f2fs-tools", "sqlite3": "sqlite3", "fio": "fio"}
 # The words for a namespace that has no zones.
 NOT_ZONED = ["--namespace", "zoned=false"]
 

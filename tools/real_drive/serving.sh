@@ -21,17 +21,28 @@ await() {
 }
 is_free() { [ ! -e /sys/block/${1#/dev/}/pid ] && [ "$(cat /sys/block/${1#/dev/}/size)" = 0 ]; }
 
-# Serves the disk at $node. socat becomes the program, once the kernel's client has come.
-serve() {
+# Lets the kernel be the client at the socket: the disk is at $node then.
+attach() {
     node=/dev/nbd$((served % 8))
-    served=$((served + 1))
     await 600 is_free $node || fail "$node is not free"
+    nbd-client -unix /tmp/socket $node -b 4096 > /tmp/client 2>&1
+}
+
+# Ends what `attach` began.
+detach() { nbd-client -d $node > /dev/null; }
+
+# Lets go of what the kernel keeps of the files.
+forget_pages() { echo 3 > /proc/sys/vm/drop_caches; }
+
+# Serves the disk at $node. socat becomes the program, once the client has come.
+serve() {
+    served=$((served + 1))
     rm -f /tmp/socket
     program="zonedisk nbd ${DRIVE:---device /dev/ng0n1} --blocks $BLOCKS"
     socat UNIX-LISTEN:/tmp/socket EXEC:"$program",nofork 2>> /share/served &
     server=$!
     await 600 [ -S /tmp/socket ] || fail "nothing listens"
-    nbd-client -unix /tmp/socket $node -b 4096 > /tmp/client 2>&1 || fail "not served: $(cat /tmp/client /share/served)"
+    attach || fail "not served: $(cat /tmp/client /share/served)"
     [ "$(cat /proc/$server/comm)" = zonedisk ] || fail "process $server is not the program"
 }
 
@@ -76,7 +87,7 @@ spoil_file_system() {
 finish() {
     umount /tmp/files || fail "not unmounted"
     find_no_fault
-    nbd-client -d $node > /dev/null
+    detach
     wait $server || tell "the program ended by $?"
     zonedisk check --device /dev/ng0n1 > /share/check
 }
