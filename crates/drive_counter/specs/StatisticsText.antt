@@ -1,5 +1,5 @@
 -- Counts as text, a line for each.
-use Rattle.std.specs.Prelude.{ℕ, ◌*◌, ◌/◌, ◌%◌, ◌==◌, if◌then◌else◌, List, ◌++◌, codes, decimal}
+use Rattle.std.specs.Prelude.{ℕ, ◌*◌, ◌/◌, ◌%◌, ◌==◌, if◌then◌else◌, List, [], ◌++◌, codes, decimal}
 use Rattle.drive_counter.specs.declared.counts.Counts.{Counts}
 use Rattle.drive_counter.specs.declared.spread.Spread.{Spread}
 
@@ -40,6 +40,11 @@ live_lines live =
     ++ line (codes "median live") live.median
     ++ line (codes "most live") live.most
 
-abbrev pub statistics_lines : Counts → Spread → List ℕ
-statistics_lines counts live =
+-- how many zones no clean takes, only if there are any
+unfoldable pub left_out_lines : ℕ → List ℕ
+left_out_lines zones = if zones == 0 then [] else line (codes "zones left out") zones
+
+abbrev pub statistics_lines : Counts → Spread → ℕ → List ℕ
+statistics_lines counts live left_out =
     block_lines counts ++ amplification_line counts.blocks counts.host_blocks ++ command_lines counts ++ live_lines live
+    ++ left_out_lines left_out

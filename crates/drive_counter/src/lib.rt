@@ -6,7 +6,7 @@
 //! // commands to the counter ..
 //! let counts = counter.counts();
 //! let device = counter.into_inner();
-//! let text = statistics_text(alloc, &counts, &Spread::of(&mut live))?;
+//! let text = statistics_text(alloc, &counts, &Spread::of(&mut live), 0)?;
 //!
 //! let mut tally = Tally::new(device);       // tally.completed() is 0
 //! // commands to the tally ..

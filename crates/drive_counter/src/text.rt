@@ -1,6 +1,6 @@
 ghost use Rattle.std.specs.Prelude.{◌≡◌, ◌++◌, IfOk, OnOk, string_bytes};
 ghost use Rattle.drive_counter.specs.StatisticsText.{amplification_line, block_lines, command_lines};
-ghost use Rattle.drive_counter.specs.StatisticsText.{line, live_lines, statistics_lines};
+ghost use Rattle.drive_counter.specs.StatisticsText.{left_out_lines, line, live_lines, statistics_lines};
 
 use crate::counts::Counts;
 use crate::spread::Spread;
@@ -69,15 +69,32 @@ fn write_live(text: &mut String, live: &Spread) -> Result<(), AllocError>
     write_line(text, "most live", live.most as u64)
 }
 
-/// What was counted of a device, and how many blocks are live in its zones, in lines that `docs/formats.md`
-/// describes.
-pub fn statistics_text(alloc: Global, counts: &Counts, live: &Spread) -> Result<String, AllocError>
-    ensures { IfOk result (λ text. string_bytes text ≡ statistics_lines counts.now live.now) }
+/// Adds the line of the zones that no clean takes, if there are any.
+#[tactic(auto, unfolding(crate::specs::StatisticsText::left_out_lines))]
+fn write_left_out(text: &mut String, zones: usize) -> Result<(), AllocError>
+    ensures { OnOk result (string_bytes text.new ≡ string_bytes text.old ++ left_out_lines zones) }
+{
+    if zones == 0 {
+        return Ok(());
+    }
+    write_line(text, "zones left out", zones as u64)
+}
+
+/// What was counted of a device, how many blocks are live in its zones, and how many zones no clean takes, in lines
+/// that `docs/formats.md` describes.
+pub fn statistics_text(
+    alloc: Global,
+    counts: &Counts,
+    live: &Spread,
+    left_out: usize,
+) -> Result<String, AllocError>
+    ensures { IfOk result (λ text. string_bytes text ≡ statistics_lines counts.now live.now left_out) }
 {
     let mut text = String::new(alloc);
     write_blocks(&mut text, counts)?;
     write_amplification(&mut text, counts.blocks, counts.host_blocks)?;
     write_commands(&mut text, counts)?;
     write_live(&mut text, live)?;
+    write_left_out(&mut text, left_out)?;
     Ok(text)
 }

@@ -22,7 +22,7 @@ use Rattle.drive_survey.specs.Scan.{FailsBy, block_of, readable_at, mount_fault}
 
 -- without a command the zones of a lawful drive are kept
 pub keeps-none : (drive : DriveState) → IsLawful drive → KeepsZones drive drive
-keeps-none drive lawful = record { geometry = refl; lawful = lawful; closing = IsClosing-refl drive.zones; trusted = λ clean. clean; refused = refl; durable = refl; appended = refl }
+keeps-none drive lawful = record { geometry = refl; lawful = lawful; closing = IsClosing-refl drive.zones; trusted = λ clean. clean; unfailing = λ is. is; refused = refl; durable = refl; appended = refl }
 
 -- if each of two looks keeps the zones, both together do
 pub keeps-both : (a b c : DriveState) → KeepsZones a b → KeepsZones b c → KeepsZones a c
@@ -31,6 +31,7 @@ keeps-both a b c k l = record {
   lawful = l.lawful;
   closing = IsClosing-trans a.zones b.zones c.zones k.closing l.closing;
   trusted = λ clean. k.trusted (l.trusted clean);
+  unfailing = λ is. k.unfailing (l.unfailing is);
   refused = l.refused ∙ k.refused;
   durable = l.durable ∙ k.durable;
   appended = l.appended ∙ k.appended;
@@ -120,11 +121,11 @@ read-halts old new zone offset address reported returned port.Failed known lt is
     let failed = obeys.fails refl in
     record {
       halt = tt;
-      kept = record { geometry = obeys.geometry; lawful = obeys.lawful; closing = closing; trusted = obeys.trusted; refused = failed.1.refused; durable = obeys.durable; appended = failed.1.appended };
+      kept = record { geometry = obeys.geometry; lawful = obeys.lawful; closing = closing; trusted = obeys.trusted; unfailing = obeys.unfailing; refused = failed.1.refused; durable = obeys.durable; appended = failed.1.appended };
       cause = inr (inl (inr (refl, failed.0)));
     }
 read-halts old new zone offset address reported returned port.Stopped known lt is gives closing obeys passed = record {
   halt = tt;
-  kept = record { geometry = obeys.geometry; lawful = obeys.lawful; closing = closing; trusted = obeys.trusted; refused = (obeys.counts refl).refused; durable = obeys.durable; appended = (obeys.counts refl).appended };
+  kept = record { geometry = obeys.geometry; lawful = obeys.lawful; closing = closing; trusted = obeys.trusted; unfailing = obeys.unfailing; refused = (obeys.counts refl).refused; durable = obeys.durable; appended = (obeys.counts refl).appended };
   cause = inr (inl (inl (refl, obeys.stops refl)));
 }

@@ -16,11 +16,13 @@ use Rattle.zone_choice.specs.Agreement.{IsShut}
 use Rattle.drive_array.specs.ZoneLogs.{readable}
 
 -- What a report and Reads keep of a drive: all but that its controller may close zones. No command was refused, and nothing was appended.
+-- A drive that returned a lie, or failed at a command, has done so from then on.
 pub record KeepsZones (old new : DriveState) : Type 0 where
   pub geometry : new.geometry ≡ old.geometry
   pub lawful : IsLawful new
   pub closing : IsClosing old.zones new.zones
   pub trusted : IsTrue new.clean → IsTrue old.clean
+  pub unfailing : IsTrue new.unfailing → IsTrue old.unfailing
   pub refused : new.refused ≡ old.refused
   pub durable : new.durable ≡ old.durable
   pub appended : new.appended ≡ old.appended

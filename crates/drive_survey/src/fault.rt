@@ -2,8 +2,8 @@ use batch_log::LogFault;
 use std::alloc::AllocError;
 use thiserror::Error;
 
-/// Why a drive is not mounted. Each but `Halted`, `OutOfMemory`, `Failed` and `Damaged` comes exactly where it is the first fault that
-/// a mount meets.
+/// Why a drive is not mounted. Each but `Halted`, `OutOfMemory`, `Failed` and `Damaged` comes exactly where it is the
+/// first fault that a mount meets.
 #[derive(Clone, Copy, Debug, PartialEq, Eq, Error)]
 pub enum MountFault {
     /// The number of logical blocks is outside the drive's reserve.

@@ -26,8 +26,8 @@
 //! * A search for half clean zones passes over the zones once for each that it finds, and once more. It reads at most
 //!   two blocks for each entry (`SearchesBy`).
 //! * What is said of batches holds while the drive is clean: as long as each Read returned what the drive holds.
-//!   Whatever the Reads returned, a survey ends, and one that accepts has looked at all zones, with a true report of each
-//!   (`Reports` in specs/Survey). The calls of `honest` are for a device that is always clean.
+//!   Whatever the Reads returned, a survey ends, and one that accepts has looked at all zones, with a true report of
+//!   each (`Reports` in specs/Survey). The calls of `honest` are for a device that is always clean.
 //! * Whatever is answered, no command was refused and nothing was appended. The zones are as before, but that the
 //!   controller may have closed some (`KeepsZones` in specs/Reported).
 //!

@@ -1,6 +1,7 @@
 // The file of a drive, with the changes that are gathered for it.
 
-ghost use Rattle.std.specs.Prelude.{◌≡◌, ◌↔◌, ◌+◌, Err, IfErr, IfOk, IfSome, IsErr, IsTrue, None, OnErr, OnOk, false, is_some, true};
+ghost use Rattle.std.specs.Prelude.{◌≡◌, ◌↔◌, ◌+◌, Err, IfErr, IfOk, IfSome, IsErr, IsTrue, None, OnErr, OnOk, false};
+ghost use Rattle.std.specs.Prelude.{is_some, true};
 ghost use Rattle.std.specs.Io.KnownBytes.{append_known};
 ghost use Rattle.drive_journal.specs.Change.{start};
 ghost use Rattle.drive_journal.specs.Cut.{front_of};

@@ -9,9 +9,9 @@
 //!     Ok(disk) => disk,
 //!     Err((fault, device)) => return give_back(device, fault),
 //! };
-//! let output = ChangesOutput::new(&file, SentAfter::Write, &mut output); // changes are written before replies are sent
-//! let (left, _) = leave(disk.into_device(), stored.was_image);
-//! let Finished { fault, saved } = finish(file, Some(left)); // the image of the drive takes the place of the file
+//! let output = ChangesOutput::new(&file, SentAfter::Write, &mut output); // changes are written before replies are
+//! sent let (left, _) = leave(disk.into_device(), stored.was_image); let Finished { fault, saved } = finish(file,
+//! Some(left)); // the image of the drive takes the place of the file
 //! ```
 //!
 //! # What is promised

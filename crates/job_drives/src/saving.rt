@@ -12,8 +12,8 @@ use std::fs::File;
 use std::rt::Files;
 use zone_drive::Drive;
 
-/// Whether a file stays as it is: no change was appended, and it was the image of the drive at rest; or it takes no more
-/// changes. Else the drive is saved in it.
+/// Whether a file stays as it is: no change was appended, and it was the image of the drive at rest; or it takes no
+/// more changes. Else the drive is saved in it.
 pub fn stays(end: FileEnd, was_image: bool) -> bool
     ensures { result ≡ stays end was_image }
 {

@@ -17,11 +17,31 @@ fn live_blocks<D: Device + Honest + Drop>(
     Ok(live)
 }
 
-/// What was counted of a disk, and how many blocks are live in its zones, as text.
+/// The zones that no clean takes.
+fn zones_left_out<D: Device + Honest + Drop>(
+    alloc: Global,
+    disk: &Disk<Counter<D>>,
+) -> Result<Vec<u32>, AllocError> {
+    let mut zones = Vec::new(alloc);
+    for zone in 0..disk.device().geometry().zones {
+        if disk.is_left_out(zone) {
+            zones.push(zone)?;
+        }
+    }
+    Ok(zones)
+}
+
+/// What was counted of a disk, how many blocks are live in its zones, and how many zones no clean takes, as text.
 pub fn statistics_of<D: Device + Honest + Drop>(
     alloc: Global,
     disk: &Disk<Counter<D>>,
 ) -> Result<String, AllocError> {
     let mut live = live_blocks(alloc, disk)?;
-    statistics_text(alloc, &disk.device().counts(), &Spread::of(&mut live))
+    let left_out = zones_left_out(alloc, disk)?.len();
+    statistics_text(
+        alloc,
+        &disk.device().counts(),
+        &Spread::of(&mut live),
+        left_out,
+    )
 }

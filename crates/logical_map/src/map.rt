@@ -97,6 +97,13 @@ impl Map {
         self.count
     }
 
+    /// How many zones the drive has.
+    pub fn zones(&self) -> u32
+        ensures { result ≡ self.now.zones }
+    {
+        self.zones
+    }
+
     /// Makes it a map of more blocks, none of which has a place. It allocates nothing, and blocks that room
     /// was made for need no more.
     pub fn grow(&mut self, count: u32)
@@ -188,6 +195,13 @@ impl Map {
             return 0;
         }
         self.counts[index]
+    }
+
+    /// Whether a place is in a zone.
+    pub fn is_in(&self, place: Place, zone: u32) -> bool
+        ensures { result ≡ lies_in self.now.zone_size zone place }
+    {
+        zone_of(self.zone_size, place) == Some(zone as u64)
     }
 
     /// The first of the blocks from `from` on that are in a zone, with its place. What it costs depends on

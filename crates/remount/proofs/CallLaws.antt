@@ -92,7 +92,7 @@ zones-shut old new k = record { geometry = k.geometry; contents_are = kept-conte
 
 -- a Read that succeeds keeps the zones, though the controller may close some
 pub read-kept : (old new : DriveState) → Obeys {V = Unit {0}} old (Ok tt) new → IsClosing old.zones new.zones → Counts old new 0 → KeepsZones old new
-read-kept old new obeys closing counts = record { geometry = obeys.geometry; lawful = obeys.lawful; closing = closing; trusted = obeys.trusted; refused = counts.refused; durable = obeys.durable; appended = omega (arith, counts.appended) }
+read-kept old new obeys closing counts = record { geometry = obeys.geometry; lawful = obeys.lawful; closing = closing; trusted = obeys.trusted; unfailing = obeys.unfailing; refused = counts.refused; durable = obeys.durable; appended = omega (arith, counts.appended) }
 
 -- two steps that keep the contents and open no zone do so together
 pub shut-both : (a b c : DriveState) → KeepsShut a b → KeepsShut b c → KeepsShut a c

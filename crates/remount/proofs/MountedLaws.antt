@@ -25,6 +25,7 @@ use Rattle.drive_array.specs.Repair.{HasAtMost}
 use Rattle.drive_array.specs.Reserve.{FitsReserve, batch_most}
 use Rattle.zone_choice.specs.Roles.{RolesView, is_filling_at, mounted_as}
 use Rattle.drive_array.specs.Sizes.{encoded_size, map_of}
+use Rattle.zone_choice.specs.declared.unreadable.Unreadable.{Unreadable}
 use Rattle.zone_choice.specs.Tables.{TablesView}
 use Rattle.zone_choice.proofs.AgreementLaws.{tables_with}
 use Rattle.drive_array.proofs.AllLaws.{all-at}
@@ -243,7 +244,7 @@ agrees-with : (drive : DriveState) (n next : ℕ) (survey : Survey) (map : MapVi
     → AllByRecursion (λ sequence. sequence < next) (sequences (drive_logs drive)) → next ≤ 2 ^ 63
     → map.places ≡ map_of drive.geometry.size n (drive_logs drive) → map.zones ≡ drive.geometry.zones → map.zone_size ≡ drive.geometry.size
     → FindsPartly survey.zones.items 0 (length drive.zones) host → FindsNext survey.zones.items (length drive.zones) host second
-    → Agrees (mounted drive (tables_with map (mounted_as (empties survey.zones.items (length drive.zones)) host second) next n))
+    → Agrees (mounted drive (tables_with map (mounted_as (empties survey.zones.items (length drive.zones)) host second) next n []))
 agrees-with drive n next survey map host second knows repaired below few_sequences places zones zone_size first after =
     let size : length map.places ≡ encoded_size n (drive_logs drive) = ap length places ∙ told-length (place drive.geometry.size) n (drive_logs drive) in
     record {
@@ -260,19 +261,21 @@ agrees-with drive n next survey map host second knows repaired below few_sequenc
       few = all-partly (λ (f : Filling). AllByRecursion (HasAtMost (batch_most drive.geometry)) (log_at (drive_logs drive) f.zone)) survey.zones.items (length drive.zones) host second
           (λ from f found. repaired.few f.zone (partly-written drive survey.zones.items from (length drive.zones) f knows.zones found)) first after;
       open_zones = all-partly (TellsOpen drive.zones) survey.zones.items (length drive.zones) host second (λ from f found. partly-opens drive survey.zones.items from (length drive.zones) f knows.zones found) first after;
+      readable = λ up. refl;
     }
 
 -- the tables that a mount makes of a repaired drive agree with it
 pub mounted-agrees : (drive : DriveState) (geometry : Geometry) (n next : ℕ) (survey : Survey) (tables : TablesView) (roles : RolesView) → drive.geometry ≡ geometry → Knows drive n (drive_logs drive) survey → IsRepaired drive n survey
     → AllByRecursion (λ sequence. sequence < next) (sequences (drive_logs drive)) → next ≤ 2 ^ 63 → IsPlaced geometry n (drive_logs drive) tables → MountsRoles survey.zones.items geometry.zones roles
-    → Agrees (mounted drive (tables_with tables.map roles next tables.given))
+    → Agrees (mounted drive (tables_with tables.map roles next tables.given tables.unreadable))
 mounted-agrees drive geometry n next survey tables roles same knows repaired below few placed mounts =
     let here : IsPlaced drive.geometry n (drive_logs drive) tables = subst (λ (g : Geometry). IsPlaced g n (drive_logs drive) tables) (sym same) placed in
     let count : geometry.zones ≡ length drive.zones = sym (knows.zones.lawful.count ∙ ap (λ (g : Geometry). g.zones) same) in
     let m : MountsRoles survey.zones.items (length drive.zones) roles = subst (λ (zones : ℕ). MountsRoles survey.zones.items zones roles) count mounts in
     let agrees = agrees-with drive n next survey tables.map m.host m.next knows repaired below few here.places here.zones here.zone_size m.host_is m.next_is in
-    subst (λ (given : ℕ). Agrees (mounted drive (tables_with tables.map roles next given))) (sym here.given)
-    (subst (λ (rs : RolesView). Agrees (mounted drive (tables_with tables.map rs next n))) (sym m.is) agrees)
+    subst (λ (given : ℕ). Agrees (mounted drive (tables_with tables.map roles next given tables.unreadable))) (sym here.given)
+    (subst (λ (lost : List Unreadable). Agrees (mounted drive (tables_with tables.map roles next n lost))) (sym here.unreadable)
+    (subst (λ (rs : RolesView). Agrees (mounted drive (tables_with tables.map rs next n []))) (sym m.is) agrees))
 
 -- by its roles a repaired drive fills partly written zones with room, and has an empty one
 pub roles-mounted : (drive : DriveState) (geometry : Geometry) (n : ℕ) (survey : Survey) (roles : RolesView) → drive.geometry ≡ geometry → Knows drive n (drive_logs drive) survey → IsRepaired drive n survey

@@ -171,7 +171,7 @@ so-far-all zone_size sequence first now whole so_far all placed older =
 
 -- two steps that change only places change only places together
 pub both-kept : (first old new : TablesView) → SameButPlaces first old → SameButPlaces old new → SameButPlaces first new
-both-kept first old new k l = record { size = l.size ∙ k.size; zones = l.zones ∙ k.zones; zone_size = l.zone_size ∙ k.zone_size; given = l.given ∙ k.given }
+both-kept first old new k l = record { size = l.size ∙ k.size; zones = l.zones ∙ k.zones; zone_size = l.zone_size ∙ k.zone_size; given = l.given ∙ k.given; unreadable = l.unreadable ∙ k.unreadable }
 
 -- ---- all batches
 

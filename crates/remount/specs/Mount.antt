@@ -71,6 +71,7 @@ pub record IsPlaced (geometry : Geometry) (n : ℕ) (logs : List (List Batch)) (
   pub zones : tables.map.zones ≡ geometry.zones
   pub zone_size : tables.map.zone_size ≡ geometry.size
   pub given : tables.given ≡ n
+  pub unreadable : tables.unreadable ≡ []
 
 -- The one torn zone of a cleared drive can be repaired; all blocks whose newest record is there are known, and the places of all blocks.
 pub record IsRepairPlan (geometry : Geometry) (n : ℕ) (logs : List (List Batch)) (tails : List Bool) (repair : Repair) : Type 0 where

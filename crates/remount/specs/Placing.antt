@@ -76,3 +76,4 @@ pub record SameButPlaces (old new : TablesView) : Type 0 where
   pub zones : new.map.zones ≡ old.map.zones
   pub zone_size : new.map.zone_size ≡ old.map.zone_size
   pub given : new.given ≡ old.given
+  pub unreadable : new.unreadable ≡ old.unreadable

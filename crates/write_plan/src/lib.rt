@@ -27,8 +27,8 @@
 //! # What is not proved
 //!
 //! * The write amplification and the Reads of a drive that is full. They are estimates, for random writes of 1, 4,
-//!   16 and 64 blocks together, long after the drive was filled. `docs/placement.md` says where they come from; `bench/plan` compares
-//!   them with runs.
+//!   16 and 64 blocks together, long after the drive was filled. `docs/placement.md` says where they come from;
+//!   `bench/plan` compares them with runs.
 //! * That no greater number keeps a write amplification.
 //! * What the tables, the JSON, the plot and the advice on a size say is tested.
 //!

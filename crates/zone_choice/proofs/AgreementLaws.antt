@@ -1,5 +1,6 @@
 -- How the agreement of tables and drive lasts, command by command.
 use Rattle.std.proofs.Common.{◌≡◌, ◌≢◌, ℕ, zero, suc, ◌+◌, ◌-◌, ◌<◌, ◌≤◌, ◌^◌, Bool, true, false, not, ◌&&◌, cond, List, [], ◌∷◌, ◌++◌, length, set, get_or, replicate, Option, Some, None, refl, sym, ap, ◌∙◌, inl, inr, arith, append-nil}
+use Rattle.std.specs.Prelude.{IsTrue}
 use Rattle.std.specs.List.{AllByRecursion, count_by}
 use Rattle.std.proofs.lemmas.Bool.{cases_lt, le-ltb}
 use Rattle.std.proofs.lemmas.List.{get_or-set_other, length-append, length-map, length-replicate, length-set}
@@ -23,6 +24,7 @@ use Rattle.drive_array.specs.Spare.{HasSpare}
 use Rattle.drive_array.specs.ZoneLogs.{HasLog, drive_logs, has_torn_tail, log_at, sequences, encoded, encoded_array, zone_log, zone_logs, zone_tails}
 use Rattle.drive_array.specs.Mountable.{AreSound, IsMountable, is_partly_written}
 use Rattle.zone_choice.specs.Roles.{RolesView, closed_unless, empty_count, fillings, is_empty_at, is_filling_at, taken, wrote}
+use Rattle.zone_choice.specs.declared.unreadable.Unreadable.{Unreadable}
 use Rattle.zone_choice.specs.Tables.{SameButReady, TablesView, size_of}
 use Rattle.zone_choice.specs.Agreement.{Agrees, HoldsFilling, MountedView, RolesAgree, TellsOpen, mounted}
 use Rattle.drive_array.specs.Laws.{IsNext, WritesRecords}
@@ -36,8 +38,12 @@ use Rattle.drive_array.proofs.ZoneLogLaws.{append_logs, finish_logs, full-untorn
 use Rattle.drive_array.proofs.RepairingMounts.{emptied-nothing}
 
 -- tables by their parts
-abbrev pub tables_with : MapView → RolesView → ℕ → ℕ → TablesView
-tables_with places roles next given = record { map = places; roles = roles; next = next; given = given }
+abbrev pub tables_with : MapView → RolesView → ℕ → ℕ → List Unreadable → TablesView
+tables_with places roles next given lost = record { map = places; roles = roles; next = next; given = given; unreadable = lost }
+
+-- a drive that failed at a command counts as such from then on
+abbrev pub StaysFailed : DriveState → DriveState → Type 0
+StaysFailed old new = IsTrue new.unfailing → IsTrue old.unfailing
 
 -- a greater limit
 pub sound-weaker : (limit more n : ℕ) (logs : List (List Batch)) → limit ≤ more → AreSound limit n logs → AreSound more n logs
@@ -54,8 +60,8 @@ size-encoded disk agrees = ap length agrees.places ∙ told-length (place disk.d
 -- ---- commands that change no content
 
 -- tables agree with a drive that has the same contents, and opened no zone
-pub agrees_same : (old new : DriveState) (tables : TablesView) → SameContents old new → OpensNone old.zones new.zones → IsLawful new → Agrees (mounted old tables) → Agrees (mounted new tables)
-agrees_same old new tables same opens lawful agrees = record {
+pub agrees_same : (old new : DriveState) (tables : TablesView) → SameContents old new → OpensNone old.zones new.zones → IsLawful new → StaysFailed old new → Agrees (mounted old tables) → Agrees (mounted new tables)
+agrees_same old new tables same opens lawful failed agrees = record {
   geometry = rw same.geometry agrees.geometry;
   reserve = rw same.geometry agrees.reserve;
   lawful = lawful;
@@ -68,12 +74,13 @@ agrees_same old new tables same opens lawful agrees = record {
   roles = rw (same.geometry, same.contents) agrees.roles;
   few = rw (same.geometry, same.contents) agrees.few;
   open_zones = tells-kept old.zones new.zones (fillings tables.roles) opens agrees.open_zones;
+  readable = λ none. agrees.readable (failed none);
 }
 
 -- and the tables say that the zones beside one are closed, as they are
-pub agrees_close : (old new : DriveState) (tables : TablesView) (zone : ℕ) → SameContents old new → OpensNone old.zones new.zones → IsLawful new → AllByRecursion (ShutBeside new.zones zone) (fillings tables.roles) → Agrees (mounted old tables) → Agrees (mounted new (tables_closed tables zone))
-agrees_close old new tables zone same opens lawful shut agrees =
-    let now = agrees_same old new tables same opens lawful agrees in
+pub agrees_close : (old new : DriveState) (tables : TablesView) (zone : ℕ) → SameContents old new → OpensNone old.zones new.zones → IsLawful new → StaysFailed old new → AllByRecursion (ShutBeside new.zones zone) (fillings tables.roles) → Agrees (mounted old tables) → Agrees (mounted new (tables_closed tables zone))
+agrees_close old new tables zone same opens lawful failed shut agrees =
+    let now = agrees_same old new tables same opens lawful failed agrees in
     let logs = drive_logs new in
     record {
       geometry = now.geometry;
@@ -88,6 +95,7 @@ agrees_close old new tables zone same opens lawful shut agrees =
       roles = roles-close new.geometry.capacity (contents new.zones) logs tables.roles zone now.roles;
       few = all-with (λ z. AllByRecursion (HasAtMost (batch_most new.geometry)) (log_at logs z)) (closed_unless zone) (closed-zone zone) tables.roles now.few;
       open_zones = all-tells_closed new.zones zone tables.roles now.open_zones shut;
+      readable = now.readable;
     }
 
 -- such a drive spells the same array
@@ -153,6 +161,7 @@ pub record AppendsBatch (old new : DriveState) (tables : TablesView) (zone : ℕ
   pub lawful : IsLawful new
   pub appends : Appends (contents old.zones) (contents new.zones) old.geometry.capacity zone (batch_blocks old.geometry.block b)
   pub opens : OpensOnly zone old.zones new.zones
+  pub failed : StaysFailed old new
 
 -- how many blocks of a zone are written
 abbrev pub written_in : DriveState → ℕ → ℕ
@@ -210,7 +219,7 @@ length-over f (r ∷ rs) xs = length-set (over f rs xs) r.block (f (Some r)) ∙
 
 -- the tables after it
 abbrev pub tables_after : TablesView → MapView → ℕ → Batch → TablesView
-tables_after tables map zone b = record { map = map; roles = wrote tables.roles zone (batch_size b); next = tables.next + 1; given = tables.given }
+tables_after tables map zone b = record { map = map; roles = wrote tables.roles zone (batch_size b); next = tables.next + 1; given = tables.given; unreadable = tables.unreadable }
 
 -- the map has the batch's size and its places
 pub record IsPlaced (old : DriveState) (tables : TablesView) (map : MapView) (zone : ℕ) (b : Batch) : Type 0 where
@@ -248,6 +257,7 @@ agrees_append old new tables map zone b agrees filling a placed =
       roles = rw (after.logs, a.geometry) (roles-write g.capacity (contents old.zones) (contents new.zones) logs tables.roles zone (batch_blocks g.block b) b agrees.roles filling a.appends taken after.in_range);
       few = rw (after.logs, a.geometry) (few-write (batch_most g) logs tables.roles zone b after.in_range a.few agrees.few);
       open_zones = all-tells_grown old.zones new.zones zone (batch_size b) tables.roles a.opens agrees.open_zones;
+      readable = λ none. agrees.readable (a.failed none);
     }
 
 -- and the drive has that batch more
@@ -262,16 +272,16 @@ encoded_append old new tables zone b agrees filling a =
 -- ---- the host zone is finished or sealed, and an empty zone is taken
 
 -- after a Finish of the host zone
-pub agrees_finish : (old new : DriveState) (map : MapView) (empties : List Bool) (host : Filling) (second : Option Second) (next given : ℕ)
-    → Agrees (mounted old (tables_with map (roles_with empties (Some host) second) next given)) → 1 ≤ host.written → host.written < old.geometry.capacity
-    → new.geometry ≡ old.geometry → IsLawful new → Finishes (contents old.zones) (contents new.zones) host.zone → OpensNone old.zones new.zones
-    → Agrees (mounted new (tables_with map (roles_with empties None second) next given)) × (drive_logs new ≡ drive_logs old) × (encoded new given ≡ encoded old given)
+pub agrees_finish : (old new : DriveState) (map : MapView) (empties : List Bool) (host : Filling) (second : Option Second) (next given : ℕ) (lost : List Unreadable)
+    → Agrees (mounted old (tables_with map (roles_with empties (Some host) second) next given lost)) → 1 ≤ host.written → host.written < old.geometry.capacity
+    → new.geometry ≡ old.geometry → IsLawful new → StaysFailed old new → Finishes (contents old.zones) (contents new.zones) host.zone → OpensNone old.zones new.zones
+    → Agrees (mounted new (tables_with map (roles_with empties None second) next given lost)) × (drive_logs new ≡ drive_logs old) × (encoded new given ≡ encoded old given)
 unfolding encoded_array
-agrees_finish old new map empties host second next given agrees some room geometry lawful finishes opens =
+agrees_finish old new map empties host second next given lost agrees some room geometry lawful failed finishes opens =
     let g = old.geometry in
     let zones = contents old.zones in
     let has : HasLog g (content_at zones host.zone) = all-at (HasLog g) zones host.zone nothing agrees.logs finishes.in_range in
-    let writable = host-writable old map empties host second next given agrees room in
+    let writable = host-writable old map empties host second next given lost agrees room in
     let untorn = zone-untorn g zones (roles_with empties (Some host) second) host.zone agrees.roles finishes.in_range in
     let kept = finish_logs g zones (contents new.zones) host.zone agrees.lawful.geometry.block has writable untorn finishes in
     let logs : drive_logs new ≡ drive_logs old = rw geometry kept.logs in (
@@ -288,14 +298,15 @@ agrees_finish old new map empties host second next given agrees some room geomet
         roles = rw (logs, geometry) (roles-finish g.capacity zones (contents new.zones) (drive_logs old) empties host second agrees.roles finishes some);
         few = rw (logs, geometry) agrees.few.1;
         open_zones = tells-kept old.zones new.zones (second_list second) opens agrees.open_zones.1;
+        readable = λ none. agrees.readable (failed none);
       },
       logs,
       rw (logs, geometry) refl,
     )
   where
-    host-writable : (old : DriveState) (map : MapView) (empties : List Bool) (host : Filling) (second : Option Second) (next given : ℕ) → Agrees (mounted old (tables_with map (roles_with empties (Some host) second) next given)) → host.written < old.geometry.capacity
+    host-writable : (old : DriveState) (map : MapView) (empties : List Bool) (host : Filling) (second : Option Second) (next given : ℕ) (lost : List Unreadable) → Agrees (mounted old (tables_with map (roles_with empties (Some host) second) next given lost)) → host.written < old.geometry.capacity
         → is_writable (content_at (contents old.zones) host.zone).usage ≡ true
-    host-writable old map empties host second next given agrees room =
+    host-writable old map empties host second next given lost agrees room =
         elim agrees.roles.fillings_are.0.usage as (λ _. is_writable (content_at (contents old.zones) host.zone).usage ≡ true) [ inl w ↦ w | inr h ↦ absurd (omega (arith, h.1, room)) ]
 
 -- other roles, of which the same can be said
@@ -316,14 +327,15 @@ agrees-roles drive tables roles agrees there few open_zones = record {
   roles = there;
   few = few;
   open_zones = open_zones;
+  readable = agrees.readable;
 }
 
 -- after the host zone is full
-pub agrees_seal : (drive : DriveState) (map : MapView) (empties : List Bool) (host : Filling) (second : Option Second) (next given : ℕ)
-    → Agrees (mounted drive (tables_with map (roles_with empties (Some host) second) next given)) → 1 ≤ host.written → (content_at (contents drive.zones) host.zone).usage ≡ full
-    → Agrees (mounted drive (tables_with map (roles_with empties None second) next given))
-agrees_seal drive map empties host second next given agrees some is_full =
-    agrees-roles drive (tables_with map (roles_with empties (Some host) second) next given) (roles_with empties None second) agrees
+pub agrees_seal : (drive : DriveState) (map : MapView) (empties : List Bool) (host : Filling) (second : Option Second) (next given : ℕ) (lost : List Unreadable)
+    → Agrees (mounted drive (tables_with map (roles_with empties (Some host) second) next given lost)) → 1 ≤ host.written → (content_at (contents drive.zones) host.zone).usage ≡ full
+    → Agrees (mounted drive (tables_with map (roles_with empties None second) next given lost))
+agrees_seal drive map empties host second next given lost agrees some is_full =
+    agrees-roles drive (tables_with map (roles_with empties (Some host) second) next given lost) (roles_with empties None second) agrees
     (roles-seal drive.geometry.capacity (contents drive.zones) (drive_logs drive) empties host second agrees.roles is_full some) agrees.few.1 agrees.open_zones.1
 
 -- an emptied zone has no batch
@@ -331,13 +343,13 @@ pub vacant-emptied : (geometry : Geometry) (zones : List Content) (zone : ℕ) �
 vacant-emptied geometry zones zone e = log_at-zone geometry zones zone ∙ ap (zone_log geometry) e ∙ emptied-nothing geometry
 
 -- after an empty zone is taken
-pub agrees_take : (drive : DriveState) (map : MapView) (empties : List Bool) (second : Option Second) (zone next given : ℕ)
-    → Agrees (mounted drive (tables_with map (roles_with empties None second) next given)) → zone < length empties → get_or empties zone false ≡ true
-    → Agrees (mounted drive (tables_with map (taken (roles_with empties None second) zone) next given))
-agrees_take drive map empties second zone next given agrees lt here =
+pub agrees_take : (drive : DriveState) (map : MapView) (empties : List Bool) (second : Option Second) (zone next given : ℕ) (lost : List Unreadable)
+    → Agrees (mounted drive (tables_with map (roles_with empties None second) next given lost)) → zone < length empties → get_or empties zone false ≡ true
+    → Agrees (mounted drive (tables_with map (taken (roles_with empties None second) zone) next given lost))
+agrees_take drive map empties second zone next given lost agrees lt here =
     let there = agrees.roles.empty zone here in
     let none = vacant-emptied drive.geometry (contents drive.zones) zone there in
-    agrees-roles drive (tables_with map (roles_with empties None second) next given) (taken (roles_with empties None second) zone) agrees
+    agrees-roles drive (tables_with map (roles_with empties None second) next given lost) (taken (roles_with empties None second) zone) agrees
     (roles-take drive.geometry.capacity (contents drive.zones) (drive_logs drive) empties second zone agrees.roles lt here none) (rw none tt, agrees.few) ((λ no. emptied-shut drive.zones zone there), agrees.open_zones)
 
 -- of two empty zones one is left
@@ -361,6 +373,7 @@ agrees_room drive old new room agrees = record {
   roles = rw room.roles agrees.roles;
   few = rw room.roles agrees.few;
   open_zones = rw room.roles agrees.open_zones;
+  readable = rw room.unreadable agrees.readable;
 }
 
 -- ---- a disk's drive can be mounted again at any moment

@@ -94,11 +94,13 @@ places-closed a b c zone batch closes noted placed =
       array = placed.array ∙ rw (array, same.geometry) refl;
       next = placed.next ∙ rw closes.tables refl;
       given = placed.given ∙ rw closes.tables refl;
+      unreadable = placed.unreadable ∙ rw closes.tables refl;
       roles = placed.roles ∙ rw (same.geometry, noted, twice) refl;
       geometry = placed.geometry ∙ same.geometry;
       refused = placed.refused ∙ closes.kept.refused;
       durable = placed.durable ∙ closes.kept.durable;
       appended = placed.appended ∙ ap (λ (n : ℕ). n + 1) closes.kept.appended;
+      unfailing = λ up. closes.kept.unfailing (placed.unfailing up);
     }
 
 contents-join : (a b c : MountedView) → KeepsContents a b → KeepsContents b c → KeepsContents a c
@@ -108,6 +110,7 @@ contents-join a b c p q = record {
   refused = q.refused ∙ p.refused;
   durable = q.durable ∙ p.durable;
   appended = q.appended ∙ p.appended;
+  unfailing = λ up. p.unfailing (q.unfailing up);
 }
 
 closes-join : (a b c : MountedView) (zone : ℕ) → ClosesBeside a b zone → ClosesBeside b c zone → ClosesBeside a c zone
@@ -139,6 +142,7 @@ stops-closed a b c zone batch closes stops =
       refused = stops.refused ∙ closes.kept.refused;
       durable = stops.durable ∙ closes.kept.durable;
       appended = stops.appended ∙ closes.kept.appended;
+      unfailing = λ up. closes.kept.unfailing (stops.unfailing up);
     }
 
 append-closed : (a b c : MountedView) (zone : ℕ) (batch : Batch) (result : Result (Unit {0}) Halt) → ClosesBeside a b zone → b.tables.roles ≡ roles_alone a.drive.geometry a.tables.roles zone → BatchLeaves b c zone batch result → BatchLeaves a c zone batch result
@@ -182,6 +186,7 @@ stops-before a b zone batch stops =
       refused = kept.refused;
       durable = kept.durable;
       appended = kept.appended;
+      unfailing = kept.unfailing;
     }
 
 halts-before : (a b : MountedView) (zone : ℕ) (batch : Batch) (fault : Halt) → AloneLeaves a b zone (Err fault) → BatchLeaves a b zone batch (Err fault)
@@ -221,6 +226,7 @@ closes-keeps a b zone closes =
       refused = kept.refused;
       durable = kept.durable;
       appended = kept.appended;
+      unfailing = kept.unfailing;
     }
 
 -- where memory failed, the array is the same
@@ -245,6 +251,7 @@ same-keeps a b tables kept = record {
   refused = kept.refused;
   durable = kept.durable;
   appended = kept.appended;
+  unfailing = kept.unfailing;
 }
 
 -- nor where a command failed

@@ -29,7 +29,7 @@ use Rattle.drive_array.specs.Records.{append_log, batch_records, entry_records, 
 use Rattle.zone_choice.specs.Roles.{RolesView, closed, second_with, wrote}
 use Rattle.drive_array.specs.Sizes.{extended, size_or}
 use Rattle.zone_choice.specs.Tables.{GrowsTo, SameButReady, TablesView, size_of, with_places}
-use Rattle.zone_choice.proofs.AgreementLaws.{AppendsBatch, IsPlaced, agrees_append, agrees_room, agrees_same, size-placed, encoded_append, encoded_same, tables_after, written_in}
+use Rattle.zone_choice.proofs.AgreementLaws.{AppendsBatch, IsPlaced, StaysFailed, agrees_append, agrees_room, agrees_same, size-placed, encoded_append, encoded_same, tables_after, written_in}
 use Rattle.drive_array.proofs.AllLaws.{all-weaker}
 use Rattle.zone_choice.proofs.BuilderLaws.{placed-over}
 use Rattle.zone_choice.proofs.CommandLaws.{can_append, zone-start}
@@ -40,16 +40,16 @@ use Rattle.zone_choice.proofs.StopLaws.{Left, left-same, left-torn, left-whole}
 
 -- what changes nothing keeps the array
 pub keeps-refl : (drive : DriveState) (tables : TablesView) → Agrees (mounted drive tables) → KeepsArray (mounted drive tables) (mounted drive tables)
-keeps-refl drive tables agrees = record { agrees = agrees; logs = refl; array = refl; places = refl; next = refl; given = refl; spare = λ some. some; sealed = λ zone is. is; second = refl; geometry = refl; refused = refl; durable = refl; appended = refl }
+keeps-refl drive tables agrees = record { agrees = agrees; logs = refl; array = refl; places = refl; next = refl; given = refl; spare = λ some. some; sealed = λ zone is. is; second = refl; geometry = refl; refused = refl; durable = refl; appended = refl; unfailing = λ up. up }
 
 -- and so does a halt that left the drive
 pub keeps-halt : (old new : DriveState) (tables : TablesView) → new ≡ old → Agrees (mounted old tables) → KeepsArray (mounted old tables) (mounted new tables)
 keeps-halt old new tables same agrees = rw same (keeps-refl old tables agrees)
 
 -- a command that changes no content and opens no zone
-pub keeps-same : (old new : DriveState) (tables : TablesView) → Agrees (mounted old tables) → SameContents old new → OpensNone old.zones new.zones → IsLawful new → new.refused ≡ old.refused → new.durable ≡ old.durable → new.appended ≡ old.appended → KeepsArray (mounted old tables) (mounted new tables)
-keeps-same old new tables agrees same opens lawful refused durable appended = record {
-  agrees = agrees_same old new tables same opens lawful agrees;
+pub keeps-same : (old new : DriveState) (tables : TablesView) → Agrees (mounted old tables) → SameContents old new → OpensNone old.zones new.zones → IsLawful new → StaysFailed old new → new.refused ≡ old.refused → new.durable ≡ old.durable → new.appended ≡ old.appended → KeepsArray (mounted old tables) (mounted new tables)
+keeps-same old new tables agrees same opens lawful failed refused durable appended = record {
+  agrees = agrees_same old new tables same opens lawful failed agrees;
   logs = rw (same.geometry, same.contents) refl;
   array = encoded_same old new tables.given same;
   places = refl;
@@ -62,11 +62,12 @@ keeps-same old new tables agrees same opens lawful refused durable appended = re
   refused = refused;
   durable = durable;
   appended = appended;
+  unfailing = failed;
 }
 
 -- and was counted
-pub keeps-contents : (old new : DriveState) (tables : TablesView) → Agrees (mounted old tables) → SameContents old new → OpensNone old.zones new.zones → IsLawful new → new.durable ≡ old.durable → Counts old new 0 → KeepsArray (mounted old tables) (mounted new tables)
-keeps-contents old new tables agrees same opens lawful durable counts = keeps-same old new tables agrees same opens lawful counts.refused durable (omega (arith, counts.appended))
+pub keeps-contents : (old new : DriveState) (tables : TablesView) → Agrees (mounted old tables) → SameContents old new → OpensNone old.zones new.zones → IsLawful new → StaysFailed old new → new.durable ≡ old.durable → Counts old new 0 → KeepsArray (mounted old tables) (mounted new tables)
+keeps-contents old new tables agrees same opens lawful failed durable counts = keeps-same old new tables agrees same opens lawful failed counts.refused durable (omega (arith, counts.appended))
 
 -- the tables have more room
 pub keeps-room : (drive : DriveState) (old new : TablesView) → SameButReady old new → Agrees (mounted drive old) → KeepsArray (mounted drive old) (mounted drive new)
@@ -84,6 +85,7 @@ keeps-room drive old new room agrees = record {
   refused = refl;
   durable = refl;
   appended = refl;
+  unfailing = λ up. up;
 }
 
 -- ---- the bytes of a batch
@@ -132,6 +134,7 @@ tables_placed tables zone builder address blocks = record {
   roles = wrote tables.roles zone blocks;
   next = tables.next + 1;
   given = tables.given;
+  unreadable = tables.unreadable;
 }
 
 abbrev advanced : TablesView → ℕ → ℕ → TablesView
@@ -152,9 +155,9 @@ placed-tables tables mid after zone address blocks builder entries entries-are m
 built-batch : (old : DriveState) (tables : TablesView) (zone : ℕ) (builder : BuilderView) → CanPlace (mounted old tables) zone (built old.geometry.block builder) → IsBatch old.geometry.block (built old.geometry.block builder)
 built-batch old tables zone builder can = record { heading = can.heading; body = length-cut old.geometry.block (data_count builder.heading.entries) (drop old.geometry.block builder.bytes) }
 
-appends_batch : (old new : DriveState) (tables : TablesView) (zone : ℕ) (builder : BuilderView) → CanPlace (mounted old tables) zone (built old.geometry.block builder) → new.geometry ≡ old.geometry → IsLawful new
+appends_batch : (old new : DriveState) (tables : TablesView) (zone : ℕ) (builder : BuilderView) → CanPlace (mounted old tables) zone (built old.geometry.block builder) → new.geometry ≡ old.geometry → IsLawful new → StaysFailed old new
     → Appends (contents old.zones) (contents new.zones) old.geometry.capacity zone (batch_blocks old.geometry.block (built old.geometry.block builder)) → OpensOnly zone old.zones new.zones → AppendsBatch old new tables zone (built old.geometry.block builder)
-appends_batch old new tables zone builder can geometry lawful appends opens = record {
+appends_batch old new tables zone builder can geometry lawful failed appends opens = record {
   batch = built-batch old tables zone builder can;
   size = can.size;
   grows = can.grows;
@@ -167,6 +170,7 @@ appends_batch old new tables zone builder can geometry lawful appends opens = re
   lawful = lawful;
   appends = appends;
   opens = opens;
+  failed = failed;
 }
 
 -- what a batch says of the array does not depend on where it is
@@ -184,15 +188,15 @@ told-with old tables zone b size =
 
 -- its Append was done, and tables and drive agree again
 pub place_writes : (old new : DriveState) (tables grown after : TablesView) (zone start address blocks : ℕ) (builder : BuilderView) (bytes : List ℕ) → bytes ≡ builder.bytes → IsBuilt old.geometry.block builder → CanPlace (mounted old tables) zone (built old.geometry.block builder) → roles_alone old.geometry tables.roles zone ≡ tables.roles → start ≡ zone * old.geometry.size
-    → Appended old new start bytes address → PortLeaves old start bytes (Ok address) new → IsLawful new → new.durable ≡ old.durable → blocks ≡ batch_size (built old.geometry.block builder) → GrowsTo tables (size_with tables (built old.geometry.block builder)) grown → after ≡ tables_placed grown zone builder address blocks
+    → Appended old new start bytes address → PortLeaves old start bytes (Ok address) new → IsLawful new → StaysFailed old new → new.durable ≡ old.durable → blocks ≡ batch_size (built old.geometry.block builder) → GrowsTo tables (size_with tables (built old.geometry.block builder)) grown → after ≡ tables_placed grown zone builder address blocks
     → Places (mounted old tables) (mounted new after) zone (built old.geometry.block builder)
-place_writes old new tables grown after zone start address blocks builder bytes bytes-are is can alone start-is appended leaves lawful durable blocks-is grows after-is =
+place_writes old new tables grown after zone start address blocks builder bytes bytes-are is can alone start-is appended leaves lawful failed durable blocks-is grows after-is =
     let g = old.geometry in
     let b = built g.block builder in
     let s = sized g builder can.agrees.geometry can.heading is in
     let index = (zone-start zone g.size can.agrees.geometry.size.0).0 in
     let opens = append-opens old new start bytes (Ok address) leaves in
-    let a = appends_batch old new tables zone builder can appended.geometry lawful (rw (bytes-are, start-is, index, s.cut) at appended.contents) (rw (start-is, index) at opens) in
+    let a = appends_batch old new tables zone builder can appended.geometry lawful failed (rw (bytes-are, start-is, index, s.cut) at appended.contents) (rw (start-is, index) at opens) in
     let here : length (content_at (contents old.zones) (start / g.size)).blocks ≡ written_in old zone = rw (start-is, index) refl in
     let header : address ≡ zone * g.size + written_in old zone = omega (arith, appended.address_is, here, start-is) in
     let map : MapView = record grown.map { places = placed address (address + 1) builder.heading.entries grown.map.places } in
@@ -202,7 +206,7 @@ place_writes old new tables grown after zone start address blocks builder bytes 
       zones = grows.zones;
       zone_size = grows.zone_size;
     } in
-    let same : after ≡ tables_after tables map zone b = after-is ∙ rw (blocks-is, grows.roles, grows.next, grows.given) refl in
+    let same : after ≡ tables_after tables map zone b = after-is ∙ rw (blocks-is, grows.roles, grows.next, grows.given, grows.unreadable) refl in
     rw same (record {
       agrees = agrees_append old new tables map zone b can.agrees can.filling a is_placed;
       logs = (encoded_append old new tables zone b can.agrees can.filling a).0;
@@ -211,11 +215,13 @@ place_writes old new tables grown after zone start address blocks builder bytes 
       array = (encoded_append old new tables zone b can.agrees can.filling a).1 ∙ told-with old tables zone b can.size;
       next = refl;
       given = refl;
+      unreadable = refl;
       roles = rw alone refl;
       geometry = appended.geometry;
       refused = appended.counts.refused;
       durable = durable;
       appended = appended.counts.appended;
+      unfailing = failed;
     })
 
 -- ---- the device halts
@@ -248,10 +254,11 @@ stops_inside old new tables zone start builder is can start-is kept leaves obeys
       refused = (obeys.counts refl).refused;
       durable = obeys.durable;
       appended = (obeys.counts refl).appended;
+      unfailing = obeys.unfailing;
     }
 
     whole : Appends (contents old.zones) (contents new.zones) old.geometry.capacity zone (batch_blocks old.geometry.block b) → StopsInside (mounted old tables) (mounted new tables) zone b
-    whole appends = made _ _ (left-whole old new tables zone b can.agrees can.filling (appends_batch old new tables zone builder can obeys.geometry obeys.lawful appends (rw index at opens))) (inr (refl, told-with old tables zone b can.size))
+    whole appends = made _ _ (left-whole old new tables zone b can.agrees can.filling (appends_batch old new tables zone builder can obeys.geometry obeys.lawful obeys.unfailing appends (rw index at opens))) (inr (refl, told-with old tables zone b can.size))
 
     front : (j : ℕ) → j ≤ length (batch_blocks old.geometry.block b) → Appends (contents old.zones) (contents new.zones) old.geometry.capacity zone (take j (batch_blocks old.geometry.block b)) → StopsInside (mounted old tables) (mounted new tables) zone b
     front j few appends =
@@ -293,10 +300,11 @@ place_halts old new tables zone start builder bytes port.Memory bytes-are is can
 place_halts old new tables zone start builder bytes port.Failed bytes-are is can alone start-is gives kept leaves obeys passed =
     let failed = obeys.fails refl in
     let same : KeepsContents (mounted old tables) (mounted new tables) = record {
-      agrees = agrees_same old new tables kept (λ k h. closing-opens old.zones new.zones leaves k h) obeys.lawful can.agrees;
+      agrees = agrees_same old new tables kept (λ k h. closing-opens old.zones new.zones leaves k h) obeys.lawful obeys.unfailing can.agrees;
       same = kept;
       refused = failed.1.refused;
       durable = obeys.durable;
       appended = failed.1.appended;
+      unfailing = obeys.unfailing;
     } in record { halt = tt; leaves = (failed.0, inl (refl, same)) }
 place_halts old new tables zone start builder bytes port.Stopped bytes-are is can alone start-is gives kept leaves obeys passed = record { halt = tt; leaves = stops_inside old new tables zone start builder is can start-is (rw bytes-are at kept) (rw bytes-are at leaves) obeys }

@@ -18,7 +18,7 @@ use Rattle.drive_array.specs.ZoneLogs.{drive_logs}
 use Rattle.zone_choice.specs.Changes.{AloneLeaves, CloseBesideLeaves, ClosesBeside, IsHalt, KeepsContents, fault_halt, roles_alone, tables_closed}
 use Rattle.zone_choice.specs.Roles.{IsOccupied, RolesView, fillings, is_filling_at, is_open_beside, open_beside}
 use Rattle.zone_choice.specs.Tables.{TablesView}
-use Rattle.zone_choice.proofs.AgreementLaws.{agrees_close, agrees_same}
+use Rattle.zone_choice.proofs.AgreementLaws.{StaysFailed, agrees_close, agrees_same}
 use Rattle.zone_choice.proofs.CommandLaws.{can_close, filling-full, zone-start}
 use Rattle.zone_choice.proofs.OpenLaws.{OpensNone, close-opens, closing-opens, settled-shut, shut-beside, tells-kept}
 use Rattle.zone_choice.proofs.RolesLaws.{closed_beside-none, few-fillings}
@@ -60,14 +60,15 @@ is-beside drive tables zone other agrees e =
 -- ---- it is closed
 
 -- if no zone is open that wasn't, and it is not
-closed-kept : (old new : DriveState) (tables : TablesView) (zone : ℕ) → Agrees (mounted old tables) → is_filling_at tables.roles zone ≡ true → SameContents old new → OpensNone old.zones new.zones → IsLawful new
+closed-kept : (old new : DriveState) (tables : TablesView) (zone : ℕ) → Agrees (mounted old tables) → is_filling_at tables.roles zone ≡ true → SameContents old new → OpensNone old.zones new.zones → IsLawful new → StaysFailed old new
     → new.refused ≡ old.refused → new.durable ≡ old.durable → new.appended ≡ old.appended → ((other : Filling) → open_beside tables.roles zone ≡ Some other → IsShut new.zones other.zone) → KeepsContents (mounted old tables) (mounted new (tables_closed tables zone))
-closed-kept old new tables zone agrees here same opens lawful refused durable appended shut = record {
-  agrees = agrees_close old new tables zone same opens lawful (shut-beside new.zones zone (fillings tables.roles) (few-fillings tables.roles) here (tells-kept old.zones new.zones (fillings tables.roles) opens agrees.open_zones) shut) agrees;
+closed-kept old new tables zone agrees here same opens lawful failed refused durable appended shut = record {
+  agrees = agrees_close old new tables zone same opens lawful failed (shut-beside new.zones zone (fillings tables.roles) (few-fillings tables.roles) here (tells-kept old.zones new.zones (fillings tables.roles) opens agrees.open_zones) shut) agrees;
   same = same;
   refused = refused;
   durable = durable;
   appended = appended;
+  unfailing = failed;
 }
 
 -- it is full
@@ -76,19 +77,19 @@ pub other_full : (drive : DriveState) (tables : TablesView) (zone : ℕ) (other 
 other_full drive tables zone other agrees here is all =
     let beside = is-beside drive tables zone other agrees is in
     let shut : IsShut drive.zones other.zone = settled-shut drive.zones other.zone (inr (filling-full drive tables other agrees beside.in_range beside.holds all)) in
-    closed-kept drive drive tables zone agrees here (record { geometry = refl; contents = refl }) (λ k h. h) agrees.lawful refl refl refl (λ f e. let same : other ≡ f = (let both : Some other ≡ Some f = sym is ∙ e in cc) in subst (λ (x : Filling). IsShut drive.zones x.zone) same shut)
+    closed-kept drive drive tables zone agrees here (record { geometry = refl; contents = refl }) (λ k h. h) agrees.lawful (λ none. none) refl refl refl (λ f e. let same : other ≡ f = (let both : Some other ≡ Some f = sym is ∙ e in cc) in subst (λ (x : Filling). IsShut drive.zones x.zone) same shut)
 
 -- it was sent Close
 pub other_closed : (old new : DriveState) (tables : TablesView) (zone start : ℕ) (other : Filling) → Agrees (mounted old tables) → is_filling_at tables.roles zone ≡ true → open_beside tables.roles zone ≡ Some other → start ≡ other.zone * old.geometry.size
-    → SameContents old new → PortLeaves {V = Unit {0}} old start (Ok tt) new → IsLawful new → new.durable ≡ old.durable → Counts old new 0 → KeepsContents (mounted old tables) (mounted new (tables_closed tables zone))
-other_closed old new tables zone start other agrees here is start-is same leaves lawful durable counts =
+    → SameContents old new → PortLeaves {V = Unit {0}} old start (Ok tt) new → IsLawful new → StaysFailed old new → new.durable ≡ old.durable → Counts old new 0 → KeepsContents (mounted old tables) (mounted new (tables_closed tables zone))
+other_closed old new tables zone start other agrees here is start-is same leaves lawful failed durable counts =
     let beside = is-beside old tables zone other agrees is in
     let index : start / old.geometry.size ≡ other.zone = rw start-is (zone-start other.zone old.geometry.size agrees.geometry.size.0).0 in
     let at = start / old.geometry.size in
     let made : Zone = record { state = states.Closed; blocks = (zone_at old.zones at).blocks } in
     let there : IsShut (set old.zones at made) at = rw (get_or-set_same old.zones at made nowhere (omega (arith, index, beside.in_range))) refl in
     let shut : IsShut new.zones other.zone = subst (IsShut new.zones) index (closing-opens (set old.zones at made) new.zones leaves at there) in
-    closed-kept old new tables zone agrees here same (close-opens {V = Unit {0}} old new start (Ok tt) leaves) lawful counts.refused durable (omega (arith, counts.appended)) (λ f e. let one : other ≡ f = (let both : Some other ≡ Some f = sym is ∙ e in cc) in subst (λ (x : Filling). IsShut new.zones x.zone) one shut)
+    closed-kept old new tables zone agrees here same (close-opens {V = Unit {0}} old new start (Ok tt) leaves) lawful failed counts.refused durable (omega (arith, counts.appended)) (λ f e. let one : other ≡ f = (let both : Some other ≡ Some f = sym is ∙ e in cc) in subst (λ (x : Filling). IsShut new.zones x.zone) one shut)
 
 -- a Close that did not succeed
 pub record CloseHalts (old new : DriveState) (tables : TablesView) (zone : ℕ) (fault : PortFault) : Type 0 where
@@ -109,11 +110,12 @@ close_halts old new tables zone start other port.Failed agrees is room start-is 
       leaves = (
         failed.0,
         record {
-          agrees = agrees_same old new tables same (close-opens {V = Unit {0}} old new start (Err port.Failed) leaves) obeys.lawful agrees;
+          agrees = agrees_same old new tables same (close-opens {V = Unit {0}} old new start (Err port.Failed) leaves) obeys.lawful obeys.unfailing agrees;
           same = same;
           refused = failed.1.refused;
           durable = obeys.durable;
           appended = failed.1.appended;
+          unfailing = obeys.unfailing;
         },
       );
     }
@@ -122,11 +124,12 @@ close_halts old new tables zone start other port.Stopped agrees is room start-is
   leaves = (
     obeys.stops refl,
     record {
-      agrees = agrees_same old new tables same (close-opens {V = Unit {0}} old new start (Err port.Stopped) leaves) obeys.lawful agrees;
+      agrees = agrees_same old new tables same (close-opens {V = Unit {0}} old new start (Err port.Stopped) leaves) obeys.lawful obeys.unfailing agrees;
       same = same;
       refused = (obeys.counts refl).refused;
       durable = obeys.durable;
       appended = (obeys.counts refl).appended;
+      unfailing = obeys.unfailing;
     },
   );
 }

@@ -1,6 +1,7 @@
 pub mod RolesLaws
 pub mod EmptyLaws
 pub mod MarkLaws
+pub mod LeastLaws
 pub mod LiveLaws
 pub mod StopLaws
 pub mod BuilderLaws

@@ -105,6 +105,7 @@ tables-appended old tables grown after zone address blocks builder may alone blo
       zones = grows.zones;
       next = ap (λ (n : ℕ). n + 1) grows.next;
       given = grows.given;
+      unreadable = grows.unreadable;
       roles = rw (grows.roles, blocks-is, alone) refl;
     })
   where

@@ -1,5 +1,5 @@
 -- Where all zones but one are sealed, the one with the fewest live records can be cleaned.
-use Rattle.std.proofs.Common.{◌≡◌, ℕ, zero, suc, ◌+◌, ◌-◌, ◌*◌, ◌<◌, ◌≤◌, Bool, true, false, cond, eqb, List, [], ◌∷◌, ◌++◌, length, get_or, Option, Some, None, refl, ap, subst, ◌∙◌, inl, inr, arith}
+use Rattle.std.proofs.Common.{◌≡◌, ℕ, zero, suc, ◌+◌, ◌-◌, ◌*◌, ◌<◌, ◌≤◌, Bool, true, false, not, cond, eqb, List, [], ◌∷◌, ◌++◌, length, get_or, Option, Some, None, refl, ap, subst, ◌∙◌, inl, inr, arith}
 use Rattle.std.specs.List.{count_by, list_any, range_with_len, sum_by}
 use Rattle.std.proofs.lemmas.Bool.{cases_eq, cases_lt, eq-eqb, ne_eqb}
 use Rattle.std.proofs.lemmas.List.{length-map}
@@ -12,8 +12,9 @@ use Rattle.logical_map.specs.declared.place.Place.{Place}
 use Rattle.zone_choice.specs.declared.roles.Filling.{Filling}
 use Rattle.zone_choice.specs.Agreement.{Agrees, MountedView}
 use Rattle.drive_array.specs.Reserve.{batch_most}
-use Rattle.zone_choice.specs.Roles.{RolesView, is_at, is_filling_at, filling_list}
-use Rattle.zone_choice.specs.Tables.{size_of}
+use Rattle.zone_choice.specs.Roles.{RolesView, is_at, is_filling_at, is_sealed_at, filling_list}
+use Rattle.zone_choice.specs.declared.unreadable.Unreadable.{Unreadable}
+use Rattle.zone_choice.specs.Tables.{TablesView, can_be_cleaned, is_lost_in, size_of}
 use Rattle.zone_choice.specs.Victim.{HasSealed, LeastCanMove}
 use Rattle.zone_choice.proofs.MarkLaws.{sealed-made}
 use Rattle.drive_array.proofs.ReserveLaws.{fill-mono, positive-most}
@@ -96,12 +97,16 @@ none-filled roles host second k = ap (list_any (is_at k)) (ap (λ (h : Option Fi
 zones-counted : (disk : MountedView) → Agrees disk → length disk.tables.roles.empty ≡ disk.drive.geometry.zones
 zones-counted disk agrees = omega (arith, agrees.roles.count, agrees.lawful.count, length-map disk.drive.zones content_of)
 
+-- where all data could be read, a sealed zone can be cleaned
+pub can-clean : (tables : TablesView) (zone : ℕ) → tables.unreadable ≡ [] → is_sealed_at tables.roles zone ≡ true → can_be_cleaned tables zone ≡ true
+can-clean tables zone none is = rw is (ap (λ (lost : List Unreadable). not (list_any (is_lost_in tables.map zone) lost)) none)
+
 -- while one zone is empty and the others are sealed, there is one to clean
 pub has_sealed : HasSealed
 has_sealed disk in_use =
     let roles = disk.tables.roles in
     let found = some-unmarked roles.empty (omega (arith, in_use.empty, zones-counted disk in_use.agrees, in_use.agrees.geometry.zones)) in
-    (found.0, sealed-made roles found.0 found.1 found.2 (none-filled roles in_use.host in_use.second found.0))
+    (found.0, can-clean disk.tables found.0 in_use.readable (sealed-made roles found.0 found.1 found.2 (none-filled roles in_use.host in_use.second found.0)))
 
 -- and its live records fit a zone
 pub least_can_move : LeastCanMove
@@ -115,7 +120,7 @@ least_can_move disk zone in_use is =
     let quota = reserve.2 in
     let long = zones-counted disk in_use.agrees in
     let each : length roles.empty * m ≤ sum_by (live_in map.zone_size map.places) (range_with_len 0 (length roles.empty)) + marked_count roles.empty * m =
-    least-times m 0 (live_in map.zone_size map.places) roles.empty (λ k lt not. subst (λ (z : ℕ). m ≤ live map z) (omega arith) (is.least k (sealed-made roles k lt not (none-filled roles in_use.host in_use.second k)))) in
+    least-times m 0 (live_in map.zone_size map.places) roles.empty (λ k lt not. subst (λ (z : ℕ). m ≤ live map z) (omega arith) (is.least k (can-clean disk.tables k in_use.readable (sealed-made roles k lt not (none-filled roles in_use.host in_use.second k))))) in
     let total = live-sum map.zone_size (length roles.empty) map.places in
     let zones : length roles.empty ≡ p + 1 = omega (arith, long, in_use.agrees.geometry.zones) in
     let split : length roles.empty * m ≡ p * m + 1 * m = ap (λ (n : ℕ). n * m) zones ∙ add-mul p 1 m in

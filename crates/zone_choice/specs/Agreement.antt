@@ -1,5 +1,5 @@
 -- How the tables of a mounted disk agree with its drive.
-use Rattle.std.specs.Prelude.{◌≡◌, ◌⊎◌, ℕ, ◌<◌, ◌≤◌, ◌^◌, true, false, List, length}
+use Rattle.std.specs.Prelude.{◌≡◌, ◌⊎◌, ℕ, ◌<◌, ◌≤◌, ◌^◌, true, false, IsTrue, List, [], length}
 use Rattle.std.specs.List.{AllByRecursion}
 use Rattle.zone_states.specs.Geometry.{IsInRange}
 use Rattle.zone_states.specs.Transition.{is_open}
@@ -65,7 +65,8 @@ mounted_array disk = encoded disk.drive disk.tables.given
 
 -- The tables describe the drive: every zone holds a log, the batches are sound, with sequences below the next one; the
 -- map has the place of each block's newest record; and each zone is what its role says. No zone that is being filled has
--- a batch with more entries than ours have, and none is open unless the tables say that it may be.
+-- a batch with more entries than ours have, and none is open unless the tables say that it may be. No data is noted as
+-- unreadable while no command failed.
 pub record Agrees (disk : MountedView) : Type 0 where
   pub geometry : IsInRange disk.drive.geometry
   pub reserve : FitsReserve disk.drive.geometry (size_of disk.tables)
@@ -80,3 +81,4 @@ pub record Agrees (disk : MountedView) : Type 0 where
   pub few : AllByRecursion (λ (filling : Filling). AllByRecursion (HasAtMost (batch_most disk.drive.geometry))
       (log_at (drive_logs disk.drive) filling.zone)) (fillings disk.tables.roles)
   pub open_zones : AllByRecursion (TellsOpen disk.drive.zones) (fillings disk.tables.roles)
+  pub readable : IsTrue disk.drive.unfailing → disk.tables.unreadable ≡ []

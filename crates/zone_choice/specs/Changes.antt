@@ -1,5 +1,5 @@
 -- What changes of a mounted disk: nothing that its array tells, or one batch more.
-use Rattle.std.specs.Prelude.{◌≡◌, ◌⊎◌, ℕ, ◌≤◌, ◌<◌, ◌+◌, ◌-◌, ◌*◌, ◌^◌, ◌==◌, nat_lt, if◌then◌else◌, true, IsFalse, List, length, Option, Some, None, Result, Ok, Err}
+use Rattle.std.specs.Prelude.{◌≡◌, ◌⊎◌, ℕ, ◌≤◌, ◌<◌, ◌+◌, ◌-◌, ◌*◌, ◌^◌, ◌==◌, nat_lt, if◌then◌else◌, true, IsFalse, IsTrue, List, length, Option, Some, None, Result, Ok, Err}
 use Rattle.std.specs.List.{AllByRecursion}
 use Rattle.std.specs.Option.{option_map}
 use Rattle.zone_states.specs.declared.geometry.Geometry.{Geometry}
@@ -45,6 +45,7 @@ pub record KeepsArray (before after : MountedView) : Type 0 where
   pub refused : after.drive.refused ≡ before.drive.refused
   pub durable : after.drive.durable ≡ before.drive.durable
   pub appended : after.drive.appended ≡ before.drive.appended
+  pub unfailing : IsTrue after.drive.unfailing → IsTrue before.drive.unfailing
 
 -- the size that a disk has with a batch more, which says none below the disk's: that of the batch's header, or the disk's own where that says none
 abbrev pub size_with : TablesView → Batch → ℕ
@@ -101,6 +102,7 @@ pub record KeepsContents (before after : MountedView) : Type 0 where
   pub refused : after.drive.refused ≡ before.drive.refused
   pub durable : after.drive.durable ≡ before.drive.durable
   pub appended : after.drive.appended ≡ before.drive.appended
+  pub unfailing : IsTrue after.drive.unfailing → IsTrue before.drive.unfailing
 
 -- At an open limit of 1 the zone beside this one, which might be open, was closed, and the tables say so.
 pub record ClosesBeside (before after : MountedView) (zone : ℕ) : Type 0 where
@@ -140,11 +142,13 @@ pub record Places (before after : MountedView) (zone : ℕ) (batch : Batch) : Ty
   pub array : mounted_array after ≡ told_over before.drive.geometry.block batch (mounted_array before)
   pub next : after.tables.next ≡ before.tables.next + 1
   pub given : after.tables.given ≡ before.tables.given
+  pub unreadable : after.tables.unreadable ≡ before.tables.unreadable
   pub roles : after.tables.roles ≡ wrote (roles_alone before.drive.geometry before.tables.roles zone) zone (batch_size batch)
   pub geometry : after.drive.geometry ≡ before.drive.geometry
   pub refused : after.drive.refused ≡ before.drive.refused
   pub durable : after.drive.durable ≡ before.drive.durable
   pub appended : after.drive.appended ≡ before.drive.appended + 1
+  pub unfailing : IsTrue after.drive.unfailing → IsTrue before.drive.unfailing
 
 -- Where the next sequence is this or greater, no batch is written any more: so sequences are left for the Moves that may
 -- repair a torn zone, at most as many as a zone has blocks.
@@ -187,6 +191,7 @@ pub record StopsInside (before after : MountedView) (zone : ℕ) (batch : Batch)
   pub refused : after.drive.refused ≡ before.drive.refused
   pub durable : after.drive.durable ≡ before.drive.durable
   pub appended : after.drive.appended ≡ before.drive.appended
+  pub unfailing : IsTrue after.drive.unfailing → IsTrue before.drive.unfailing
 
 -- what an Append of a batch leaves, by its answer: where an allocation or a command fails, the zone beside may have been closed
 abbrev pub BatchLeaves : MountedView → MountedView → ℕ → Batch → Result (Unit {0}) Halt → Type 0

@@ -93,6 +93,20 @@ ended (Destination filling) = Next filling
 abbrev pub clean_ended : RolesView → ℕ → RolesView
 clean_ended roles victim = record { empty = slice_set roles.empty victim true; host = roles.host; second = option_map ended roles.second }
 
+-- a zone is marked as empty, if there is one
+abbrev pub with_empty : List Bool → Option Second → List Bool
+with_empty empty (Some (Destination filling)) = slice_set empty filling.zone true
+with_empty empty second = empty
+
+-- the second zone, once a clean was given up: there is no destination
+abbrev pub without_destination : Option Second → Option Second
+without_destination (Some (Destination filling)) = None
+without_destination second = second
+
+-- a clean was given up: its destination is empty
+abbrev pub clean_undone : RolesView → RolesView
+clean_undone roles = record { empty = with_empty roles.empty roles.second; host = roles.host; second = without_destination roles.second }
+
 abbrev pub next_of : Option Second → Option Filling
 next_of (Some (Next filling)) = Some filling
 next_of second = None

@@ -54,6 +54,7 @@ pub record CountsBatch (geometry : Geometry) (old : TablesView) (zone : ℕ) (ba
   pub zones : new.map.zones ≡ old.map.zones
   pub next : new.next ≡ old.next + 1
   pub given : new.given ≡ old.given
+  pub unreadable : new.unreadable ≡ old.unreadable
   pub roles : new.roles ≡ wrote (roles_alone geometry old.roles zone) zone (batch_size batch)
 
 -- What becomes of the tables by the answer to an Append: done, they count the batch; else they are the same, but that

@@ -26,16 +26,17 @@
 //! * The drive refuses no such Append (`CanPlace` says what it needs). At an open limit of 1, the other zone that is
 //!   being filled is closed before it (`ClosesBeside`), and no Close is sent unless that zone may be open.
 //! * The tables know the sealed zone with the fewest live records (`least_sealed`), and take note of what a clean
-//!   makes of the zones. A mount places the records that it finds (`place`), and says what the zones are for
-//!   (`begin`).
+//!   makes of the zones. A zone with live data that could not be read is left out (`is_left_out` in specs/Tables),
+//!   until its block has other data, or until the tables are told to forget that. A mount places the records that it
+//!   finds (`place`), and says what the zones are for (`begin`).
 //! * While tables and drive agree (`Agrees` in specs/Agreement) and a zone is kept empty, the drive can be mounted
 //!   (`IsMountable` of `drive_array`).
-//! * If one zone is empty and all others are sealed, a zone has so few live records that they fit in the empty one
-//!   (`a_zone_can_be_cleaned`): that is what the reserve gives a cleaner.
+//! * If one zone is empty, all others are sealed and all data could be read, a zone has so few live records that they
+//!   fit in the empty one (`a_zone_can_be_cleaned`): that is what the reserve gives a cleaner.
 //!
 //! Whatever the Reads returned, an Append ends. The tables count a batch that was appended and no other, and their
-//! numbers stay in range (`TablesAfter` and `IsSane` in specs/Sane). Where a drive is not clean it may refuse a command,
-//! and the fault says so.
+//! numbers stay in range (`TablesAfter` and `IsSane` in specs/Sane). Where a drive is not clean it may refuse a
+//! command, and the fault says so.
 //!
 //! Tests: the rows of `worked_runs`.
 #![tactic(auto)]
@@ -47,6 +48,7 @@ mod laws;
 mod mounted;
 mod roles;
 mod tables;
+mod unreadable;
 
 pub use append::{append_batch, halt_of};
 pub use batch::BatchBuilder;
@@ -59,3 +61,4 @@ pub use laws::a_zone_can_be_cleaned;
 pub use mounted::Mounted;
 pub use roles::{Filling, Roles, Second};
 pub use tables::Tables;
+pub use unreadable::Unreadable;

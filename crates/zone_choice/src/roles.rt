@@ -1,7 +1,7 @@
 ghost use Rattle.std.specs.Prelude.{◌≡◌, ◌≤◌, ◌<◌, ◌+◌, ◌^◌, ℕ, IfOk, IfSome, IfNone, None};
 ghost use Rattle.std.specs.Prelude.{Some, false, length, replicate, slice_index_or, true};
 ghost use Rattle.std.specs.List.{AllByRecursion};
-ghost use Rattle.zone_choice.specs.Roles.{AreApart, AreMarked, IsLowestEmpty, clean_ended, closed_beside};
+ghost use Rattle.zone_choice.specs.Roles.{AreApart, AreMarked, IsLowestEmpty, clean_ended, clean_undone, closed_beside};
 ghost use Rattle.zone_choice.specs.Roles.{closed_unless, empty_count, filling_of, fillings, grown, is_open_beside};
 ghost use Rattle.zone_choice.specs.Roles.{is_sealed_at, filling_list, marked, mounted_as, ended, next_of, open_beside};
 ghost use Rattle.zone_choice.specs.Roles.{promoted, sealed, second_with, taken, unmarked, unused_roles};
@@ -212,6 +212,16 @@ impl Roles {
         self.empty.give_back(victim);
         self.sealed[victim as usize] = false;
         make_next(&mut self.second);
+    }
+
+    /// Makes the destination, if there is one, an empty zone again.
+    pub fn undo_clean(&mut self)
+        ensures { self.new ≡ clean_undone self.old }
+    {
+        if let Some(Second::Destination(filling)) = self.second {
+            self.second = None;
+            self.empty.give_back(filling.zone);
+        }
     }
 
     /// Makes the next zone the host zone, if there is none. Nothing changes if there is no next zone.

@@ -1,17 +1,18 @@
-ghost use Rattle.std.specs.Prelude.{◌≡◌, ◌≢◌, ◌≤◌, ◌<◌, ◌+◌, ◌^◌, ℕ, IfNone, IfOk, IfSome, false, length, None};
-ghost use Rattle.std.specs.Prelude.{OnOk, Some, slice_index, slice_index_or, slice_set, true};
+ghost use Rattle.std.specs.Prelude.{◌≡◌, ◌≢◌, ◌≤◌, ◌<◌, ◌+◌, ◌^◌, ◌++◌, [], ◌∷◌, ℕ, IfNone, IfOk, IfSome, false, length};
+ghost use Rattle.std.specs.Prelude.{None, OnErr, OnOk, Some, slice_index, slice_index_or, slice_set, true};
 ghost use Rattle.std.specs.List.{AllByRecursion};
 ghost use Rattle.logical_map.specs.Counts.{lowered, raised};
-ghost use Rattle.logical_map.specs.Live.{first_record, live};
+ghost use Rattle.logical_map.specs.Live.{first_record, lies_in, live};
 ghost use Rattle.logical_map.specs.Places.{ArePlacedReady, IsReady, Reserves, place_address};
 ghost use Rattle.logical_map.specs.declared.place.Place.TheVariants as places;
-ghost use Rattle.zone_choice.specs.Roles.{AreApart, IsLowestEmpty, clean_ended, closed_beside, empty_count, fillings};
+ghost use Rattle.zone_choice.specs.Roles.{AreApart, IsLowestEmpty, clean_ended, clean_undone, closed_beside, empty_count, fillings};
 ghost use Rattle.zone_choice.specs.Roles.{is_sealed_at, next_of, open_beside, promoted, sealed, taken};
 ghost use Rattle.zone_choice.specs.Roles.{with_destination, wrote};
 ghost use Rattle.zone_choice.specs.Tables.{AreOfEmptyDrive, AreReserved, GrowsTo, IsLeastSealed, SameButReady};
-ghost use Rattle.zone_choice.specs.Tables.{size_of, with_places};
+ghost use Rattle.zone_choice.specs.Tables.{FindsLeastSealed, can_be_cleaned, has_fewer, is_left_out, lesser, size_of, with_places};
 
 use crate::roles::{Filling, Roles, Second};
+use crate::unreadable::Unreadable;
 use batch_log::Entry;
 use live_index::LiveIndex;
 use logical_map::{Map, Place};
@@ -19,7 +20,8 @@ use std::alloc::{AllocError, Global};
 use std::marker::Model;
 
 /// What a mounted disk knows of its drive: where the newest record of each logical block is, what the
-/// zones are for, the sequence of the next batch, and the number of logical blocks that the mount was given.
+/// zones are for, the sequence of the next batch, the number of logical blocks that the mount was given, and which data
+/// could not be read since.
 #[derive(Drop)]
 pub struct Tables {
     map: Map,
@@ -28,16 +30,24 @@ pub struct Tables {
     roles: Roles,
     next: u64,
     given: u32,
+    unreadable: Vec<Unreadable>,
 }
 
 impl Model for Tables {
-    ghost use Rattle.zone_choice.specs.Tables.{AreLive, AreOfOneDrive, TablesView};
+    ghost use Rattle.zone_choice.specs.Tables.{AreLive, AreOfBlocks, AreOfOneDrive, TablesView};
 
     ghost Value = { TablesView };
 
-    ghost view = { λ t. record { map = t.map; roles = t.roles; next = t.next; given = t.given } };
+    ghost view = { λ t. record {
+      map = t.map;
+      roles = t.roles;
+      next = t.next;
+      given = t.given;
+      unreadable = t.unreadable.items;
+    } };
 
-    ghost invariant = { λ t. AreOfOneDrive t.map t.roles × AreLive t.map t.index };
+    ghost invariant = { λ t. AreOfOneDrive t.map t.roles × AreLive t.map t.index
+        × AreOfBlocks t.map t.unreadable.items };
 }
 
 impl Tables {
@@ -60,6 +70,7 @@ impl Tables {
             roles,
             next: 1,
             given,
+            unreadable: Vec::new(alloc),
         })
     }
 
@@ -94,12 +105,108 @@ impl Tables {
         self.map.live(zone)
     }
 
-    /// The sealed zone with the fewest live records, the lowest of equals. None if no zone is sealed.
+    /// The sealed zone with the fewest live records, the lowest of equals. A zone that is left out does not count. None
+    /// if there is no other.
     pub fn least_sealed(&self) -> Option<u32>
         ensures some { IfSome result (IsLeastSealed self.now) }
-        ensures none { IfNone result ((zone : ℕ) → is_sealed_at self.now.roles zone ≡ false) }
+        ensures none { IfNone result ((zone : ℕ) → can_be_cleaned self.now zone ≡ false) }
     {
-        self.index.least(self.roles.sealed())
+        if self.unreadable.is_empty() {
+            return self.index.least(self.roles.sealed());
+        }
+        self.least_readable()
+    }
+
+    /// The same, found by a walk over all zones.
+    fn least_readable(&self) -> Option<u32>
+        ensures { FindsLeastSealed self.now self.now.map.zones result }
+    {
+        let mut least = None;
+        for zone in 0..self.map.zones() {
+            least = self.lesser(least, zone);
+        }
+        least
+    }
+
+    /// A zone, if it can be cleaned and has fewer live records than another one, and else that one.
+    fn lesser(&self, other: Option<u32>, zone: u32) -> Option<u32>
+        requires zone { zone < self.now.map.zones }
+        requires other { IfSome other (λ other. other < self.now.map.zones) }
+        ensures { result ≡ lesser self.now other zone }
+    {
+        if self.can_be_cleaned(zone) && self.has_fewer(zone, other) {
+            return Some(zone);
+        }
+        other
+    }
+
+    /// Whether a zone is sealed, and not left out.
+    fn can_be_cleaned(&self, zone: u32) -> bool
+        ensures { result ≡ can_be_cleaned self.now zone }
+    {
+        self.is_sealed(zone) && !self.is_left_out(zone)
+    }
+
+    /// Whether a zone has fewer live records than another one, if there is one.
+    fn has_fewer(&self, zone: u32, other: Option<u32>) -> bool
+        requires zone { zone < self.now.map.zones }
+        requires other { IfSome other (λ other. other < self.now.map.zones) }
+        ensures { result ≡ has_fewer self.now.map zone other }
+    {
+        match other {
+            None => true,
+            Some(other) => self.map.live(zone) < self.map.live(other),
+        }
+    }
+
+    /// Whether a zone is left out: data in it, which is still that of its block, could not be read.
+    pub fn is_left_out(&self, zone: u32) -> bool
+        ensures { result ≡ is_left_out self.now zone }
+    {
+        for lost in &self.unreadable {
+            if lost.is_lost_in(&self.map, zone) {
+                return true;
+            }
+        }
+        false
+    }
+
+    /// The data that could not be read, in the order in which that was noted. Some of it may be out of date by now.
+    pub fn unreadable(&self) -> &[Unreadable]
+        ensures { result.now ≡ self.now.unreadable }
+    {
+        self.unreadable.as_slice()
+    }
+
+    /// Notes that the data of a block, at this address, could not be read. Its zone is left out from now on, until the
+    /// block has other data. Where the allocation fails, nothing changes.
+    pub fn leave_out(&mut self, block: u32, address: u64) -> Result<(), AllocError>
+        requires { block < size_of self.old }
+        ensures ok { OnOk result (self.new ≡ record self.old {
+          unreadable = self.old.unreadable ++ record { block = block; address = address } ∷ [];
+        }) }
+        ensures err { OnErr result (self.new ≡ self.old) }
+    {
+        self.unreadable.push(Unreadable { block, address })?;
+        Ok(())
+    }
+
+    /// Forgets which data could not be read, so that no zone is left out any more.
+    pub fn leave_none_out(&mut self)
+        ensures { self.new ≡ record self.old { unreadable = [] } }
+    {
+        self.unreadable.clear();
+    }
+
+    /// Whether the newest record of a block is in a zone.
+    pub fn is_in(&self, block: u32, zone: u32) -> bool
+        requires { block < size_of self.now }
+        ensures there { result ≡ lies_in self.now.map.zone_size zone
+            (slice_index_or self.now.map.places block places.None) }
+        // If so, the block is ready to be placed again.
+        ensures ready { result ≡ true → IsReady self.now.map block }
+    {
+        self.map.is_in(self.map.get(block), zone)
     }
 
     /// Whether a zone is sealed.
@@ -240,6 +347,13 @@ impl Tables {
         ensures { self.new ≡ record self.old { roles = clean_ended self.old.roles victim } }
     {
         self.roles.end_clean(victim);
+    }
+
+    /// Makes the destination of a clean that is given up, if there is one, an empty zone again.
+    pub fn undo_clean(&mut self)
+        ensures { self.new ≡ record self.old { roles = clean_undone self.old.roles } }
+    {
+        self.roles.undo_clean();
     }
 
     /// Makes the next zone the host zone, if there is none. Nothing changes if there is no next zone.

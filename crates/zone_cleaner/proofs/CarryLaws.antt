@@ -29,7 +29,7 @@ use Rattle.zone_cleaner.specs.Clean.{CleanView, HasRoomFor, IsClean, destination
 use Rattle.zone_cleaner.specs.LiveRecords.{LiveRecord, gathered_entries, gathered_entry, gathered_move, records_in, without_all}
 use Rattle.zone_cleaner.proofs.BudgetLaws.{AfterMove, after-move}
 use Rattle.zone_cleaner.proofs.CleanLaws.{live-parts}
-use Rattle.zone_cleaner.proofs.MoveLaws.{PlacedAway, elsewhere, length-placed, move-same, placed-away, placed-rest, without-own}
+use Rattle.zone_cleaner.proofs.MoveLaws.{Elsewhere, PlacedAway, elsewhere, length-placed, move-same, placed-away, placed-rest, without-own}
 use Rattle.zone_cleaner.proofs.RecordLaws.{AreBetween, SayTheArray, ZerosUnlessData, between, distinct-blocks, length-records_in, live_in, live_in-split, say-the-array}
 use Rattle.zone_cleaner.proofs.SealedLaws.{of-second, sealed-apart, second-filling}
 use Rattle.zone_cleaner.proofs.StepLaws.{MoveDue}
@@ -126,6 +126,7 @@ pub record MovedPlaces (disk : MountedView) (c : CleanView) (destination : Filli
   pub taken : records_in (mounted_array disk) disk.tables.map.zone_size c.victim 0 (take c.cursor new) ≡ []
   pub rest : drop c.cursor new ≡ drop c.cursor disk.tables.map.places
   pub live_is : live_in disk.tables.map.zone_size c.victim new ≡ untaken disk.tables c
+  pub away : Elsewhere disk.tables.map.zone_size c.victim (next_address disk.drive destination.zone) (next_address disk.drive destination.zone + (1 + data_count (gathered_entries c.gathered)))
 
 -- where the blocks are after it
 pub moved_places : (disk : MountedView) (c : CleanView) (new : List Place) → Agrees disk → (is : IsClean disk c) → MoveDue disk (batch_most disk.drive.geometry) c
@@ -155,5 +156,6 @@ moved_places disk c new agrees is due new-is =
       long = ap length placed-is ∙ length-placed header (header + 1) es m.places;
       taken = none;
       rest = rest;
+      away = rw (← at, end) at away;
       live_is = omega (arith, live_in-split m.zone_size c.victim c.cursor new, ap length none, length-records_in (mounted_array disk) m.zone_size c.victim 0 (take c.cursor new), ap (live_in m.zone_size c.victim) rest);
     }

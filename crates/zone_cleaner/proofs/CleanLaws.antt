@@ -23,6 +23,7 @@ use Rattle.zone_choice.specs.declared.roles.Filling.{Filling}
 use Rattle.zone_choice.specs.declared.roles.Second.{Second}
 use Rattle.zone_cleaner.specs.Turns.{with_record}
 use Rattle.zone_cleaner.proofs.HistoryLaws.{moves_have_spare}
+use Rattle.zone_cleaner.proofs.UndoLaws.{undo-kept}
 use Rattle.zone_cleaner.proofs.RecordLaws.{length-records_in, live_in-split, takes-next, takes-none}
 use Rattle.zone_cleaner.proofs.SealedLaws.{sealed-apart, second-filling, zone-logs}
 
@@ -64,6 +65,7 @@ clean_kept before after c agrees kept is =
       };
       room = rw (kept.geometry, zones, kept.places, same.written) is.room;
       moves = rw (kept.logs, kept.geometry, kept.given, same.zone) is.moves;
+      undo = rw same.zone (undo-kept before after c is.destination.zone zones kept is.undo);
     }
 
 -- the same turns are left
@@ -112,6 +114,7 @@ gather_gives disk c block place is found few =
         };
         room = is.room;
         moves = is.moves;
+        undo = record { all = is.undo.all; each = is.undo.each; away = is.undo.away };
       };
       fewer = took.rest;
     }

@@ -24,7 +24,7 @@ use Rattle.zone_choice.specs.Roles.{clean_ended}
 use Rattle.drive_array.specs.Sizes.{array_of}
 use Rattle.drive_array.specs.Spare.{HasSpare}
 use Rattle.zone_choice.specs.Tables.{TablesView, size_of}
-use Rattle.zone_choice.proofs.AgreementLaws.{size-encoded}
+use Rattle.zone_choice.proofs.AgreementLaws.{StaysFailed, size-encoded}
 use Rattle.zone_choice.proofs.AloneLaws.{failed-keeps, memory-keeps, stops-tables}
 use Rattle.zone_choice.proofs.ChangeLaws.{keeps-halt, keeps-same}
 use Rattle.zone_choice.proofs.CommandLaws.{filling-in_range, start-below, zone-start}
@@ -67,6 +67,7 @@ carry_stops before after c agrees is stops =
       refused = stops.refused;
       durable = stops.durable;
       appended = stops.appended;
+      unfailing = stops.unfailing;
     }
   where
     b : Batch
@@ -155,17 +156,17 @@ reset_fails old new tables c start port.Memory agrees is due start-is gives kept
 reset_fails old new tables c start port.Failed agrees is due start-is gives kept leaves obeys passed =
     let failed = obeys.fails refl in
     let opens : OpensNone old.zones new.zones = reset-opens {V = Unit {0}} old new start (Err port.Failed) leaves in
-    record { halt = tt; fails = (keeps-same old new tables agrees kept opens obeys.lawful failed.1.refused obeys.durable failed.1.appended, inl refl, failed.0) }
+    record { halt = tt; fails = (keeps-same old new tables agrees kept opens obeys.lawful obeys.unfailing failed.1.refused obeys.durable failed.1.appended, inl refl, failed.0) }
 reset_fails old new tables c start port.Stopped agrees is due start-is gives kept leaves obeys passed = record { halt = tt; fails = by kept }
   where
     opens : OpensNone old.zones new.zones
     opens = reset-opens {V = Unit {0}} old new start (Err port.Stopped) leaves
 
     by : SameContents old new ⊎ ResetContents old new start → StopsClean (mounted old tables) (mounted new tables)
-    by (inl same) = stops_kept (mounted old tables) (mounted new tables) c agrees is (keeps-same old new tables agrees same opens obeys.lawful (obeys.counts refl).refused obeys.durable (obeys.counts refl).appended) refl (obeys.stops refl)
+    by (inl same) = stops_kept (mounted old tables) (mounted new tables) c agrees is (keeps-same old new tables agrees same opens obeys.lawful obeys.unfailing (obeys.counts refl).refused obeys.durable (obeys.counts refl).appended) refl (obeys.stops refl)
     by (inr done) =
         let index = (zone-start c.victim old.geometry.size agrees.geometry.size.0).0 in
-        let after = reset_gives old new tables c agrees is due obeys.geometry obeys.lawful (rw (start-is, index) at done.contents) opens in
+        let after = reset_gives old new tables c agrees is due obeys.geometry obeys.lawful obeys.unfailing (rw (start-is, index) at done.contents) opens in
         record {
           stopped = obeys.stops refl;
           moves = only-without (drive_logs old) (drive_logs new) c.victim (omega (arith, sealed-in_range (mounted old tables) c.victim agrees is.victim, zone-logs old)) after.logs;
@@ -176,27 +177,30 @@ reset_fails old new tables c start port.Stopped agrees is due start-is gives kep
           refused = (obeys.counts refl).refused;
           durable = obeys.durable;
           appended = (obeys.counts refl).appended;
+          unfailing = obeys.unfailing;
         }
 
 -- and one that was
 pub reset_done : (old new : DriveState) (tables after : TablesView) (c : CleanView) (start : ℕ) → Agrees (mounted old tables) → IsClean (mounted old tables) c → ResetDue (mounted old tables) c → start ≡ c.victim * old.geometry.size
-    → ResetZone old new start → ResetLeaves {V = Unit {0}} old start (Ok tt) new → IsLawful new → new.durable ≡ old.durable → after ≡ record tables { roles = clean_ended tables.roles c.victim } → EmptiesVictim (mounted old tables) (mounted new after) c.victim
-reset_done old new tables after c start agrees is due start-is done leaves lawful durable after-is =
+    → ResetZone old new start → ResetLeaves {V = Unit {0}} old start (Ok tt) new → IsLawful new → StaysFailed old new → new.durable ≡ old.durable → after ≡ record tables { roles = clean_ended tables.roles c.victim } → EmptiesVictim (mounted old tables) (mounted new after) c.victim
+reset_done old new tables after c start agrees is due start-is done leaves lawful failed durable after-is =
     let index = (zone-start c.victim old.geometry.size agrees.geometry.size.0).0 in
     let opens : OpensNone old.zones new.zones = reset-opens {V = Unit {0}} old new start (Ok tt) leaves in
-    let gives = reset_gives old new tables c agrees is due done.geometry lawful (rw (start-is, index) at done.contents) opens in
+    let gives = reset_gives old new tables c agrees is due done.geometry lawful failed (rw (start-is, index) at done.contents) opens in
     rw after-is (record {
       agrees = gives.agrees;
       logs = gives.logs;
       array = gives.array;
       places = refl;
       next = refl;
+      unreadable = refl;
       given = refl;
       roles = refl;
       geometry = done.geometry;
       refused = done.counts.refused;
       durable = durable;
       appended = omega (arith, done.counts.appended);
+      unfailing = failed;
     })
 
 -- ---- the Move

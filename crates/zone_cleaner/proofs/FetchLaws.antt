@@ -12,6 +12,7 @@ use Rattle.drive_array.specs.ZoneLogs.{encoded}
 use Rattle.zone_choice.specs.Changes.{IsHalt, fault_halt}
 use Rattle.zone_choice.specs.Tables.{TablesView}
 use Rattle.zone_choice.proofs.ChangeLaws.{keeps-contents, keeps-halt, keeps-same}
+use Rattle.zone_choice.proofs.AgreementLaws.{StaysFailed}
 use Rattle.zone_choice.proofs.OpenLaws.{closing-opens}
 use Rattle.zone_choice.proofs.ReadLaws.{HoldsPlace, holds_place}
 use Rattle.zone_cleaner.specs.Reading.{IsGatherFault, IsStoredAt, OnlyReads}
@@ -21,9 +22,9 @@ holds : (drive : DriveState) (tables : TablesView) (block : ℕ) (at : Place) �
 holds drive tables block at stored = rw stored.place (holds_place drive tables block stored.agrees stored.in_range)
 
 -- a Read that is done
-pub fetch_reads : (old new : DriveState) (tables : TablesView) (block : ℕ) (at : Place) → IsStoredAt (mounted old tables) block at → SameContents old new → IsClosing old.zones new.zones → IsLawful new → new.durable ≡ old.durable → Counts old new 0 → OnlyReads (mounted old tables) (mounted new tables)
-fetch_reads old new tables block at stored same closing lawful durable counts = record {
-  kept = keeps-contents old new tables stored.agrees same (closing-opens old.zones new.zones closing) lawful durable counts;
+pub fetch_reads : (old new : DriveState) (tables : TablesView) (block : ℕ) (at : Place) → IsStoredAt (mounted old tables) block at → SameContents old new → IsClosing old.zones new.zones → IsLawful new → StaysFailed old new → new.durable ≡ old.durable → Counts old new 0 → OnlyReads (mounted old tables) (mounted new tables)
+fetch_reads old new tables block at stored same closing lawful failed durable counts = record {
+  kept = keeps-contents old new tables stored.agrees same (closing-opens old.zones new.zones closing) lawful failed durable counts;
   tables = refl;
   same = same;
   completed = omega (arith, counts.completed);
@@ -49,7 +50,7 @@ fetch_halts old new tables block address returned port.Failed stored gives same 
     record {
       halt = tt;
       reads = record {
-        kept = keeps-same old new tables stored.agrees same (closing-opens old.zones new.zones closing) obeys.lawful failed.1.refused obeys.durable failed.1.appended;
+        kept = keeps-same old new tables stored.agrees same (closing-opens old.zones new.zones closing) obeys.lawful obeys.unfailing failed.1.refused obeys.durable failed.1.appended;
         tables = refl;
         same = same;
         completed = obeys.completed;
@@ -59,7 +60,7 @@ fetch_halts old new tables block address returned port.Failed stored gives same 
 fetch_halts old new tables block address returned port.Stopped stored gives same closing obeys passed = record {
   halt = tt;
   reads = record {
-    kept = keeps-same old new tables stored.agrees same (closing-opens old.zones new.zones closing) obeys.lawful (obeys.counts refl).refused obeys.durable (obeys.counts refl).appended;
+    kept = keeps-same old new tables stored.agrees same (closing-opens old.zones new.zones closing) obeys.lawful obeys.unfailing (obeys.counts refl).refused obeys.durable (obeys.counts refl).appended;
     tables = refl;
     same = same;
     completed = obeys.completed;

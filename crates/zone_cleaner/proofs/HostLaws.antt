@@ -20,21 +20,23 @@ use Rattle.drive_array.specs.ZoneLogs.{drive_logs}
 use Rattle.zone_choice.specs.Builder.{entry_place, placed}
 use Rattle.zone_choice.specs.Changes.{CanPlace, Places, next_address, roles_alone, size_with}
 use Rattle.drive_array.specs.Laws.{IsNext}
-use Rattle.drive_array.specs.Records.{entry_records, over, shown}
+use Rattle.drive_array.specs.Records.{entry_records, over, shown, without}
 use Rattle.drive_array.specs.Reserve.{batch_most}
 use Rattle.zone_choice.specs.Roles.{RolesView, closed, closed_beside, closed_unless, grown, second_with, wrote}
-use Rattle.drive_array.specs.Sizes.{extended, size_or}
+use Rattle.drive_array.specs.Sizes.{extended, map_of, size_or}
 use Rattle.zone_choice.specs.Tables.{size_of}
 use Rattle.zone_choice.proofs.AgreementLaws.{length-extended, size-encoded, sound-weaker}
 use Rattle.drive_array.proofs.WholeLaws.{length-encoded}
 use Rattle.drive_array.proofs.AllLaws.{all-weaker}
 use Rattle.zone_choice.proofs.CommandLaws.{filling-in_range}
 use Rattle.drive_array.proofs.ReserveLaws.{div_ceil-mono, positive-most}
-use Rattle.zone_cleaner.specs.Clean.{CleanView, IsClean, forgotten, destination_written, turns_left, moves_due, untaken}
+use Rattle.zone_cleaner.specs.Clean.{CleanView, IsClean, forgotten, place_among, destination_written, turns_left, moves_due, untaken}
 use Rattle.zone_cleaner.specs.LiveRecords.{LiveRecord, records_in, without_all, without_block}
 use Rattle.zone_cleaner.proofs.BudgetLaws.{fewer-room}
 use Rattle.zone_cleaner.proofs.CleanLaws.{KeptDestination}
 use Rattle.zone_cleaner.proofs.HistoryLaws.{moves-beside}
+use Rattle.zone_cleaner.proofs.OldLaws.{unnamed-without}
+use Rattle.zone_cleaner.proofs.UndoLaws.{IsBeside, not-named, undo-host}
 use Rattle.zone_cleaner.proofs.MoveLaws.{Elsewhere, PlacedAway, elsewhere, entry-away, length-placed, placed-away}
 use Rattle.zone_cleaner.proofs.RecordLaws.{live_in, live_in-cons, records_in-array}
 use Rattle.zone_cleaner.proofs.SealedLaws.{sealed-alone, sealed-apart, zone-logs}
@@ -53,19 +55,6 @@ left-extended {X} x d size k xs lt = at xs k lt
     at [] i lt = absurd (omega arith)
     at (y ∷ ys) zero lt = refl
     at (y ∷ ys) (suc i) lt = at ys i (omega arith)
-
--- a block that is in the victim after the batch was not named
-not-named : (size victim header address end k : ℕ) (es : List Entry) (all : List Place) → AllByRecursion (λ (e : Entry). e.block < length all) es → Elsewhere size victim header end → header < address → address + data_count es ≤ end → header < end
-    → lies_in size victim (get_or (placed header address es all) k places.None) ≡ true → AllByRecursion (λ (e : Entry). e.block ≢ k) es
-not-named size victim header address end k [] all inside away lt le low lies = tt
-not-named size victim header address end k (e ∷ es) all inside away lt le low lies =
-    let rest = placed header (address + one_unless e.trim) es all in
-    let p = entry_place e.trim header address in
-    let long : e.block < length rest = omega (arith, inside.0, length-placed header (address + one_unless e.trim) es all) in
-    let out : lies_in size victim p ≡ false = entry-away size victim header address end e.trim away lt (omega (arith, le)) low in
-    let ne : e.block ≢ k = λ same. (let here : get_or (set rest e.block p) k places.None ≡ p = rw (← same) (get_or-set_same rest e.block p places.None long) in let yes = rw here at lies in absurd (cc)) in
-    let other : get_or (set rest e.block p) k places.None ≡ get_or rest k places.None = get_or-set_other rest e.block k p places.None (λ same. ne (sym same)) in
-    (ne, not-named size victim header (address + one_unless e.trim) end k es all inside.1 away (omega (arith, lt)) (omega (arith, le)) low (rw other at lies))
 
 -- ---- blocks that are new are nowhere
 
@@ -203,6 +192,22 @@ next-batch before zone b can = record {
   greatest = rw can.sequence can.agrees.sound.numbers;
 }
 
+-- where its blocks are is another zone
+beside : (before after : MountedView) (zone other : ℕ) (b : Batch) → CanPlace before zone b → Places before after zone b → zone ≢ other → IsBeside before after zone other b
+beside before after zone other b can done apart =
+    let size = before.tables.map.zone_size in
+    let written = length (content_at (contents before.drive.zones) zone).blocks in
+    let zone_size : size ≡ before.drive.geometry.size = can.agrees.zone_size in
+    let at : next_address before.drive zone ≡ zone * size + written = ap (λ (s : ℕ). zone * s + written) (sym zone_size) in
+    let end : zone * size + (written + batch_size b) ≡ next_address before.drive zone + batch_size b = omega (arith, at) in
+    record {
+      away = subst (λ (e : ℕ). Elsewhere size other (next_address before.drive zone) e) end
+          (subst (λ (s : ℕ). Elsewhere size other s (zone * size + (written + batch_size b))) (sym at) (elsewhere size other zone written (batch_size b) apart (omega (arith, can.room, can.agrees.geometry.capacity, zone_size))));
+      inside = can.in_range;
+      grows = can.grows;
+      places = done.places;
+    }
+
 -- the clean continues, and has forgotten its blocks
 pub host_gives : (before after : MountedView) (c : CleanView) (zone : ℕ) (b : Batch) → (is : IsClean before c) → CanPlace before zone b → zone ≢ is.destination.zone → Places before after zone b → HostGives before after c (forgotten b.heading.entries c)
 host_gives before after c zone b is can ne done =
@@ -232,6 +237,18 @@ host_gives before after c zone b is can ne done =
         room = rw (done.geometry, kept.written) (fewer-room g.capacity k f.written (live before.tables.map c.victim) (live after.tables.map c.victim) pos live_now is.room);
         moves = rw (done.logs, done.geometry, done.given, kept.zone) (moves-beside g.block (before.tables.next + 1) before.tables.given zone c.victim f.zone (size_with before.tables b) logs b lt apart ne
             (sound-weaker before.tables.next (before.tables.next + 1) before.tables.given logs (omega arith) can.agrees.sound) (next-batch before zone b can) is.moves);
+        undo = rw kept.zone (undo-host before after c (forgotten b.heading.entries c) zone f.zone (before.tables.next + 1) b (record {
+          victim = beside before after zone c.victim b can done apart;
+          destination_is = beside before after zone f.zone b can done ne;
+          zones = zones;
+          spare = is.moves.spare;
+          unnamed_is = λ k out.
+              ap (λ (x : Geometry). place_among (map_of x.size after.tables.given (without (drive_logs after.drive) f.zone)) k) done.geometry
+              ∙ ap (λ (n : ℕ). place_among (map_of g.size n (without (drive_logs after.drive) f.zone)) k) done.given
+              ∙ ap (λ (ls : List (List Batch)). place_among (map_of g.size before.tables.given (without ls f.zone)) k) done.logs
+              ∙ unnamed-without g.block g.size (before.tables.next + 1) before.tables.given zone f.zone (size_with before.tables b) k logs b lt ne
+              (sound-weaker before.tables.next (before.tables.next + 1) before.tables.given logs (omega arith) can.agrees.sound) (next-batch before zone b can) is.moves.spare out;
+        }) refl refl is.undo);
       };
       turns = turns-le k (untaken before.tables c) (untaken after.tables (forgotten b.heading.entries c)) (destination_written before.tables.roles.second) (destination_written after.tables.roles.second) (live before.tables.map c.victim) (live after.tables.map c.victim) pos left_now live_now (ap destination_written second ∙ kept.written ∙ sym (ap destination_written is.second));
     }

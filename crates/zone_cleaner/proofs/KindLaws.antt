@@ -11,9 +11,8 @@ use Rattle.zone_choice.specs.Builder.{placed}
 use Rattle.zone_choice.specs.Changes.{next_address}
 use Rattle.zone_choice.specs.Tables.{size_of}
 use Rattle.zone_choice.proofs.AgreementLaws.{extended-same}
-use Rattle.zone_cleaner.specs.Clean.{CleanView, IsClean}
+use Rattle.zone_cleaner.specs.Clean.{CleanView, IsClean, trims}
 use Rattle.zone_cleaner.specs.LiveRecords.{LiveRecord, live_content, gathered_entries, gathered_entry, records_in}
-use Rattle.zone_cleaner.specs.Start.{trims}
 use Rattle.zone_cleaner.specs.Turns.{MovesRecords}
 
 is_trim : Option (List ℕ) → Bool

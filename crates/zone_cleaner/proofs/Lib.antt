@@ -1,4 +1,5 @@
 pub mod OnlyLaws
+pub mod PassLaws
 pub mod PlaceLaws
 pub mod RecordLaws
 pub mod MoveLaws
@@ -20,11 +21,15 @@ pub mod EndLaws
 pub mod StartLaws
 pub mod KindLaws
 pub mod TurnLaws
+pub mod UndoLaws
+pub mod UndoneLaws
 pub mod HostLaws
+pub mod RestoreLaws
 pub mod RoomLaws
 pub mod RunLaws
 pub mod NeedLaws
 pub mod SoFarLaws
 pub mod NextLaws
+pub mod OldLaws
 pub mod BesideLaws
 pub mod SaneLaws

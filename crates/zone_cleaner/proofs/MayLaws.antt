@@ -3,7 +3,7 @@ use Rattle.std.proofs.Common.{◌≡◌, ◌≢◌, ℕ, ◌+◌, ◌<◌, ◌�
 use Rattle.std.specs.Prelude.{nat_eq}
 use Rattle.std.specs.List.{AllByRecursion, IsDistinct, concat, list_all}
 use Rattle.std.specs.Option.{option_map}
-use Rattle.std.proofs.lemmas.Bool.{and_from, lt-ltb, ltb-true}
+use Rattle.std.proofs.lemmas.Bool.{and_parts, and_from, lt-ltb, ltb-true}
 use Rattle.std.proofs.lemmas.List.{get_or-take, length-map, length-take}
 use Rattle.batch_log.specs.declared.header.Entry.{Entry}
 use Rattle.batch_log.specs.declared.header.Kind.TheVariants.{Host, Move}
@@ -22,7 +22,7 @@ use Rattle.zone_choice.specs.Builder.{BuilderView, IsBuilt}
 use Rattle.zone_choice.specs.Changes.{built_for}
 use Rattle.zone_choice.specs.Roles.{AreApart, Differ, RolesView, filling_list, filling_of, fillings}
 use Rattle.zone_choice.specs.Sane.{IsSane, MayPlace}
-use Rattle.zone_choice.specs.Tables.{size_of}
+use Rattle.zone_choice.specs.Tables.{TablesView, size_of}
 use Rattle.zone_cleaner.specs.Clean.{CleanView, HasRoomForMove, IsClean, has_place, is_placed}
 use Rattle.zone_cleaner.specs.Gathered.{AreOfLength}
 use Rattle.zone_cleaner.specs.LiveRecords.{LiveRecord, gathered_data, gathered_entries, gathered_entry, gathered_move}
@@ -149,3 +149,11 @@ carry-may disk c f builder can whole heading bytes =
     let may = move-may disk c f can in
     let made = move_built disk c builder can.sane.geometry may.heading whole heading bytes in
     record { built_is = made.is; may = rw made.batch may }
+
+-- a block with a place is the disk's
+pub placed-inside : (tables : TablesView) (es : List Entry) → list_all (λ (e : Entry). has_place tables e.block) es ≡ true → AllByRecursion (λ (e : Entry). e.block < size_of tables) es
+placed-inside tables [] all = tt
+placed-inside tables (e ∷ es) all =
+    let parts = and_parts (has_place tables e.block) (list_all (λ (x : Entry). has_place tables x.block) es) all in
+    let here = and_parts (ltb e.block (size_of tables)) (is_placed (get_or tables.map.places e.block places.None)) parts.0 in
+    (ltb-true e.block (size_of tables) here.0, placed-inside tables es parts.1)

@@ -1,21 +1,21 @@
 -- Where there is neither a host nor a next zone, and one zone is empty, a clean runs or is due.
-use Rattle.std.proofs.Common.{◌≡◌, ◌⊎◌, ℕ, zero, suc, ◌+◌, ◌<◌, ◌≤◌, Bool, true, false, length, Option, Some, None, Result, Ok, Err, is_some, refl, ap, subst, inl, inr, arith}
+use Rattle.std.proofs.Common.{◌≡◌, ◌⊎◌, ℕ, zero, suc, ◌+◌, ◌<◌, ◌≤◌, Bool, true, false, not, ◌&&◌, [], length, Option, Some, None, Result, Ok, Err, is_some, refl, ap, subst, inl, inr, arith}
 use Rattle.std.specs.Prelude.{OnOk}
-use Rattle.std.proofs.lemmas.Bool.{cases_eq, cases_lt}
+use Rattle.std.proofs.lemmas.Bool.{and_parts, cases_eq, cases_lt}
 use Rattle.logical_map.specs.Live.{live}
 use Rattle.zone_choice.specs.declared.roles.Second.{Second}
 use Rattle.zone_choice.specs.declared.roles.Second.TheVariants.{Destination, Next}
 use Rattle.zone_choice.specs.Agreement.{MountedView}
 use Rattle.drive_array.specs.Reserve.{batch_most}
 use Rattle.zone_choice.specs.Roles.{empty_count, is_sealed_at, next_of}
-use Rattle.zone_choice.specs.Tables.{IsLeastSealed, TablesView}
+use Rattle.zone_choice.specs.Tables.{IsLeastSealed, TablesView, can_be_cleaned, is_left_out}
 use Rattle.zone_choice.specs.Victim.{IsInUse}
 use Rattle.zone_choice.proofs.MarkLaws.{sealed-parts}
 use Rattle.drive_array.proofs.ReserveLaws.{positive-most}
 use Rattle.zone_choice.proofs.VictimLaws.{has_sealed, least_can_move}
 use Rattle.zone_cleaner.specs.Clean.{CleanView, HasNoDestination, destination_written, turns_left, moves_due, untaken}
 use Rattle.zone_cleaner.specs.declared.fault.CleanFault.{CleanFault}
-use Rattle.zone_cleaner.specs.Start.{AgreesWithClean, CleanDone, HasNextZone, IsDue, KeepsByCleaning, LacksZones, StartLeaves, TurnLeaves}
+use Rattle.zone_cleaner.specs.Start.{AgreesWithClean, HasNextZone, IsDue, KeepsByCleaning, LacksZones, StartLeaves, TurnLeaves}
 use Rattle.zone_cleaner.proofs.BudgetLaws.{few-turns}
 use Rattle.zone_cleaner.proofs.CleanLaws.{live-parts}
 use Rattle.zone_cleaner.proofs.RoomLaws.{turn-room}
@@ -73,11 +73,11 @@ find-least p f n k lt there = elim (search n) as (λ _. Least p f n) [ inl is �
     search zero = inr (λ k lt. absurd (omega arith))
     search (suc n) = elim (search n) as (λ _. Least p f (suc n) ⊎ ((k : ℕ) → k < suc n → p k ≡ false)) [ inl is ↦ inl (least-more p f n is) | inr none ↦ first n none (p n) refl ]
 
-least-sealed : (tables : TablesView) (zone : ℕ) → is_sealed_at tables.roles zone ≡ true → (victim : ℕ) × IsLeastSealed tables victim
+least-sealed : (tables : TablesView) (zone : ℕ) → can_be_cleaned tables zone ≡ true → (victim : ℕ) × IsLeastSealed tables victim
 least-sealed tables zone is =
-    let range : (k : ℕ) → is_sealed_at tables.roles k ≡ true → k < length tables.roles.empty = λ k there. (sealed-parts tables.roles k there).in_range in
-    let found = find-least (is_sealed_at tables.roles) (live tables.map) (length tables.roles.empty) zone (range zone is) is in
-    (found.place, record { sealed_is = found.here; least = λ k there. found.least k (range k there) there; lowest = found.lowest })
+    let range : (k : ℕ) → can_be_cleaned tables k ≡ true → k < length tables.roles.empty = λ k there. (sealed-parts tables.roles k (and_parts (is_sealed_at tables.roles k) (not (is_left_out tables k)) there).0).in_range in
+    let found = find-least (can_be_cleaned tables) (live tables.map) (length tables.roles.empty) zone (range zone is) is in
+    (found.place, record { can = found.here; least = λ k there. found.least k (range k there) there; lowest = found.lowest })
 
 -- ---- a clean is due
 
@@ -86,8 +86,8 @@ no-second capacity None alone none = refl
 no-second capacity (Some (Next filling)) alone none = absurd (cc)
 no-second capacity (Some (Destination filling)) alone none = absurd alone
 
-is-in_use : (disk : MountedView) → AgreesWithClean disk None → disk.tables.roles.host ≡ None → next_of disk.tables.roles.second ≡ None → empty_count disk.tables.roles < 2 → IsInUse disk
-is-in_use disk is host next few = record { agrees = is.0; host = host; second = no-second disk.drive.geometry.capacity disk.tables.roles.second is.1.1 next; empty = omega (arith, few, is.1.0) }
+is-in_use : (disk : MountedView) → AgreesWithClean disk None → disk.tables.unreadable ≡ [] → disk.tables.roles.host ≡ None → next_of disk.tables.roles.second ≡ None → empty_count disk.tables.roles < 2 → IsInUse disk
+is-in_use disk is all host next few = record { agrees = is.0; readable = all; host = host; second = no-second disk.drive.geometry.capacity disk.tables.roles.second is.1.1 next; empty = omega (arith, few, is.1.0) }
 
 is-due : (disk : MountedView) → IsInUse disk → (victim : ℕ) × IsDue disk.drive.geometry disk.tables victim
 is-due disk in_use =
@@ -125,19 +125,14 @@ pub record Begins (before after : MountedView) (new : Option CleanView) : Type 0
   pub keeps : KeepsByCleaning before after
 
 -- one is due where zones lack, and begins
-pub begins : (before after : MountedView) (clean new : Option CleanView) → is_some clean ≡ false → AgreesWithClean before clean → LacksZones before.tables.roles → TurnLeaves before None (Ok tt) after new → Begins before after new
-begins before after (Some c) new idle is lacks turn = absurd (cc)
-begins before after None new idle is lacks turn =
+pub begins : (before after : MountedView) (clean new : Option CleanView) → is_some clean ≡ false → AgreesWithClean before clean → before.tables.unreadable ≡ [] → LacksZones before.tables.roles → TurnLeaves before None (Ok tt) after new → Begins before after new
+begins before after (Some c) new idle is all lacks turn = absurd (cc)
+begins before after None new idle is all lacks turn =
     let gives = turn_gives before after None new (Ok tt) is turn in
     record {
       cleaned = gives.goes_on;
-      runs = must-start before after.tables new (is-in_use before is lacks.host lacks.next lacks.few) turn.1;
+      runs = must-start before after.tables new (is-in_use before is all lacks.host lacks.next lacks.few) turn.1;
       host = (turn-room before after None new is turn).host lacks.host;
       turns = (turns_fewer before after None new is turn).bound refl;
       keeps = gives.keeps;
     }
-
--- once it has ended, there is a next zone
-pub next-zone : (result : Result (Unit {0}) CleanFault) (before after : MountedView) (old new : Option CleanView) → OnOk result (CleanDone before after old new) → is_some old ≡ true → before.tables.roles.host ≡ None → OnOk result (HasNextZone after new)
-next-zone (Ok done) before after old new is runs host = record { ended = is.ended; host = is.room.host host; next = is.room.next runs refl }
-next-zone (Err fault) before after old new is runs host = tt

@@ -10,6 +10,7 @@ use Rattle.zone_choice.specs.Agreement.{Agrees, MountedView, mounted}
 use Rattle.drive_array.specs.ZoneLogs.{drive_logs}
 use Rattle.zone_choice.specs.Changes.{KeepsArray}
 use Rattle.zone_choice.specs.Roles.{closed, next_of, promoted, second_with, with_next}
+use Rattle.zone_choice.specs.declared.unreadable.Unreadable.{Unreadable}
 use Rattle.zone_choice.specs.Tables.{TablesView}
 use Rattle.zone_choice.proofs.AgreementLaws.{agrees-roles, tables_with}
 use Rattle.zone_choice.proofs.RolesLaws.{roles_with}
@@ -47,9 +48,9 @@ cleaning_kept before after clean is kept = array_keeps before after clean (clean
 
 -- ---- the next zone becomes the host zone
 
-agrees-promoted : (drive : DriveState) (map : MapView) (empties : List Bool) (f : Filling) (next given : ℕ) → Agrees (mounted drive (tables_with map (roles_with empties None (Some (Next f))) next given)) → Agrees (mounted drive (tables_with map (roles_with empties (Some f) None) next given))
-agrees-promoted drive map empties f next given agrees =
-    agrees-roles drive (tables_with map (roles_with empties None (Some (Next f))) next given) (roles_with empties (Some f) None) agrees
+agrees-promoted : (drive : DriveState) (map : MapView) (empties : List Bool) (f : Filling) (next given : ℕ) (lost : List Unreadable) → Agrees (mounted drive (tables_with map (roles_with empties None (Some (Next f))) next given lost)) → Agrees (mounted drive (tables_with map (roles_with empties (Some f) None) next given lost))
+agrees-promoted drive map empties f next given lost agrees =
+    agrees-roles drive (tables_with map (roles_with empties None (Some (Next f))) next given lost) (roles_with empties (Some f) None) agrees
     (record {
       count = agrees.roles.count;
       apart = record { occupied = agrees.roles.apart.occupied; differ = tt };
@@ -75,13 +76,13 @@ pub record PromoteGives (drive : DriveState) (old new : TablesView) (f : Filling
 pub promote_gives : (drive : DriveState) (old new : TablesView) (f : Filling) → AgreesWithClean (mounted drive old) None → old.roles.host ≡ None → next_of old.roles.second ≡ Some f → new ≡ record old { roles = promoted old.roles } → PromoteGives drive old new f
 promote_gives drive old new f is none next new-is =
     let second = next-parts old.roles.second f next in
-    let plain : Agrees (mounted drive (tables_with old.map (roles_with old.roles.empty None (Some (Next f))) old.next old.given)) =
-    subst (λ (s : Option Second). Agrees (mounted drive (tables_with old.map (roles_with old.roles.empty None s) old.next old.given))) second (subst (λ (h : Option Filling). Agrees (mounted drive (tables_with old.map (roles_with old.roles.empty h old.roles.second) old.next old.given))) none is.0) in
-    let same : new ≡ tables_with old.map (roles_with old.roles.empty (Some f) None) old.next old.given = new-is ∙ ap (λ (o : Option Filling). tables_with old.map (with_next old.roles o) old.next old.given) next in
-    let cleaned : AgreesWithClean (mounted drive (tables_with old.map (roles_with old.roles.empty (Some f) None) old.next old.given)) None = (agrees-promoted drive old.map old.roles.empty f old.next old.given plain, (is.1.0, tt)) in
+    let plain : Agrees (mounted drive (tables_with old.map (roles_with old.roles.empty None (Some (Next f))) old.next old.given old.unreadable)) =
+    subst (λ (s : Option Second). Agrees (mounted drive (tables_with old.map (roles_with old.roles.empty None s) old.next old.given old.unreadable))) second (subst (λ (h : Option Filling). Agrees (mounted drive (tables_with old.map (roles_with old.roles.empty h old.roles.second) old.next old.given old.unreadable))) none is.0) in
+    let same : new ≡ tables_with old.map (roles_with old.roles.empty (Some f) None) old.next old.given old.unreadable = new-is ∙ ap (λ (o : Option Filling). tables_with old.map (with_next old.roles o) old.next old.given old.unreadable) next in
+    let cleaned : AgreesWithClean (mounted drive (tables_with old.map (roles_with old.roles.empty (Some f) None) old.next old.given old.unreadable)) None = (agrees-promoted drive old.map old.roles.empty f old.next old.given old.unreadable plain, (is.1.0, tt)) in
     rw same (record {
       cleaned = cleaned;
-      keeps = record { mountable = cleans_mountable (mounted drive (tables_with old.map (roles_with old.roles.empty (Some f) None) old.next old.given)) None cleaned; array = refl; moves = only-same (drive_logs drive) (drive_logs drive) refl; size = refl; trimmed = refl; given = refl; geometry = refl; refused = refl; durable = refl; next = refl; appended = omega arith };
+      keeps = record { mountable = cleans_mountable (mounted drive (tables_with old.map (roles_with old.roles.empty (Some f) None) old.next old.given old.unreadable)) None cleaned; array = refl; moves = only-same (drive_logs drive) (drive_logs drive) refl; size = refl; trimmed = refl; given = refl; geometry = refl; refused = refl; durable = refl; next = refl; appended = omega arith; unfailing = λ up. up };
       host = refl;
       room = (let alone = rw second at is.1.1 in alone);
     })

@@ -41,7 +41,7 @@ records-within geometry first (c ∷ cs) has few =
     all-append (λ (r : Record). r.offset < geometry.capacity) (log_records first 0 (zone_log geometry c)) (records (suc first) (zone_logs geometry cs))
     (log-below geometry.capacity first 0 (zone_log geometry c) (omega (arith, log-few geometry c has.0 few.0))) (records-within geometry (suc first) cs has.1 few.1)
 
-drive-within : (drive : DriveState) (tables : TablesView) → Agrees (mounted drive tables) → AllByRecursion (λ (r : Record). r.offset < drive.geometry.size) (records 0 (drive_logs drive))
+pub drive-within : (drive : DriveState) (tables : TablesView) → Agrees (mounted drive tables) → AllByRecursion (λ (r : Record). r.offset < drive.geometry.size) (records 0 (drive_logs drive))
 drive-within drive tables agrees =
     let g = drive.geometry in
     let few = all-from (λ (c : Content). length c.blocks ≤ g.capacity) (contents drive.zones) nothing (λ i lt. zone-few drive i agrees.lawful (omega (arith, lt, length-map drive.zones content_of))) in
@@ -49,7 +49,7 @@ drive-within drive tables agrees =
 
 -- ---- the zone of a place
 
-lies-record : (size zone : ℕ) (r : Record) → r.offset < size → lies_in size zone (place size (Some r)) ≡ eqb r.zone zone
+pub lies-record : (size zone : ℕ) (r : Record) → r.offset < size → lies_in size zone (place size (Some r)) ≡ eqb r.zone zone
 lies-record size zone r lt = by (is_some r.content)
   where
     at : (r.zone * size + r.offset) / size ≡ r.zone

@@ -22,7 +22,7 @@ use Rattle.zone_choice.specs.Roles.{IsOccupied, RolesView, fillings, is_at, is_f
 use Rattle.drive_array.specs.Sizes.{larger, log_greatest, map_of}
 use Rattle.drive_array.specs.Spare.{IsSpare}
 use Rattle.zone_choice.specs.Tables.{TablesView}
-use Rattle.zone_choice.proofs.AgreementLaws.{agrees_mountable, no_tails}
+use Rattle.zone_choice.proofs.AgreementLaws.{StaysFailed, agrees_mountable, no_tails}
 use Rattle.drive_array.proofs.AllLaws.{all-set}
 use Rattle.zone_choice.proofs.CommandLaws.{filling-in_range}
 use Rattle.zone_choice.proofs.ContentLaws.{same-filled}
@@ -135,10 +135,10 @@ few-reset most victim logs fs out all =
     (λ f few ne. rw (get_or-set_other logs victim f.zone [] [] ne) few) all (away-all victim fs out)
 
 -- a Reset of the victim keeps the array
-pub reset_gives : (old new : DriveState) (tables : TablesView) (c : CleanView) → Agrees (mounted old tables) → IsClean (mounted old tables) c → ResetDue (mounted old tables) c → new.geometry ≡ old.geometry → IsLawful new
+pub reset_gives : (old new : DriveState) (tables : TablesView) (c : CleanView) → Agrees (mounted old tables) → IsClean (mounted old tables) c → ResetDue (mounted old tables) c → new.geometry ≡ old.geometry → IsLawful new → StaysFailed old new
     → Resets (contents old.zones) (contents new.zones) c.victim → OpensNone old.zones new.zones → ResetGives old new tables c.victim
 unfolding encoded_array
-reset_gives old new tables c agrees is due geometry lawful resets opens =
+reset_gives old new tables c agrees is due geometry lawful failed resets opens =
     let g = old.geometry in
     let zones = contents old.zones in
     let was = drive_logs old in
@@ -165,6 +165,7 @@ reset_gives old new tables c agrees is due geometry lawful resets opens =
         roles = rw (logs, geometry) (roles-reset g.capacity zones (contents new.zones) was tables.roles c.victim agrees.roles is.victim resets (length-map zones (zone_log g)));
         few = rw (logs, geometry, fillings-ended tables.roles c.victim) (few-reset (batch_most g) c.victim was (fillings tables.roles) out agrees.few);
         open_zones = rw (fillings-ended tables.roles c.victim) (tells-kept old.zones new.zones (fillings tables.roles) opens agrees.open_zones);
+        readable = λ none. agrees.readable (failed none);
       };
       logs = logs;
       array = rw (logs, geometry) lost.array;

@@ -11,7 +11,7 @@ use Rattle.zone_choice.specs.Changes.{roles_alone}
 use Rattle.drive_array.specs.Reserve.{batch_most}
 use Rattle.zone_choice.specs.Roles.{RolesView, closed_beside, closed_unless, ended, grown, next_of, wrote}
 use Rattle.zone_cleaner.specs.declared.step.Step.{Step}
-use Rattle.zone_cleaner.specs.declared.step.Step.TheVariants.{Gather, Move, Reset}
+use Rattle.zone_cleaner.specs.declared.step.Step.TheVariants.{Gather, Move, Reset, Undo}
 use Rattle.zone_cleaner.specs.Clean.{CleanView}
 use Rattle.zone_cleaner.specs.Start.{AgreesWithClean, LeavesNextZone, TurnLeaves}
 use Rattle.zone_cleaner.specs.Turns.{StepDone, next_step}
@@ -31,15 +31,19 @@ has-next second filling is = rw is refl
 step-room : (before after : MountedView) (c : CleanView) (new : Option CleanView) (step : Step) → AgreesWithClean before (Some c) → StepDone step before c after new → LeavesNextZone before after (Some c) new
 step-room before after c new (Gather block place) is done = record {
   host = λ none. rw done.1 none;
-  next = λ some ended. let bad : None ≡ Some _ = sym ended ∙ done.2 in absurd (cc);
+  next = λ all some ended. let bad : None ≡ Some _ = sym ended ∙ done.2 in absurd (cc);
 }
 step-room before after c new Move is done = record {
   host = λ none. rw done.0.places.roles (move-host before.drive.geometry before.tables.roles done.0.destination.zone _ none);
-  next = λ some ended. let bad : None ≡ Some _ = sym ended ∙ done.1 in absurd (cc);
+  next = λ all some ended. let bad : None ≡ Some _ = sym ended ∙ done.1 in absurd (cc);
+}
+step-room before after c new Undo is done = record {
+  host = λ none. rw done.0.roles none;
+  next = λ all some ended. absurd (done.0.lost all);
 }
 step-room before after c new Reset is done = record {
   host = λ none. rw done.0.roles none;
-  next = λ some ended. rw done.0.roles (has-next before.tables.roles.second is.1.destination is.1.second);
+  next = λ all some ended. rw done.0.roles (has-next before.tables.roles.second is.1.destination is.1.second);
 }
 
 -- ---- turns
@@ -47,20 +51,5 @@ step-room before after c new Reset is done = record {
 -- what a turn leaves of the zones being filled
 pub turn-room : (before after : MountedView) (old new : Option CleanView) → AgreesWithClean before old → TurnLeaves before old (Ok tt) after new → LeavesNextZone before after old new
 turn-room before after (Some c) new is leaves = step-room before after c new (next_step (batch_most before.drive.geometry) before.tables c) is leaves
-turn-room before after None None is leaves = record { host = λ none. rw leaves.1.1 none; next = λ some. let bad : false ≡ true = some in absurd (cc) }
-turn-room before after None (Some c) is leaves = record { host = λ none. rw leaves.1.tables none; next = λ some. let bad : false ≡ true = some in absurd (cc) }
-
--- the same before any turn
-pub room-none : (disk : MountedView) (clean : Option CleanView) → LeavesNextZone disk disk clean clean
-room-none disk clean = record { host = λ none. none; next = λ some none. by clean some none }
-  where
-    by : (clean : Option CleanView) → is_some clean ≡ true → clean ≡ None → is_some (next_of disk.tables.roles.second) ≡ true
-    by None some none = let bad : false ≡ true = some in absurd (cc)
-    by (Some c) some none = let bad : Some c ≡ None = none in absurd (cc)
-
--- and after one turn more, of a clean that ran
-pub room-more : (first before after : MountedView) (old middle new : Option CleanView) → is_some middle ≡ true → LeavesNextZone first before old middle → LeavesNextZone before after middle new → LeavesNextZone first after old new
-room-more first before after old middle new ran p q = record {
-  host = λ none. q.host (p.host none);
-  next = λ some none. q.next ran none;
-}
+turn-room before after None None is leaves = record { host = λ none. rw leaves.1.1 none; next = λ all some. let bad : false ≡ true = some in absurd (cc) }
+turn-room before after None (Some c) is leaves = record { host = λ none. rw leaves.1.tables none; next = λ all some. let bad : false ≡ true = some in absurd (cc) }

@@ -1,5 +1,5 @@
 -- What holds whatever the Reads returned, after the steps of a clean.
-use Rattle.std.proofs.Common.{◌≡◌, ℕ, ◌++◌, ◌<◌, ◌≤◌, ltb, Bool, true, false, cond, [], ◌∷◌, Option, Some, None, Result, Ok, Err, refl, ap, subst, ◌∙◌, inl, inr, arith}
+use Rattle.std.proofs.Common.{◌≡◌, ℕ, ◌++◌, ◌<◌, ◌≤◌, ltb, Bool, true, false, cond, List, [], ◌∷◌, length, Option, Some, None, Result, Ok, Err, refl, ap, subst, ◌∙◌, inl, inr, arith}
 use Rattle.std.specs.Prelude.{IsTrue}
 use Rattle.std.specs.List.{AllByRecursion}
 use Rattle.std.specs.Option.{option_map}
@@ -9,7 +9,8 @@ use Rattle.zone_choice.specs.declared.roles.Filling.{Filling}
 use Rattle.zone_choice.specs.declared.roles.Second.{Second}
 use Rattle.zone_choice.specs.declared.roles.Second.TheVariants.{Destination, Next}
 use Rattle.zone_choice.specs.Agreement.{MountedView, mounted}
-use Rattle.zone_choice.specs.Roles.{RolesView, clean_ended, closed_beside, ended, filling_list, filling_of, fillings}
+use Rattle.logical_map.specs.declared.place.Place.{Place}
+use Rattle.zone_choice.specs.Roles.{RolesView, clean_ended, clean_undone, with_empty, without_destination, closed_beside, ended, filling_list, filling_of, fillings}
 use Rattle.zone_choice.specs.Changes.{roles_alone}
 use Rattle.zone_choice.specs.Sane.{IsSane, KeepsShape, TablesAfter}
 use Rattle.drive_array.specs.Sizes.{size_or}
@@ -53,6 +54,31 @@ sane-ended old new tables victim geometry sane = record {
   next = sane.next;
   fillings_are = rw (geometry, fillings-ended tables.roles victim) sane.fillings_are;
 }
+
+-- a clean is given up
+pub sane-undone : (old new : DriveState) (tables : TablesView) (all : List Place) → new.geometry ≡ old.geometry → length all ≡ size_of tables → IsSane (mounted old tables) → IsSane (mounted new (record tables { map = record tables.map { places = all }; roles = clean_undone tables.roles }))
+sane-undone old new tables all geometry long sane = record {
+  geometry = rw geometry sane.geometry;
+  one_drive = with-long tables.roles.second ∙ sane.one_drive;
+  zones = rw geometry sane.zones;
+  short = omega (arith, long, sane.short);
+  next = sane.next;
+  fillings_are = rw geometry (fewer tables.roles.host tables.roles.second sane.fillings_are);
+}
+  where
+    with-long : (second : Option Second) → length (with_empty tables.roles.empty second) ≡ length tables.roles.empty
+    with-long None = refl
+    with-long (Some (Next f)) = refl
+    with-long (Some (Destination f)) = length-set tables.roles.empty f.zone true
+
+    Few : Filling → Type 0
+    Few f = (f.zone < old.geometry.zones) × (f.written ≤ old.geometry.capacity)
+
+    fewer : (host : Option Filling) (second : Option Second) → AllByRecursion Few (filling_list host ++ filling_list (option_map filling_of second)) → AllByRecursion Few (filling_list host ++ filling_list (option_map filling_of (without_destination second)))
+    fewer host None few = few
+    fewer host (Some (Next f)) few = few
+    fewer None (Some (Destination f)) few = tt
+    fewer (Some h) (Some (Destination f)) few = (few.0, tt)
 
 -- ---- a clean begins
 

@@ -1,70 +1,102 @@
--- Turns of a clean that is run to its end, while the drive is clean.
-use Rattle.std.proofs.Common.{◌≡◌, ℕ, ◌+◌, ◌*◌, ◌≤◌, true, false, Option, Some, None, Ok, Err, is_some, refl, arith}
+-- Turns that are taken until there is a next zone, while the drive is clean.
+use Rattle.std.proofs.Common.{◌≡◌, ◌⊎◌, ℕ, ◌+◌, ◌-◌, ◌≤◌, true, false, List, [], ◌∷◌, Option, Some, None, Ok, Err, is_some, refl, sym, ap, subst, ◌∙◌, inl, inr, arith}
+use Rattle.zone_states.specs.declared.geometry.Geometry.{Geometry}
 use Rattle.drive_array.specs.Reserve.{batch_most}
 use Rattle.zone_choice.specs.Agreement.{MountedView}
+use Rattle.zone_choice.specs.Roles.{next_of}
+use Rattle.zone_choice.specs.declared.unreadable.Unreadable.{Unreadable}
 use Rattle.zone_cleaner.specs.declared.fault.CleanFault.{CleanFault}
-use Rattle.zone_cleaner.specs.Answering.{EndAnswers, TurnAnswers}
-use Rattle.zone_cleaner.specs.Clean.{CleanView, turns_left, turns_of}
-use Rattle.zone_cleaner.specs.Start.{AgreesWithClean, KeepsByCleaning, LeavesNextZone}
+use Rattle.zone_cleaner.specs.declared.fault.CleanFault.TheVariants as faults
+use Rattle.zone_cleaner.specs.Answering.{CleanAnswers, PassAnswers}
+use Rattle.zone_cleaner.specs.Clean.{CleanView, turns_due, turns_left}
+use Rattle.zone_cleaner.specs.Start.{AgreesWithClean, HasNextZone, IsOn, KeepsByCleaning, LacksZones, unfinished, why_unfinished}
 use Rattle.zone_cleaner.proofs.NeedLaws.{left-few}
-use Rattle.zone_cleaner.proofs.RoomLaws.{room-more, room-none}
-use Rattle.zone_cleaner.proofs.RunLaws.{TakesTurns, takes-more, takes-none}
+use Rattle.zone_cleaner.proofs.PassLaws.{noted-failed}
+use Rattle.zone_cleaner.proofs.RunLaws.{TakesTurns, done-takes, leaves-after, leaves-done, leaves-failed, takes-join, takes-none}
 use Rattle.zone_cleaner.proofs.TurnLaws.{keeps-more, keeps-none}
 
--- So many turns were done, each of a clean that ran.
+-- So many turns were taken, and there is no next zone yet.
 pub record HasRun (first : MountedView) (old : Option CleanView) (n : ℕ) (disk : MountedView) (clean : Option CleanView) : Type 0 where
   pub agrees : AgreesWithClean disk clean
   pub keeps : KeepsByCleaning first disk
-  pub room : LeavesNextZone first disk old clean
   pub takes : TakesTurns first old disk clean
-  pub completed : disk.drive.completed + 2 * turns_left (batch_most first.drive.geometry) disk.tables clean ≤ first.drive.completed + 2 * turns_of first old
-  pub turns : turns_left (batch_most first.drive.geometry) disk.tables clean + n ≤ turns_of first old
+  pub on : (takes.turns ≡ 0) ⊎ IsOn disk clean
+  pub turns : disk.tables.unreadable ≡ [] → is_some clean ≡ true → turns_left (batch_most first.drive.geometry) disk.tables clean + n + 1 ≤ first.drive.geometry.capacity
+  pub idle : disk.tables.unreadable ≡ [] → clean ≡ None → (n ≡ 0) × LacksZones disk.tables.roles
 
 -- none was yet
-pub run-none : (disk : MountedView) (clean : Option CleanView) → AgreesWithClean disk clean → HasRun disk clean 0 disk clean
-run-none disk clean is = record {
+pub run-none : (disk : MountedView) (clean : Option CleanView) → AgreesWithClean disk clean → LacksZones disk.tables.roles → HasRun disk clean 0 disk clean
+run-none disk clean is lacks = record {
   agrees = is;
   keeps = keeps-none disk clean is;
-  room = room-none disk clean;
-  takes = takes-none disk clean;
-  completed = omega arith;
-  turns = omega arith;
+  takes = record { turns = 0; done = (refl, refl) };
+  on = inl refl;
+  turns = λ all some. omega (arith, left-few disk clean is);
+  idle = λ all none. (refl, lacks);
 }
 
--- and one more
-pub run-more : (first before after : MountedView) (old clean new : Option CleanView) (n : ℕ) → is_some clean ≡ true → HasRun first old n before clean → TurnAnswers before clean (Ok tt) after new → HasRun first old (n + 1) after new
-run-more first before after old clean new n ran so_far turn =
-    let fewer = rw so_far.keeps.geometry at (turn.done.turns.fewer ran) in
-    record {
-      agrees = turn.cleaning.goes_on;
-      keeps = keeps-more first before after so_far.keeps turn.cleaning.keeps;
-      room = room-more first before after old clean new ran so_far.room turn.done.room;
-      takes = takes-more first before after old clean new so_far.takes ran turn.leaves;
-      completed = omega (arith, so_far.completed, fewer, turn.completed);
-      turns = omega (arith, so_far.turns, fewer);
-    }
+due-few : (disk : MountedView) (clean : Option CleanView) (capacity n : ℕ) → 4 ≤ capacity → disk.drive.geometry.capacity ≡ capacity → (is_some clean ≡ true → turns_left (batch_most disk.drive.geometry) disk.tables clean + n + 1 ≤ capacity) → (clean ≡ None → n ≡ 0) → turns_due disk clean + n + 1 ≤ capacity
+due-few disk None capacity n some same running idle = omega (arith, some, same, idle refl)
+due-few disk (Some c) capacity n some same running idle = omega (arith, running refl)
 
--- none runs any more
-pub run-ended : (first disk : MountedView) (old clean : Option CleanView) (n : ℕ) → is_some clean ≡ false → HasRun first old n disk clean → EndAnswers first old (Ok tt) disk clean
-run-ended first disk old (Some c) n ended so_far = absurd (let bad : true ≡ false = ended in cc)
-run-ended first disk old None n ended so_far = record {
-  leaves = (refl, (so_far.takes.turns, so_far.takes.done));
-  cleaning = record { goes_on = so_far.agrees; keeps = so_far.keeps; cause = tt };
-  done = record { ended = refl; room = so_far.room };
-  completed = omega (arith, so_far.completed);
+-- a clean runs, or a command failed
+is-on : (disk : MountedView) (clean : Option CleanView) → AgreesWithClean disk clean → (disk.tables.unreadable ≡ [] → clean ≡ None → ⊥) → IsOn disk clean
+is-on disk (Some c) is never = inl refl
+is-on disk None is never = inr (noted-failed disk is.0 (λ all. never all refl))
+
+-- and one more
+pub run-more : (first before after : MountedView) (old clean new : Option CleanView) (n : ℕ) → 4 ≤ first.drive.geometry.capacity → HasRun first old n before clean → PassAnswers before clean (Ok tt) after new → is_some (next_of after.tables.roles.second) ≡ false
+    → HasRun first old (n + 1) after new
+run-more first before after old clean new n big so_far pass none = record {
+  agrees = pass.cleaning.goes_on;
+  keeps = keeps-more first before after so_far.keeps pass.cleaning.keeps;
+  takes = takes-join first before after old clean new so_far.takes so_far.on (done-takes before after clean new pass.leaves);
+  on = inr (is-on after new pass.cleaning.goes_on (λ all ended. (let yes = pass.done.next all ended in cc)));
+  turns = λ all some.
+      let was = pass.done.lost all in
+      let fewer = subst (λ (g : Geometry). turns_left (batch_most g) after.tables new + 1 ≤ turns_due before clean) so_far.keeps.geometry (pass.done.turns all some) in
+      let turns = subst (λ (g : Geometry). is_some clean ≡ true → turns_left (batch_most g) before.tables clean + n + 1 ≤ first.drive.geometry.capacity) (sym so_far.keeps.geometry) (so_far.turns was) in
+      let due = due-few before clean first.drive.geometry.capacity n big (ap (λ (g : Geometry). g.capacity) so_far.keeps.geometry) turns (λ idle. (so_far.idle was idle).0) in
+      omega (arith, fewer, due);
+  idle = λ all ended. absurd (let yes = pass.done.next all ended in cc);
+}
+
+clean-ended : (disk : MountedView) (clean : Option CleanView) → AgreesWithClean disk clean → is_some (next_of disk.tables.roles.second) ≡ true → clean ≡ None
+clean-ended disk None is next = refl
+clean-ended disk (Some c) is next = absurd (let no = ap (λ s. is_some (next_of s)) is.1.second in cc)
+
+-- there is a next zone now
+pub run-found : (first before after : MountedView) (old clean new : Option CleanView) (n : ℕ) → HasRun first old n before clean → PassAnswers before clean (Ok tt) after new → after.tables.roles.host ≡ None → is_some (next_of after.tables.roles.second) ≡ true
+    → CleanAnswers first old (Ok tt) after new
+run-found first before after old clean new n so_far pass host next = record {
+  leaves = leaves-done first after old new (takes-join first before after old clean new so_far.takes so_far.on (done-takes before after clean new pass.leaves));
+  cleaning = record { goes_on = pass.cleaning.goes_on; keeps = keeps-more first before after so_far.keeps pass.cleaning.keeps; cause = tt };
+  done = record { ended = clean-ended after new pass.cleaning.goes_on next; host = host; next = next };
 }
 
 -- a turn was refused
-pub run-refused : (first before after : MountedView) (old clean new : Option CleanView) (n : ℕ) (fault : CleanFault) → is_some clean ≡ true → HasRun first old n before clean → TurnAnswers before clean (Err fault) after new → EndAnswers first old (Err fault) after new
-run-refused first before after old None new n fault ran so_far turn = absurd (let bad : false ≡ true = ran in cc)
-run-refused first before after old (Some c) new n fault ran so_far turn = record {
-  leaves = record { turns = so_far.takes.turns; middle = before; clean = Some c; done = so_far.takes.done; refused = turn.leaves };
-  cleaning = record { goes_on = turn.cleaning.goes_on; keeps = keeps-more first before after so_far.keeps turn.cleaning.keeps; cause = turn.cleaning.cause };
+pub run-refused : (first before after : MountedView) (old clean new : Option CleanView) (n : ℕ) (fault : CleanFault) → HasRun first old n before clean → PassAnswers before clean (Err fault) after new → CleanAnswers first old (Err fault) after new
+run-refused first before after old clean new n fault so_far pass = record {
+  leaves = leaves-after first before after old clean new fault so_far.takes so_far.on pass.leaves;
+  cleaning = record { goes_on = pass.cleaning.goes_on; keeps = keeps-more first before after so_far.keeps pass.cleaning.keeps; cause = pass.cleaning.cause };
   done = tt;
-  completed = omega (arith, so_far.completed, turn.completed);
 }
 
--- a clean has fewer turns than a zone has blocks
-pub run-over : (first disk : MountedView) (old clean : Option CleanView) (n : ℕ) → AgreesWithClean first old → HasRun first old n disk clean → first.drive.geometry.capacity ≤ n + 1 → is_some clean ≡ false
-run-over first disk old None n is so_far over = refl
-run-over first disk old (Some c) n is so_far over = absurd (omega (arith, so_far.turns, left-few first old is, over))
+-- one clean has fewer turns than a zone has blocks: so data could not be read
+pub run-over : (first disk : MountedView) (old clean : Option CleanView) (n : ℕ) (fault : CleanFault) → 4 ≤ first.drive.geometry.capacity → HasRun first old n disk clean → first.drive.geometry.capacity ≤ n + 1 → fault ≡ unfinished disk.tables → CleanAnswers first old (Err fault) disk clean
+run-over first disk old clean n fault big so_far over fault-is = by disk.tables.unreadable refl
+  where
+    never : (x : Option CleanView) → (is_some x ≡ true → turns_left (batch_most first.drive.geometry) disk.tables x + n + 1 ≤ first.drive.geometry.capacity) → (x ≡ None → n ≡ 0) → ⊥
+    never None running idle = absurd (omega (arith, over, big, idle refl))
+    never (Some c) running idle = absurd (omega (arith, over, running refl))
+
+    by : (lost : List Unreadable) → disk.tables.unreadable ≡ lost → CleanAnswers first old (Err fault) disk clean
+    by [] all = absurd (never clean (so_far.turns all) (λ idle. (so_far.idle all idle).0))
+    by (x ∷ xs) some =
+        let failed : fault ≡ faults.Failed = fault-is ∙ ap why_unfinished some in
+        let down = noted-failed disk so_far.agrees.0 (λ none. (let bad : [] ≡ x ∷ xs = sym none ∙ some in absurd (cc))) in
+        rw failed (record {
+          leaves = leaves-failed first disk disk old clean clean so_far.takes (record { drive = refl; tables = refl }) refl;
+          cleaning = record { goes_on = so_far.agrees; keeps = so_far.keeps; cause = down };
+          done = tt;
+        })

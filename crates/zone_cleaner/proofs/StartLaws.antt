@@ -1,23 +1,24 @@
 -- A clean begins.
-use Rattle.std.proofs.Common.{◌≡◌, ◌≢◌, ℕ, ◌+◌, ◌<◌, ◌≤◌, Bool, true, false, ◌||◌, eqb, List, [], ◌++◌, set, Option, Some, None, is_some, refl, sym, ap, subst, ◌∙◌, inl, inr, arith}
+use Rattle.std.proofs.Common.{◌≡◌, ◌≢◌, ℕ, ◌+◌, ◌<◌, ◌≤◌, Bool, true, false, not, ◌||◌, eqb, List, [], ◌++◌, set, Option, Some, None, is_some, get_or, refl, sym, ap, subst, ◌∙◌, inl, inr, arith}
 use Rattle.std.specs.List.{AllByRecursion, list_any}
-use Rattle.std.proofs.lemmas.Bool.{cases_eq, eq-eqb, ne_eqb}
+use Rattle.std.proofs.lemmas.Bool.{and_parts, cases_eq, eq-eqb, ne_eqb}
 use Rattle.std.proofs.lemmas.List.{get_or-set_other, length-set, set-get_or}
 use Rattle.zone_states.specs.declared.geometry.Geometry.{Geometry}
 use Rattle.drive_port.specs.Drive.{DriveState}
 use Rattle.drive_port.specs.Contents.{Content, content_at, contents, emptied}
 use Rattle.batch_log.specs.Log.{Batch}
-use Rattle.logical_map.specs.Live.{live}
+use Rattle.logical_map.specs.Live.{lies_in, live}
 use Rattle.zone_choice.specs.declared.roles.Filling.{Filling}
 use Rattle.zone_choice.specs.declared.roles.Second.{Second}
 use Rattle.zone_choice.specs.declared.roles.Second.TheVariants.{Destination}
+use Rattle.logical_map.specs.declared.place.Place.TheVariants as places
 use Rattle.zone_choice.specs.Agreement.{Agrees, HoldsFilling, MountedView, RolesAgree, TellsOpen, mounted}
 use Rattle.drive_array.specs.ZoneLogs.{drive_logs, log_at}
 use Rattle.drive_array.specs.Repair.{HasAtMost}
 use Rattle.drive_array.specs.Reserve.{batch_most, move_blocks}
-use Rattle.zone_choice.specs.Roles.{IsLowestEmpty, IsLowestIn, is_at, filling_list, with_destination}
+use Rattle.zone_choice.specs.Roles.{IsLowestEmpty, IsLowestIn, is_at, is_sealed_at, filling_list, with_destination}
 use Rattle.drive_array.specs.Sizes.{array_of}
-use Rattle.zone_choice.specs.Tables.{IsLeastSealed, TablesView}
+use Rattle.zone_choice.specs.Tables.{IsLeastSealed, TablesView, is_left_out}
 use Rattle.zone_choice.proofs.AgreementLaws.{agrees-roles, vacant-emptied}
 use Rattle.zone_choice.proofs.MarkLaws.{apart-destination, sealed-made, sealed-parts}
 use Rattle.zone_choice.proofs.OpenLaws.{emptied-shut}
@@ -25,6 +26,7 @@ use Rattle.drive_array.proofs.ReserveLaws.{positive-most}
 use Rattle.zone_choice.proofs.RolesLaws.{roles_with, second_list}
 use Rattle.zone_cleaner.specs.Clean.{started, turns_left}
 use Rattle.zone_cleaner.specs.Start.{AgreesWithClean, IsDue, NoneIsDue}
+use Rattle.zone_cleaner.proofs.OldLaws.{none-in_vacant}
 use Rattle.zone_cleaner.proofs.BudgetLaws.{start-room, start-turns}
 
 -- ---- an empty zone becomes the destination
@@ -87,7 +89,7 @@ start_gives drive tables new victim zone agrees due lowest new-is =
     let k = batch_most g in
     let plain = with-alone drive tables due.alone agrees in
     let no_log : log_at logs zone ≡ [] = vacant-emptied g zones zone (agrees.roles.empty zone lowest.is_empty) in
-    let was = sealed-parts tables.roles victim due.least.sealed_is in
+    let was = sealed-parts tables.roles victim (and_parts (is_sealed_at tables.roles victim) (not (is_left_out tables victim)) due.least.can).0 in
     let ne : victim ≢ zone = λ same. (let yes = rw (← same) at lowest.is_empty in let no = was.not_empty in absurd (cc)) in
     rw new-is (record {
       cleaned = (
@@ -102,6 +104,7 @@ start_gives drive tables new victim zone agrees due lowest new-is =
           gathers = record { within = omega arith; few = omega arith; gathered = refl };
           room = start-room g.capacity k (live tables.map victim) due.fits;
           moves = record { moves = rw no_log tt; follows = rw no_log tt; spare = nothing_lost no_log };
+          undo = record { all = λ block there. absurd (none-there block there); each = tt; away = tt };
         },
       );
       turns = start-turns g.capacity k (live tables.map victim) (positive-most g agrees.geometry) due.fits;
@@ -117,10 +120,18 @@ start_gives drive tables new victim zone agrees due lowest new-is =
         by None out = ap (λ (b : Bool). b || false) other
         by (Some h) out = rw other out
 
+    -- no block is in an empty zone
+    none-there : (block : ℕ) → lies_in tables.map.zone_size zone (get_or tables.map.places block places.None) ≡ true → ⊥
+    none-there block there = none-in_vacant drive tables zone block agrees (vacant-emptied drive.geometry (contents drive.zones) zone (agrees.roles.empty zone lowest.is_empty)) there
+
     nothing_lost : log_at (drive_logs drive) zone ≡ [] → array_of drive.geometry.block tables.given (set (drive_logs drive) zone []) ≡ array_of drive.geometry.block tables.given (drive_logs drive)
     nothing_lost e = ap (array_of drive.geometry.block tables.given) (ap (set (drive_logs drive) zone) (sym e) ∙ set-get_or (drive_logs drive) zone [])
 
 -- ---- whether a clean is due
+
+-- a zone that can be cleaned is sealed
+pub least-is_sealed : (tables : TablesView) (zone : ℕ) → IsLeastSealed tables zone → is_sealed_at tables.roles zone ≡ true
+least-is_sealed tables zone least = (and_parts (is_sealed_at tables.roles zone) (not (is_left_out tables zone)) least.can).0
 
 -- what is not some is none
 pub none-of : {X : Type 0} (o : Option X) → is_some o ≡ false → o ≡ None
@@ -130,7 +141,7 @@ none-of (Some x) e = absurd (cc)
 -- too many live records
 pub full-not_due : (geometry : Geometry) (tables : TablesView) (zone : ℕ) → IsLeastSealed tables zone → geometry.capacity < move_blocks (batch_most geometry) (live tables.map zone) + 2 → NoneIsDue geometry tables
 full-not_due geometry tables zone least more victim due =
-    let low = least.least victim due.least.sealed_is in
-    let high = due.least.least zone least.sealed_is in
+    let low = least.least victim due.least.can in
+    let high = due.least.least zone least.can in
     let same : live tables.map zone ≡ live tables.map victim = omega (arith, low, high) in
     absurd (omega (arith, due.fits, ap (move_blocks (batch_most geometry)) same, more))

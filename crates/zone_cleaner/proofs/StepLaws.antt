@@ -5,11 +5,12 @@ use Rattle.logical_map.specs.Live.{first_record}
 use Rattle.logical_map.specs.declared.place.Place.{Place}
 use Rattle.logical_map.specs.declared.place.Place.TheVariants as places
 use Rattle.zone_choice.specs.Agreement.{MountedView}
+use Rattle.zone_choice.specs.Tables.{TablesView, is_left_out}
 use Rattle.zone_cleaner.specs.declared.step.Step.{Step}
-use Rattle.zone_cleaner.specs.declared.step.Step.TheVariants.{Gather, Move, Reset}
+use Rattle.zone_cleaner.specs.declared.step.Step.TheVariants.{Gather, Move, Reset, Undo}
 use Rattle.zone_cleaner.specs.Clean.{CleanView, destination_written, untaken}
 use Rattle.zone_cleaner.specs.LiveRecords.{LiveRecord}
-use Rattle.zone_cleaner.specs.Turns.{last_step, next_step, step_of}
+use Rattle.zone_cleaner.specs.Turns.{forward_step, last_step, next_step, step_of}
 use Rattle.zone_cleaner.proofs.CleanLaws.{untaken_none}
 
 number : Step → ℕ
@@ -19,6 +20,41 @@ number step = 0
 spot : Step → Place
 spot (Gather block place) = place
 spot step = places.None
+
+-- ---- a clean that goes on
+
+-- what it means that a step is next which does not give the clean up
+pub record ForwardDue (most : ℕ) (tables : TablesView) (c : CleanView) (step : Step) : Type 0 where
+  pub readable : is_left_out tables c.victim ≡ false
+  pub due : forward_step most tables c ≡ step
+
+pub forward-due : (most : ℕ) (tables : TablesView) (c : CleanView) (step : Step) → (Undo ≡ step → ⊥) → next_step most tables c ≡ step → ForwardDue most tables c step
+forward-due most tables c step other e = by (is_left_out tables c.victim) refl e
+  where
+    by : (b : Bool) → is_left_out tables c.victim ≡ b → cond b Undo (forward_step most tables c) ≡ step → ForwardDue most tables c step
+    by true out e = absurd (other e)
+    by false out e = record { readable = out; due = e }
+
+-- and one that does
+pub undo-due : (most : ℕ) (tables : TablesView) (c : CleanView) → next_step most tables c ≡ Undo → is_left_out tables c.victim ≡ true
+undo-due most tables c e = by (is_left_out tables c.victim) refl e
+  where
+    last : (written : ℕ) (rs : List LiveRecord) → last_step written rs ≡ Undo → ⊥
+    last zero rs e = let bad : Move ≡ Undo = e in absurd (cc)
+    last (suc written) [] e = let bad : Reset ≡ Undo = e in absurd (cc)
+    last (suc written) (r ∷ rs) e = let bad : Move ≡ Undo = e in absurd (cc)
+
+    of : (o : Option (ℕ × Place)) → step_of o (last_step (destination_written tables.roles.second) c.gathered) ≡ Undo → ⊥
+    of None e = last (destination_written tables.roles.second) c.gathered e
+    of (Some found) e = let bad : Gather found.0 found.1 ≡ Undo = e in absurd (cc)
+
+    forward : (b : Bool) → cond b (step_of (first_record tables.map c.victim c.cursor) (last_step (destination_written tables.roles.second) c.gathered)) Move ≡ Undo → ⊥
+    forward true e = of (first_record tables.map c.victim c.cursor) e
+    forward false e = let bad : Move ≡ Undo = e in absurd (cc)
+
+    by : (b : Bool) → is_left_out tables c.victim ≡ b → cond b Undo (forward_step most tables c) ≡ Undo → is_left_out tables c.victim ≡ true
+    by true out e = out
+    by false out e = absurd (forward (ltb (length c.gathered) most) e)
 
 -- ---- a record is gathered
 
@@ -35,7 +71,7 @@ last-not_gather (suc written) (r ∷ rs) block place e = let bad : Move ≡ Gath
 -- what it means that this is the next step
 pub gather-due : (disk : MountedView) (most : ℕ) (c : CleanView) (block : ℕ) (place : Place) → next_step most disk.tables c ≡ Gather block place → GatherDue disk most c block place
 unfolding number spot
-gather-due disk most c block place e = by (ltb (length c.gathered) most) refl (first_record disk.tables.map c.victim c.cursor) refl e
+gather-due disk most c block place e = by (ltb (length c.gathered) most) refl (first_record disk.tables.map c.victim c.cursor) refl (forward-due most disk.tables c (Gather block place) (λ bad. absurd (cc)) e).due
   where
     last : Step
     last = last_step (destination_written disk.tables.roles.second) c.gathered
@@ -64,7 +100,7 @@ last-some (suc written) (r ∷ rs) e some = omega arith
 
 -- and that a Move is
 pub move-due : (disk : MountedView) (most : ℕ) (c : CleanView) → next_step most disk.tables c ≡ Move → 1 ≤ most → length c.gathered ≤ most → MoveDue disk most c
-move-due disk most c e one few = by (ltb (length c.gathered) most) refl (first_record disk.tables.map c.victim c.cursor) refl e
+move-due disk most c e one few = by (ltb (length c.gathered) most) refl (first_record disk.tables.map c.victim c.cursor) refl (forward-due most disk.tables c Move (λ bad. absurd (cc)) e).due
   where
     last : Step
     last = last_step (destination_written disk.tables.roles.second) c.gathered
@@ -91,7 +127,7 @@ last-reset (suc written) (r ∷ rs) e = let bad : Move ≡ Reset = e in absurd (
 
 -- and that the Reset is
 pub reset-due : (disk : MountedView) (most : ℕ) (c : CleanView) → next_step most disk.tables c ≡ Reset → ResetDue disk c
-reset-due disk most c e = by (ltb (length c.gathered) most) refl (first_record disk.tables.map c.victim c.cursor) refl e
+reset-due disk most c e = by (ltb (length c.gathered) most) refl (first_record disk.tables.map c.victim c.cursor) refl (forward-due most disk.tables c Reset (λ bad. absurd (cc)) e).due
   where
     last : Step
     last = last_step (destination_written disk.tables.roles.second) c.gathered

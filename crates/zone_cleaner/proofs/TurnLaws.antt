@@ -2,7 +2,9 @@
 use Rattle.std.proofs.Common.{◌≡◌, ℕ, ◌+◌, ◌<◌, ◌≤◌, Bool, true, false, cond, map, length, set, get_or, Option, Some, None, Result, Ok, Err, refl, sym, ap, ◌∙◌, arith}
 use Rattle.std.specs.List.{count_by}
 use Rattle.std.specs.Option.{option_map}
-use Rattle.std.specs.Prelude.{OnErr, OnOk}
+use Rattle.std.specs.Prelude.{IsFalse, OnErr, OnOk}
+use Rattle.std.proofs.lemmas.List.{length-map}
+use Rattle.drive_port.specs.Contents.{content_of}
 use Rattle.std.proofs.lemmas.List.Sums.{get_or-le-sum_by, sum_by-set}
 use Rattle.drive_port.specs.Drive.{DriveState}
 use Rattle.zone_choice.specs.declared.roles.Filling.{Filling}
@@ -13,7 +15,7 @@ use Rattle.drive_array.specs.ZoneLogs.{drive_logs}
 use Rattle.zone_choice.specs.Changes.{KeepsArray, Places, sequence_end}
 use Rattle.drive_array.specs.Mountable.{IsMountable}
 use Rattle.drive_array.specs.Reserve.{batch_most}
-use Rattle.zone_choice.specs.Roles.{RolesView, clean_ended, empty_count, ended}
+use Rattle.zone_choice.specs.Roles.{RolesView, clean_ended, clean_undone, empty_count, ended}
 use Rattle.drive_array.specs.Spare.{HasSpare}
 use Rattle.zone_choice.specs.Tables.{TablesView, size_of}
 use Rattle.zone_choice.proofs.AgreementLaws.{agrees_mountable, empty-spare}
@@ -22,10 +24,10 @@ use Rattle.drive_array.proofs.ReserveLaws.{positive-most}
 use Rattle.zone_cleaner.specs.declared.fault.CleanFault.{CleanFault}
 use Rattle.zone_cleaner.specs.declared.fault.CleanFault.TheVariants as faults
 use Rattle.zone_cleaner.specs.declared.step.Step.{Step}
-use Rattle.zone_cleaner.specs.declared.step.Step.TheVariants.{Gather, Move, Reset}
-use Rattle.zone_cleaner.specs.Clean.{CleanView, HasNoDestination, turns_left}
+use Rattle.zone_cleaner.specs.declared.step.Step.TheVariants.{Gather, Move, Reset, Undo}
+use Rattle.zone_cleaner.specs.Clean.{CleanView, HasNoDestination, turns_left, trims}
 use Rattle.zone_cleaner.specs.LiveRecords.{live_content, gathered_move}
-use Rattle.zone_cleaner.specs.Start.{AgreesWithClean, CleaningLeaves, KeepsByCleaning, StartLeaves, TurnDone, TurnLeaves, TurnsFewer, trims}
+use Rattle.zone_cleaner.specs.Start.{AgreesWithClean, CleaningLeaves, KeepsByCleaning, StartLeaves, TurnDone, TurnLeaves, TurnsFewer}
 use Rattle.zone_cleaner.specs.Turns.{StepDone, StepFails, StepLeaves, next_step, with_record}
 use Rattle.zone_cleaner.proofs.RoomLaws.{turn-room}
 use Rattle.zone_cleaner.proofs.CleanLaws.{clean_kept, clean_spare, gather_gives, turns_kept}
@@ -71,6 +73,10 @@ empty-more roles victim lt =
         let one : cond {A = ℕ} (get_or roles.empty victim false) 1 0 ≡ 1 = rw e refl in
         omega (arith, more, one, get_or-le-sum_by (λ (x : Bool). cond {A = ℕ} x 1 0) roles.empty victim false lt)
 
+-- a clean is given up: the destination is empty
+undone-cleans : (capacity : ℕ) (roles : RolesView) (f : Filling) → roles.second ≡ Some (Destination f) → f.zone < length roles.empty → (1 ≤ empty_count (clean_undone roles)) × HasNoDestination capacity (clean_undone roles).second
+undone-cleans capacity roles f is lt = rw is (empty-more roles f.zone lt, tt)
+
 step_forward : (before after : MountedView) (c : CleanView) (new : Option CleanView) (step : Step) → AgreesWithClean before (Some c) → next_step (batch_most before.drive.geometry) before.tables c ≡ step → StepDone step before c after new → GoesForward (batch_most before.drive.geometry) before c after new
 step_forward before after c new (Gather block place) is due done =
     let most = batch_most before.drive.geometry in
@@ -91,6 +97,13 @@ step_forward before after c new Reset is due done =
       cleaned = (done.0.agrees, rw (done.0.roles, done.0.geometry) (empty-more before.tables.roles c.victim was.in_range, ended-alone before.drive.geometry.capacity before.tables.roles.second is.1.destination is.1.second (omega (arith, is.1.room))));
       fewer = omega arith;
     })
+step_forward before after c new Undo is due done =
+    let filling = second-filling before.tables.roles (Destination is.1.destination) is.1.second in
+    let below : is.1.destination.zone < length before.tables.roles.empty = omega (arith, filling-in_range before.drive before.tables is.1.destination.zone is.0 filling, is.0.roles.count, length-map before.drive.zones content_of) in
+    rw done.1 (record {
+      cleaned = (done.0.agrees, rw (done.0.roles, done.0.geometry) (undone-cleans before.drive.geometry.capacity before.tables.roles is.1.destination is.1.second below));
+      fewer = omega arith;
+    })
 
 -- what keeps the array is kept by cleaning
 pub array_keeps : (before after : MountedView) (new : Option CleanView) → AgreesWithClean after new → KeepsArray before after → KeepsByCleaning before after
@@ -106,6 +119,7 @@ array_keeps before after new cleaned kept = record {
   durable = kept.durable;
   next = omega (arith, kept.next, kept.appended);
   appended = omega (arith, kept.appended);
+  unfailing = kept.unfailing;
 }
 
 -- what a step keeps that is done
@@ -123,6 +137,7 @@ step-keeps before after c new Move is cleaned done = let moved = move-trims befo
   durable = done.0.places.durable;
   next = omega (arith, done.0.places.next, done.0.places.appended);
   appended = omega (arith, done.0.places.appended);
+  unfailing = done.0.places.unfailing;
 }
 step-keeps before after c new Reset is cleaned done = record {
   mountable = cleans_mountable after new cleaned;
@@ -136,9 +151,37 @@ step-keeps before after c new Reset is cleaned done = record {
   durable = done.0.durable;
   next = omega (arith, done.0.next, done.0.appended);
   appended = omega (arith, done.0.appended);
+  unfailing = done.0.unfailing;
+}
+step-keeps before after c new Undo is cleaned done = record {
+  mountable = cleans_mountable after new cleaned;
+  array = done.0.array;
+  moves = only-without (drive_logs before.drive) (drive_logs after.drive) done.0.destination.zone (omega (arith, filling-in_range before.drive before.tables done.0.destination.zone is.0 (second-filling before.tables.roles (Destination done.0.destination) done.0.second), zone-logs before.drive)) done.0.logs;
+  size = sym (length-map after.tables.map.places trims) ∙ ap length done.0.trimmed ∙ length-map before.tables.map.places trims;
+  trimmed = done.0.trimmed;
+  given = done.0.given;
+  geometry = done.0.geometry;
+  refused = done.0.refused;
+  durable = done.0.durable;
+  next = omega (arith, done.0.next, done.0.appended);
+  appended = omega (arith, done.0.appended);
+  unfailing = done.0.unfailing;
 }
 
 -- ---- a step that is not done
+
+-- after a command that failed the array is the same
+pub failed-kept : (before after : MountedView) (step : Step) → StepFails step faults.Failed before after → KeepsArray before after × IsFalse after.drive.unfailing
+failed-kept before after (Gather block place) fails = (fails.0, fails.2)
+failed-kept before after Move fails = (fails.0, fails.2)
+failed-kept before after Reset fails = (fails.0, fails.2)
+failed-kept before after Undo fails = (fails.0, fails.2)
+
+failed-turns : (before after : MountedView) (c : CleanView) (most : ℕ) (step : Step) → StepFails step faults.Failed before after → turns_left most after.tables (Some c) ≡ turns_left most before.tables (Some c)
+failed-turns before after c most (Gather block place) fails = rw fails.1 refl
+failed-turns before after c most Move fails = close-turns before after.tables most (Some c) fails.1
+failed-turns before after c most Reset fails = close-turns before after.tables most (Some c) fails.1
+failed-turns before after c most Undo fails = close-turns before after.tables most (Some c) fails.1
 
 keeps-kept : (before after : MountedView) (c : CleanView) → AgreesWithClean before (Some c) → KeepsArray before after → AgreesWithClean after (Some c) × KeepsByCleaning before after
 keeps-kept before after c is kept =
@@ -150,10 +193,14 @@ spent-move : (before after : MountedView) (step : Step) → StepFails step fault
 spent-move before after (Gather block place) fails = absurd fails
 spent-move before after Move fails = fails
 spent-move before after Reset fails = absurd fails
+spent-move before after Undo fails = absurd fails
 
 fails_give : (before after : MountedView) (c : CleanView) (new : Option CleanView) (step : Step) (fault : CleanFault) → AgreesWithClean before (Some c) → StepFails step fault before after → new ≡ Some c → CleaningLeaves before (Err fault) after new
 fails_give before after c new step faults.OutOfMemory is fails same = let kept = keeps-kept before after c is fails.0 in rw same (record { goes_on = kept.0; keeps = kept.1; cause = tt })
-fails_give before after c new step faults.Failed is fails same = let kept = keeps-kept before after c is fails.0 in rw same (record { goes_on = kept.0; keeps = kept.1; cause = fails.2 })
+fails_give before after c new step faults.Failed is fails same =
+    let parts = failed-kept before after step fails in
+    let kept = keeps-kept before after c is parts.0 in
+    rw same (record { goes_on = kept.0; keeps = kept.1; cause = parts.1 })
 fails_give before after c new step faults.Stopped is fails same =
     let but = close-keeps before after.tables fails.tables in
     record {
@@ -170,12 +217,13 @@ fails_give before after c new step faults.Stopped is fails same =
         durable = fails.durable;
         next = omega (arith, but.next, fails.appended);
         appended = omega (arith, fails.appended);
+        unfailing = fails.unfailing;
       };
       cause = fails.stopped;
     }
 fails_give before after c new step faults.Spent is fails same = let spent = spent-move before after step fails in rw (same, spent.0) (record {
   goes_on = is;
-  keeps = record { mountable = cleans_mountable before (Some c) is; array = refl; moves = only-same (drive_logs before.drive) (drive_logs before.drive) refl; size = refl; trimmed = refl; given = refl; geometry = refl; refused = refl; durable = refl; next = refl; appended = omega arith };
+  keeps = record { mountable = cleans_mountable before (Some c) is; array = refl; moves = only-same (drive_logs before.drive) (drive_logs before.drive) refl; size = refl; trimmed = refl; given = refl; geometry = refl; refused = refl; durable = refl; next = refl; appended = omega arith; unfailing = λ up. up };
   cause = spent.1;
 })
 fails_give before after c new step faults.Damaged is fails same = absurd fails
@@ -190,7 +238,7 @@ step_gives before after c new (Err fault) is leaves = fails_give before after c 
 
 fails-turns : (before after : MountedView) (c : CleanView) (most : ℕ) (step : Step) (fault : CleanFault) → StepFails step fault before after → turns_left most after.tables (Some c) ≡ turns_left most before.tables (Some c)
 fails-turns before after c most step faults.OutOfMemory fails = close-turns before after.tables most (Some c) fails.1
-fails-turns before after c most step faults.Failed fails = close-turns before after.tables most (Some c) fails.1
+fails-turns before after c most step faults.Failed fails = failed-turns before after c most step fails
 fails-turns before after c most step faults.Stopped fails = close-turns before after.tables most (Some c) fails.tables
 fails-turns before after c most step faults.Spent fails = rw (spent-move before after step fails).0 refl
 fails-turns before after c most step faults.Damaged fails = absurd fails
@@ -230,6 +278,7 @@ turn_gives before after None new (Ok done) is leaves =
         durable = rw leaves.0 refl;
         next = omega (arith, started.3, ap (λ (d : DriveState). d.appended) leaves.0);
         appended = omega (arith, ap (λ (d : DriveState). d.appended) leaves.0);
+        unfailing = λ up. rw leaves.0 at up;
       };
       cause = tt;
     }
@@ -248,7 +297,7 @@ turns_fewer before after None new is leaves = record { fewer = λ some. absurd (
 
 -- the same before any turn
 pub keeps-none : (disk : MountedView) (clean : Option CleanView) → AgreesWithClean disk clean → KeepsByCleaning disk disk
-keeps-none disk clean is = record { mountable = cleans_mountable disk clean is; array = refl; moves = only-same (drive_logs disk.drive) (drive_logs disk.drive) refl; size = refl; trimmed = refl; given = refl; geometry = refl; refused = refl; durable = refl; next = refl; appended = omega arith }
+keeps-none disk clean is = record { mountable = cleans_mountable disk clean is; array = refl; moves = only-same (drive_logs disk.drive) (drive_logs disk.drive) refl; size = refl; trimmed = refl; given = refl; geometry = refl; refused = refl; durable = refl; next = refl; appended = omega arith; unfailing = λ up. up }
 
 -- what two turns keep
 pub keeps-more : (a b c : MountedView) → KeepsByCleaning a b → KeepsByCleaning b c → KeepsByCleaning a c
@@ -264,6 +313,7 @@ keeps-more a b c p q = record {
   durable = q.durable ∙ p.durable;
   next = omega (arith, p.next, q.next);
   appended = omega (arith, p.appended, q.appended);
+  unfailing = λ up. p.unfailing (q.unfailing up);
 }
 
 -- with what the zones being filled are then

@@ -1,13 +1,15 @@
 -- What the calls of the cleaner promise, whatever they answer.
-use Rattle.std.specs.Prelude.{◌≡◌, ◌+◌, ◌*◌, ◌++◌, ◌≤◌, List, [], ◌∷◌, Option, None, Result, IfErr, IsTrue, OnErr, OnOk}
+use Rattle.std.specs.Prelude.{◌≡◌, ◌+◌, ◌*◌, ◌++◌, ◌≤◌, true, List, [], ◌∷◌, Option, None, is_some, Result, Ok, IfErr, IsTrue, OnErr, OnOk}
 use Rattle.zone_choice.specs.Agreement.{MountedView}
+use Rattle.drive_array.specs.Reserve.{batch_most}
+use Rattle.zone_choice.specs.Roles.{next_of}
 use Rattle.zone_choice.specs.Sane.{IsSane, KeepsShape}
 use Rattle.zone_choice.specs.Tables.{size_of}
 use Rattle.zone_cleaner.specs.declared.fault.CleanFault.{CleanFault}
-use Rattle.zone_cleaner.specs.Clean.{CleanView, turns_of}
+use Rattle.zone_cleaner.specs.Clean.{CleanView, turns_due, turns_left}
 use Rattle.zone_cleaner.specs.LiveRecords.{LiveRecord}
 use Rattle.zone_cleaner.specs.Reading.{AddsRecord, IsGatherFault, OnlyAsks, OnlyReads}
-use Rattle.zone_cleaner.specs.Start.{CleanDone, CleanLeaves, CleaningLeaves, EndLeaves}
+use Rattle.zone_cleaner.specs.Start.{AgreesWithClean, CleanLeaves, CleaningLeaves, KeepsByCleaning}
 use Rattle.zone_cleaner.specs.Start.{HasNextZone, KeepsTurns, TurnDone, TurnLeaves}
 
 -- What holds whatever the Reads returned: the shape and the size are the same, the numbers stay in range, and where there
@@ -44,20 +46,34 @@ pub record TurnAnswers (before : MountedView) (old : Option CleanView) (result :
   pub refused : OnErr result (KeepsTurns before after old new)
   pub completed : after.drive.completed ≤ before.drive.completed + 2
 
--- All turns that are left of a clean.
-pub record EndAnswers (before : MountedView) (old : Option CleanView) (result : Result (Unit {0}) CleanFault)
-    (after : MountedView) (new : Option CleanView) : Type 0 where
-  -- it takes turns, and does nothing else
-  pub leaves : EndLeaves before old result after new
-  pub cleaning : CleaningLeaves before result after new
-  pub done : OnOk result (CleanDone before after old new)
-  pub completed : after.drive.completed ≤ before.drive.completed + 2 * turns_of before old
+-- A clean runs, or one was started if it was due: no command was sent. While all data could be read, one runs then.
+pub record Readies (before : MountedView) (old : Option CleanView) (after : MountedView) (new : Option CleanView) : Type 0 where
+  pub leaves : CleanLeaves before old (Ok tt) after new
+  pub agrees : AgreesWithClean after new
+  pub keeps : KeepsByCleaning before after
+  pub lost : after.tables.unreadable ≡ before.tables.unreadable
+  pub turns : before.tables.unreadable ≡ [] → is_some new ≡ true
+      → turns_left (batch_most before.drive.geometry) after.tables new ≤ turns_due before old
+  pub runs : before.tables.unreadable ≡ [] → is_some new ≡ true
 
--- A whole clean, of a disk that lacks zones: the one that runs, or one that is started.
+-- After a turn of a clean that runs or was started: while all data could be read, fewer turns are left than before, or than
+-- a zone has blocks; or the clean has ended, and there is a next zone.
+pub record PassDone (before after : MountedView) (old new : Option CleanView) : Type 0 where
+  pub lost : after.tables.unreadable ≡ [] → before.tables.unreadable ≡ []
+  pub turns : after.tables.unreadable ≡ [] → is_some new ≡ true
+      → turns_left (batch_most before.drive.geometry) after.tables new + 1 ≤ turns_due before old
+  pub next : after.tables.unreadable ≡ [] → new ≡ None → is_some (next_of after.tables.roles.second) ≡ true
+
+pub record PassAnswers (before : MountedView) (old : Option CleanView) (result : Result (Unit {0}) CleanFault)
+    (after : MountedView) (new : Option CleanView) : Type 0 where
+  pub leaves : CleanLeaves before old result after new
+  pub cleaning : CleaningLeaves before result after new
+  pub done : OnOk result (PassDone before after old new)
+
+-- Cleaning until there is a next zone, of a disk that lacks zones.
 pub record CleanAnswers (before : MountedView) (old : Option CleanView)
     (result : Result (Unit {0}) CleanFault) (after : MountedView) (new : Option CleanView) : Type 0 where
-  -- it takes turns, after the start of a clean if none runs
+  -- it takes turns, and does nothing else
   pub leaves : CleanLeaves before old result after new
   pub cleaning : CleaningLeaves before result after new
   pub done : OnOk result (HasNextZone after new)
-  pub completed : after.drive.completed + 2 ≤ before.drive.completed + 2 * before.drive.geometry.capacity

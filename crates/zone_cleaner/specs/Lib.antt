@@ -2,6 +2,7 @@ pub mod LiveRecords
 pub mod Gathered
 pub mod Clean
 pub mod Turns
+pub mod Undoing
 pub mod Moving
 pub mod Reading
 pub mod Start

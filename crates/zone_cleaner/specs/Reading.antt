@@ -18,6 +18,12 @@ pub record OnlyAsks (before after : MountedView) : Type 0 where
   pub tables : after.tables ≡ before.tables
   pub completed : after.drive.completed ≤ before.drive.completed + 1
 
+-- The same, but that data which could not be read may be noted.
+pub record AsksAndNotes (before after : MountedView) : Type 0 where
+  pub shape : KeepsShape before.drive after.drive
+  pub tables : after.tables ≡ record before.tables { unreadable = after.tables.unreadable }
+  pub completed : after.drive.completed ≤ before.drive.completed + 1
+
 -- a block of that many bytes comes after these
 abbrev pub AddsBlock : ℕ → List ℕ → List ℕ → Type 0
 AddsBlock block_bytes old new = (bytes : List ℕ) × (new ≡ old ++ bytes) × (length bytes ≡ block_bytes)

@@ -1,20 +1,19 @@
 -- When a clean starts, and what a turn and a whole clean leave.
-use Rattle.std.specs.Prelude.{◌≡◌, ℕ, zero, suc, ◌+◌, ◌≤◌, ◌<◌, Bool, true, false, IsFalse, map, Option, Some, None, is_some, Result, Ok, Err, IfErr}
+use Rattle.std.specs.Prelude.{◌≡◌, ℕ, zero, suc, ◌+◌, ◌≤◌, ◌<◌, ◌⊎◌, Bool, true, false, IsFalse, IsTrue, List, [], ◌∷◌, map, Option, Some, None, is_some, Result, Ok, Err, IfErr}
 use Rattle.zone_states.specs.declared.geometry.Geometry.{Geometry}
 use Rattle.drive_port.specs.Drive.{DriveState}
 use Rattle.logical_map.specs.Live.{live}
-use Rattle.logical_map.specs.declared.place.Place.{Place}
-use Rattle.logical_map.specs.declared.place.Place.TheVariants as places
 use Rattle.zone_choice.specs.Agreement.{Agrees, MountedView, mounted_array}
 use Rattle.drive_array.specs.ZoneLogs.{drive_logs}
 use Rattle.zone_choice.specs.Changes.{sequence_end}
 use Rattle.drive_array.specs.Mountable.{IsMountable}
 use Rattle.drive_array.specs.Reserve.{batch_most, move_blocks}
 use Rattle.zone_choice.specs.Roles.{IsLowestEmpty, RolesView, empty_count, next_of, with_destination}
-use Rattle.zone_choice.specs.Tables.{IsLeastSealed, TablesView, size_of}
+use Rattle.zone_choice.specs.declared.unreadable.Unreadable.{Unreadable}
+use Rattle.zone_choice.specs.Tables.{IsLeastSealed, TablesView, is_left_out, size_of}
 use Rattle.zone_cleaner.specs.declared.fault.CleanFault.{CleanFault}
 use Rattle.zone_cleaner.specs.declared.fault.CleanFault.TheVariants as faults
-use Rattle.zone_cleaner.specs.Clean.{CleanView, Cleans, started, turns_left, turns_of}
+use Rattle.zone_cleaner.specs.Clean.{CleanView, Cleans, started, trims, turns_left, turns_of}
 use Rattle.zone_cleaner.specs.Turns.{OnlyMoves, StepLeaves, next_step}
 
 -- A clean of this zone is due: there is no second zone, one or two zones are empty, it is the sealed zone with the
@@ -54,31 +53,59 @@ TurnLeaves before None (Ok done) after new = (after.drive ≡ before.drive) × S
 TurnLeaves before None (Err fault) after new = ⊥
 TurnLeaves before (Some clean) result after new = StepLeaves (next_step (batch_most before.drive.geometry) before.tables clean) before clean result after new
 
--- that many turns that are done, one after the other, each of a clean that runs
+-- a turn that is done, or that failed at data which it has noted
+abbrev pub IsPassed : Result (Unit {0}) CleanFault → Type 0
+IsPassed (Ok done) = Unit {0}
+IsPassed (Err faults.Failed) = Unit {0}
+IsPassed (Err fault) = ⊥
+
+-- a clean runs, or a command has failed
+abbrev pub IsOn : MountedView → Option CleanView → Type 0
+IsOn disk clean = (is_some clean ≡ true) ⊎ IsFalse disk.drive.unfailing
+
+-- that many such turns, one after the other: while no command fails, they are of a clean that runs
+abbrev pub AreMoreTurns : ℕ → MountedView → Option CleanView → MountedView → Option CleanView → Type 0
+AreMoreTurns zero before old after new = (after ≡ before) × (new ≡ old)
+AreMoreTurns (suc n) before old after new =
+    IsOn before old
+    × ((result : Result (Unit {0}) CleanFault) × IsPassed result
+    × ((middle : MountedView) × (clean : Option CleanView) × TurnLeaves before old result middle clean × AreMoreTurns n middle clean after new))
+
+-- and the first of them may start it
 abbrev pub AreTurns : ℕ → MountedView → Option CleanView → MountedView → Option CleanView → Type 0
 AreTurns zero before old after new = (after ≡ before) × (new ≡ old)
 AreTurns (suc n) before old after new =
-    (is_some old ≡ true)
-    × ((middle : MountedView) × (clean : Option CleanView) × TurnLeaves before old (Ok tt) middle clean × AreTurns n middle clean after new)
+    (result : Result (Unit {0}) CleanFault) × IsPassed result
+    × ((middle : MountedView) × (clean : Option CleanView) × TurnLeaves before old result middle clean × AreMoreTurns n middle clean after new)
 
--- turns that are done, and then one that is not
-pub record EndsBy (before : MountedView) (old : Option CleanView) (fault : CleanFault) (after : MountedView) (new : Option CleanView) : Type 0 where
-  pub turns : ℕ
-  pub middle : MountedView
-  pub clean : Option CleanView
-  pub done : AreTurns turns before old middle clean
-  pub refused : TurnLeaves middle clean (Err fault) after new
+-- the clean that runs, if one does, is to be undone
+abbrev pub is_given_up : TablesView → Option CleanView → Bool
+is_given_up tables None = false
+is_given_up tables (Some clean) = is_left_out tables clean.victim
 
--- what is left where a clean that runs is run to its end, by the answer: only turns were taken
-abbrev pub EndLeaves : MountedView → Option CleanView → Result (Unit {0}) CleanFault → MountedView → Option CleanView → Type 0
-EndLeaves before old (Ok done) after new = (new ≡ None) × ((n : ℕ) × AreTurns n before old after new)
-EndLeaves before old (Err fault) after new = EndsBy before old fault after new
+-- why a clean has not ended, by what could not be read: while all can be, each clean ends
+abbrev pub why_unfinished : List Unreadable → CleanFault
+why_unfinished [] = faults.Damaged
+why_unfinished (lost ∷ more) = faults.Failed
 
--- if none runs, a turn starts the one that is due
+abbrev pub unfinished : TablesView → CleanFault
+unfinished tables = why_unfinished tables.unreadable
+
+-- the drive is the same, and the tables but for what they note as unreadable
+pub record SameButLost (before after : MountedView) : Type 0 where
+  pub drive : after.drive ≡ before.drive
+  pub tables : after.tables ≡ record before.tables { unreadable = after.tables.unreadable }
+
+-- no turn more is taken: one was refused, or no zone is left to clean, or it has taken as many turns as one clean has
+abbrev pub EndsBy : CleanFault → MountedView → Option CleanView → MountedView → Option CleanView → Type 0
+EndsBy faults.Failed before old after new = TurnLeaves before old (Err faults.Failed) after new ⊎ SameButLost before after × (new ≡ old)
+EndsBy fault before old after new = TurnLeaves before old (Err fault) after new
+
+-- what is left where turns are taken until there is a next zone, by the answer: turns were taken, and nothing else
 abbrev pub CleanLeaves : MountedView → Option CleanView → Result (Unit {0}) CleanFault → MountedView → Option CleanView → Type 0
-CleanLeaves before None result after new =
-    (middle : MountedView) × (clean : Option CleanView) × TurnLeaves before None (Ok tt) middle clean × EndLeaves middle clean result after new
-CleanLeaves before (Some clean) result after new = EndLeaves before (Some clean) result after new
+CleanLeaves before old (Ok done) after new = (n : ℕ) × AreTurns n before old after new
+CleanLeaves before old (Err fault) after new =
+    (n : ℕ) × (middle : MountedView) × (clean : Option CleanView) × AreTurns n before old middle clean × EndsBy fault middle clean after new
 
 -- tables and drive agree with each other, and with the clean that runs, if one does
 abbrev pub AgreesWithClean : MountedView → Option CleanView → Type 0
@@ -97,12 +124,6 @@ IsCleaningCause drive next faults.Stopped = drive.stopped ≡ true
 IsCleaningCause drive next faults.Spent = sequence_end drive.geometry ≤ next
 IsCleaningCause drive next faults.Damaged = ⊥
 
--- whether the newest record of a block is a trim, by its place
-abbrev pub trims : Place → Option Bool
-trims places.None = None
-trims (places.Trimmed address) = Some true
-trims (places.At address) = Some false
-
 -- What every turn keeps, whatever it answers: a drive that can be mounted, with the same array, in which a block that is
 -- trimmed stays so. Only Moves are written; no command is refused, and the next sequence rises by one with each batch
 -- that is appended.
@@ -118,17 +139,18 @@ pub record KeepsByCleaning (before after : MountedView) : Type 0 where
   pub durable : after.drive.durable ≡ before.drive.durable
   pub next : after.tables.next + before.drive.appended ≡ before.tables.next + after.drive.appended
   pub appended : before.drive.appended ≤ after.drive.appended
+  pub unfailing : IsTrue after.drive.unfailing → IsTrue before.drive.unfailing
 
 -- After a turn that is done, a clean that ran has fewer turns left; and one that has begun fewer than the capacity.
 pub record TurnsFewer (before after : MountedView) (old new : Option CleanView) : Type 0 where
   pub fewer : is_some old ≡ true → turns_left (batch_most before.drive.geometry) after.tables new < turns_of before old
   pub bound : is_some old ≡ false → turns_left (batch_most before.drive.geometry) after.tables new + 1 ≤ before.drive.geometry.capacity
 
--- What turns that are done leave of the zones being filled: where there was no host zone there is none; and a clean that
--- ran and has ended leaves the next zone.
+-- What a turn that is done leaves of the zones being filled: where there was no host zone there is none; and a clean that
+-- ran and has ended leaves the next zone, unless data of its victim could not be read.
 pub record LeavesNextZone (before after : MountedView) (old new : Option CleanView) : Type 0 where
   pub host : before.tables.roles.host ≡ None → after.tables.roles.host ≡ None
-  pub next : is_some old ≡ true → new ≡ None → is_some (next_of after.tables.roles.second) ≡ true
+  pub next : before.tables.unreadable ≡ [] → is_some old ≡ true → new ≡ None → is_some (next_of after.tables.roles.second) ≡ true
 
 -- What turns leave, one or several, whatever they answer: the clean goes on, unless the drive has stopped; what every turn keeps; and why a turn was not done.
 pub record CleaningLeaves (before : MountedView) (result : Result (Unit {0}) CleanFault) (after : MountedView) (new : Option CleanView) : Type 0 where
@@ -144,11 +166,6 @@ pub record TurnDone (before after : MountedView) (old new : Option CleanView) : 
 -- after a turn that is not done: as many are left
 abbrev pub KeepsTurns : MountedView → MountedView → Option CleanView → Option CleanView → Type 0
 KeepsTurns before after old new = turns_left (batch_most before.drive.geometry) after.tables new ≡ turns_of before old
-
--- after all turns of a clean
-pub record CleanDone (before after : MountedView) (old new : Option CleanView) : Type 0 where
-  pub ended : new ≡ None
-  pub room : LeavesNextZone before after old None
 
 -- there is neither a host zone nor a next zone, and no more than one empty zone
 pub record LacksZones (roles : RolesView) : Type 0 where

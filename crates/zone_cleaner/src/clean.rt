@@ -1,4 +1,5 @@
-ghost use Rattle.std.specs.Prelude.{◌≡◌, ◌≤◌, ◌<◌, ◌+◌, ◌^◌, List, length, map, nat_eq, IfErr, IfNone, IfSome, IsTrue, OnOk, Some, true};
+ghost use Rattle.std.specs.Prelude.{◌≡◌, ◌≢◌, ◌⊎◌, ◌≤◌, ◌<◌, ◌+◌, ◌++◌, ◌^◌, List, length, map, nat_eq, IfErr, IfNone, IfSome};
+ghost use Rattle.std.specs.Prelude.{IsTrue, OnErr, OnOk, Some, true};
 ghost use Rattle.std.specs.List.{AllByRecursion, IsDistinct, list_all};
 ghost use Rattle.zone_states.specs.Geometry.{IsInRange};
 ghost use Rattle.zone_choice.specs.Roles.{AreApart, is_sealed_at};
@@ -6,17 +7,22 @@ ghost use Rattle.zone_choice.specs.Sane.{IsSane};
 ghost use Rattle.zone_cleaner.specs.Answering.{StaysSane};
 ghost use Rattle.zone_cleaner.specs.Clean.{HasRoomForMove, forgotten, destination_written, has_place, is_placed, started};
 ghost use Rattle.zone_cleaner.specs.LiveRecords.{LiveRecord};
-ghost use Rattle.zone_cleaner.specs.Reading.{OnlyAsks};
-ghost use Rattle.zone_cleaner.specs.Turns.{EmptiesVictim, IsAtStep, StepFails, StepLeaves, last_step, step_due};
+ghost use Rattle.zone_cleaner.specs.Reading.{AsksAndNotes};
+ghost use Rattle.zone_choice.specs.Tables.{size_of};
+ghost use Rattle.zone_cleaner.specs.Turns.{EmptiesVictim, IsAtStep, NotesLost, StepFails, StepLeaves, UndoesClean, last_step};
+ghost use Rattle.zone_cleaner.specs.Turns.{step_due};
+ghost use Rattle.zone_cleaner.specs.Undoing.{entry_moved};
 
 use crate::fault::CleanFault;
 use crate::gathered::{Gathered, MoveHeader, command_fault};
+use crate::moved::{Moved, address_of, note_places, put_back};
 use crate::step::Step;
 use batch_log::Entry;
 use drive_port::{Device, Geometry, reset};
 use logical_map::Place;
+use std::alloc::Global;
 use std::marker::Model;
-use zone_choice::{Filling, Mounted, Second, Tables, append_batch, batch_most};
+use zone_choice::{BatchBuilder, Filling, Mounted, Second, Tables, append_batch, batch_most};
 
 /// A clean that runs. It moves the live records of one zone, the victim, to another, and then
 /// empties the victim.
@@ -26,6 +32,8 @@ pub struct Clean {
     /// The first block that was not looked at yet.
     cursor: u32,
     gathered: Gathered,
+    /// What was moved so far.
+    moved: Vec<Moved>,
 }
 
 impl Model for Clean {
@@ -35,7 +43,12 @@ impl Model for Clean {
 
     ghost Value = { CleanView };
 
-    ghost view = { λ c. record { victim = c.victim; cursor = c.cursor; gathered = c.gathered.records } };
+    ghost view = { λ c. record {
+      victim = c.victim;
+      cursor = c.cursor;
+      gathered = c.gathered.records;
+      moved = c.moved.items;
+    } };
 
     ghost invariant = { λ c. AllByRecursion (λ r. r.block < c.cursor) c.gathered.records };
 }
@@ -43,7 +56,7 @@ impl Model for Clean {
 impl Clean {
     /// A new clean of a victim. It drops the records in `gathered`, and uses their memory. Nothing
     /// is allocated.
-    pub(crate) fn new(victim: u32, mut gathered: Gathered) -> Clean
+    pub(crate) fn new(alloc: Global, victim: u32, mut gathered: Gathered) -> Clean
         ensures { result ≡ started victim }
     {
         gathered.clear();
@@ -51,6 +64,7 @@ impl Clean {
             victim,
             cursor: 0,
             gathered,
+            moved: Vec::new(alloc),
         }
     }
 
@@ -87,11 +101,12 @@ impl Clean {
         requires at { IsTrue disk.old.drive.clean → IsAtStep (Step.Gather block place) disk.old self.old }
         ensures leaves { IsTrue disk.new.drive.clean
             → StepLeaves (Step.Gather block place) disk.old self.old result disk.new (Some self.new) }
-        // Whatever the Read returned, the tables are the same. It completes one command at most.
-        ensures asks { OnlyAsks disk.old disk.new }
+        // Whatever the Read returned, the tables are the same, but that they note what could not be read. It completes
+        // one command at most.
+        ensures asks { AsksAndNotes disk.old disk.new }
     {
         if let Err(fault) = self.gathered.gather(disk, block, place) {
-            return Err(fault);
+            return Err(note_lost(&mut disk.tables, block, place, fault));
         }
         self.cursor = block + 1;
         Ok(())
@@ -149,15 +164,19 @@ impl Clean {
         disk.tables
             .reserve_moves(destination.zone, self.gathered.len() as u32)?;
         let batch = self.gathered.batch();
-        if !have_places(&disk.tables, batch.entries()) {
-            return Err(CleanFault::Damaged);
+        let before = self.moved.len();
+        if let Err(fault) = note_move(&disk.tables, batch.entries(), &mut self.moved) {
+            return Err(fault);
         }
         match append_batch(disk, destination.zone, batch) {
             Ok(()) => {
                 self.gathered.clear();
                 Ok(())
             }
-            Err(fault) => Err(command_fault(fault)),
+            Err(fault) => {
+                self.moved.truncate(before);
+                Err(command_fault(fault))
+            }
         }
     }
 
@@ -185,6 +204,32 @@ impl Clean {
         Ok(())
     }
 
+    /// Gives the clean up: its destination is emptied, and each block that was moved there has its old place again.
+    /// Nothing is allocated but for the Reset.
+    pub(crate) fn undo<D: Device>(&self, disk: &mut Mounted<D>) -> Result<(), CleanFault>
+        // The numbers of the disk are in range. While the drive is clean, this step is due.
+        requires sane { IsSane disk.old }
+        requires at { IsTrue disk.old.drive.clean → IsAtStep Step.Undo disk.old self.now }
+        // Then the array never changes. Done, the destination is empty.
+        ensures ok { IsTrue disk.new.drive.clean → OnOk result (UndoesClean disk.old disk.new) }
+        ensures err { IsTrue disk.new.drive.clean
+            → IfErr result (λ fault. StepFails Step.Undo fault disk.old disk.new) }
+        // Whatever the Reads returned, the numbers stay in range. It completes one command at most.
+        ensures stays { StaysSane disk.old disk.new }
+        ensures completed { disk.new.drive.completed ≤ disk.old.drive.completed + 1 }
+    {
+        let Some(destination) = disk.tables.destination() else {
+            return Err(CleanFault::Damaged);
+        };
+        let start = disk.geometry().start_of(destination.zone);
+        if let Err(fault) = reset(disk.alloc, &mut disk.device, start) {
+            return Err(command_fault(fault));
+        }
+        put_back(&mut disk.tables, destination.zone, self.moved.as_slice());
+        disk.tables.undo_clean();
+        Ok(())
+    }
+
     /// What the clean does next.
     pub(crate) fn next_step<D: Device>(&self, disk: &mut Mounted<D>) -> Step
         // The geometry is in range, and the victim is one of the zones.
@@ -194,6 +239,9 @@ impl Clean {
         ensures step { result ≡ step_due disk.old self.now }
         ensures kept { disk.new ≡ disk.old }
     {
+        if disk.tables.is_left_out(self.victim) {
+            return Step::Undo;
+        }
         if self.gathered.len() >= batch_most(&disk.geometry()) as usize {
             return Step::Move;
         }
@@ -202,6 +250,47 @@ impl Clean {
         }
         last_step(disk.tables.second(), self.gathered.len())
     }
+}
+
+/// Why the record of a block was not gathered. If a command failed, that its data could not be read is noted before.
+fn note_lost(tables: &mut Tables, block: u32, place: Place, fault: CleanFault) -> CleanFault
+    ensures failed { result ≡ CleanFault.Failed → NotesLost block place tables.old tables.new }
+    ensures other { result ≢ CleanFault.Failed → tables.new ≡ tables.old }
+    // It is another fault only out of memory, or if the block is not the disk's.
+    ensures fault { block < size_of tables.old
+        → (result ≡ fault) ⊎ (result ≡ CleanFault.OutOfMemory) }
+{
+    if fault != CleanFault::Failed {
+        return fault;
+    }
+    if block >= tables.blocks() {
+        return CleanFault::Damaged;
+    }
+    match tables.leave_out(block, address_of(place)) {
+        Ok(()) => CleanFault::Failed,
+        Err(_) => CleanFault::OutOfMemory,
+    }
+}
+
+/// Notes where the blocks of a Move are, each of which has a place while the drive is clean. Refused, nothing is noted.
+fn note_move(tables: &Tables, entries: &[Entry], moved: &mut Vec<Moved>) -> Result<(), CleanFault>
+    requires { size_of tables.now ≤ 2 ^ 31 }
+    ensures ok { OnOk result
+        (moved.new.items ≡ moved.old.items ++ map (entry_moved tables.now.map.places) entries.now) }
+    ensures placed { OnOk result (list_all (λ e. has_place tables.now e.block) entries.now ≡ true) }
+    ensures err { OnErr result (moved.new.items ≡ moved.old.items) }
+    ensures fault { list_all (λ e. has_place tables.now e.block) entries.now ≡ true
+        → IfErr result (λ fault. fault ≡ CleanFault.OutOfMemory) }
+{
+    if !have_places(tables, entries) {
+        return Err(CleanFault::Damaged);
+    }
+    let before = moved.len();
+    if note_places(tables, entries, moved).is_err() {
+        moved.truncate(before);
+        return Err(CleanFault::OutOfMemory);
+    }
+    Ok(())
 }
 
 fn is_placed(place: Place) -> bool

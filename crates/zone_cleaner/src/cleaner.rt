@@ -1,13 +1,14 @@
-ghost use Rattle.std.specs.Prelude.{◌≡◌, ◌≤◌, ◌<◌, ◌+◌, ◌*◌, ◌^◌, IsTrue, None, Some, is_some, length};
+ghost use Rattle.std.specs.Prelude.{◌≡◌, ◌≤◌, ◌<◌, ◌+◌, ◌*◌, ◌^◌, IsTrue, Err, None, Some, [], is_some, length, true};
 ghost use Rattle.std.specs.List.{AllByRecursion};
 ghost use Rattle.std.specs.Option.{option_map};
 ghost use Rattle.zone_choice.specs.Builder.{IsBuilt};
 ghost use Rattle.zone_choice.specs.Changes.{CanPlace, built_for};
 ghost use Rattle.zone_choice.specs.Sane.{ByHalt, IsSane, KeepsShape, MayPlace, TablesAfter};
-ghost use Rattle.zone_cleaner.specs.Answering.{CleanAnswers, EndAnswers, StaysSane, TurnAnswers};
+ghost use Rattle.zone_cleaner.specs.Answering.{CleanAnswers, PassAnswers, Readies, StaysSane, TurnAnswers};
 ghost use Rattle.zone_cleaner.specs.Clean.{forgotten, started};
 ghost use Rattle.zone_cleaner.specs.Host.{HostLeaves};
-ghost use Rattle.zone_cleaner.specs.Start.{AgreesWithClean, FindsDue, LacksZones, TurnLeaves};
+ghost use Rattle.zone_choice.specs.Roles.{next_of};
+ghost use Rattle.zone_cleaner.specs.Start.{AgreesWithClean, FindsDue, LacksZones, TurnLeaves, is_given_up, unfinished};
 ghost use Rattle.zone_states.specs.Geometry.{IsInRange};
 
 use crate::clean::Clean;
@@ -19,7 +20,7 @@ use drive_port::{Device, Geometry, PortFault};
 use std::alloc::Global;
 use std::marker::Model;
 use std::mem::replace;
-use zone_choice::{BatchBuilder, Filling, Mounted, Tables, append_batch, fill};
+use zone_choice::{BatchBuilder, Filling, Mounted, Second, Tables, append_batch, fill};
 
 /// Cleans the zones of a drive one after the other, in turns. The host's commands may come between
 /// them.
@@ -154,7 +155,7 @@ impl Cleaner {
         ensures { self.new ≡ Some (started victim) }
     {
         let gathered = replace(&mut self.gathered, Gathered::new(alloc));
-        self.clean = Some(Clean::new(victim, gathered));
+        self.clean = Some(Clean::new(alloc, victim, gathered));
     }
 
     /// Ends the clean that runs, if one does, and keeps its memory.
@@ -190,6 +191,11 @@ impl Cleaner {
                 self.end();
                 Ok(())
             }
+            Step::Undo => {
+                clean.undo(disk)?;
+                self.end();
+                Ok(())
+            }
         }
     }
 
@@ -211,36 +217,62 @@ impl Cleaner {
         self.step(disk)
     }
 
-    /// Takes turns until the clean that runs has ended. Each completes two commands at most. Then the destination is
-    /// the next zone, and has two free blocks.
-    pub fn run_to_end<D: Device>(&mut self, disk: &mut Mounted<D>) -> Result<(), CleanFault>
+    /// Starts the clean that is due, if none runs. Whether one runs then.
+    fn readies<D: Device>(&mut self, disk: &mut Mounted<D>) -> bool
         requires sane { IsSane disk.old }
         requires cleaned { IsTrue disk.old.drive.clean → AgreesWithClean disk.old self.old }
-        ensures answers { IsTrue disk.new.drive.clean
-            → EndAnswers disk.old self.old result disk.new self.new }
-        // Whatever the Reads returned, the numbers stay in range, and it ends.
+        requires lacks { IsTrue disk.old.drive.clean → self.old ≡ None → disk.old.tables.unreadable ≡ []
+            → LacksZones disk.old.tables.roles }
+        ensures ready { IsTrue disk.new.drive.clean → Readies disk.old self.old disk.new self.new }
+        ensures runs { result ≡ is_some self.new }
         ensures stays { StaysSane disk.old disk.new }
-        ensures completed { disk.new.drive.completed + 2
-            ≤ disk.old.drive.completed + 2 * disk.old.drive.geometry.capacity }
+        ensures drive { disk.new.drive ≡ disk.old.drive }
     {
-        // A clean has fewer turns than a zone has blocks.
-        for _ in 1..disk.geometry().capacity {
-            if !self.running() {
-                return Ok(());
-            }
-            if let Err(fault) = self.turn(disk) {
-                return Err(fault);
-            }
+        if !self.running() {
+            self.start(disk);
         }
-        if self.running() {
-            return Err(CleanFault::Damaged);
+        self.running()
+    }
+
+    /// Takes one turn of a clean, the one that runs or one that is started. That data cannot be read counts as a turn
+    /// that is done, since the next one takes another zone.
+    fn go_on<D: Device>(&mut self, disk: &mut Mounted<D>) -> Result<(), CleanFault>
+        requires sane { IsSane disk.old }
+        requires cleaned { IsTrue disk.old.drive.clean → AgreesWithClean disk.old self.old }
+        // While all data could be read, a clean is started only where zones lack.
+        requires lacks { IsTrue disk.old.drive.clean → self.old ≡ None → disk.old.tables.unreadable ≡ []
+            → LacksZones disk.old.tables.roles }
+        ensures answers { IsTrue disk.new.drive.clean
+            → PassAnswers disk.old self.old result disk.new self.new }
+        ensures stays { StaysSane disk.old disk.new }
+        ensures completed { disk.new.drive.completed ≤ disk.old.drive.completed + 2 }
+    {
+        if !self.readies(disk) {
+            return Err(none_to_clean(&mut disk.tables));
         }
-        Ok(())
+        let result = self.turn(disk);
+        if has_failed(result) && self.is_given_up(&disk.tables) {
+            return Ok(());
+        }
+        result
+    }
+
+    /// Whether the clean that runs, if one does, is to be undone.
+    fn is_given_up(&self, tables: &Tables) -> bool
+        ensures { result ≡ is_given_up tables.now self.now }
+    {
+        match &self.clean {
+            Some(clean) => tables.is_left_out(clean.victim()),
+            None => false,
+        }
     }
 
     /// Makes room at once, for a disk that has no host zone, no next zone, and at most one empty
     /// zone. The clean that runs is run to its end. If none runs, one is started before.
     /// Afterwards there is a next zone with two free blocks.
+    ///
+    /// If data of a zone cannot be read, another zone is cleaned. It answers `Failed` if there is none, or if no more
+    /// turns are left than one clean has: the next call goes on.
     pub fn clean_zone<D: Device>(&mut self, disk: &mut Mounted<D>) -> Result<(), CleanFault>
         requires sane { IsSane disk.old }
         requires lacks { LacksZones disk.old.tables.roles }
@@ -251,10 +283,55 @@ impl Cleaner {
         ensures completed { disk.new.drive.completed + 2
             ≤ disk.old.drive.completed + 2 * disk.old.drive.geometry.capacity }
     {
-        if self.running() {
-            return self.run_to_end(disk);
+        // A clean has fewer turns than a zone has blocks.
+        for _ in 1..disk.geometry().capacity {
+            if let Err(fault) = self.go_on(disk) {
+                return Err(fault);
+            }
+            if has_next(&disk.tables) {
+                return Ok(());
+            }
         }
-        self.start(disk);
-        self.run_to_end(disk)
+        Err(unfinished(&disk.tables))
     }
+}
+
+/// Whether a turn ended since a command failed.
+fn has_failed(turn: Result<(), CleanFault>) -> bool
+    ensures { result ≡ true → turn ≡ Err CleanFault.Failed }
+{
+    match turn {
+        Err(fault) => fault == CleanFault::Failed,
+        Ok(()) => false,
+    }
+}
+
+/// Whether there is a next zone.
+fn has_next(tables: &Tables) -> bool
+    ensures { result ≡ is_some (next_of tables.now.roles.second) }
+{
+    match tables.second() {
+        Some(Second::Next(_)) => true,
+        _ => false,
+    }
+}
+
+/// Why no clean was started. If zones are left out, they are tried again from now on.
+fn none_to_clean(tables: &mut Tables) -> CleanFault
+    ensures lost { tables.new ≡ record tables.old { unreadable = [] } }
+    ensures fault { result ≡ unfinished tables.old }
+{
+    let fault = unfinished(tables);
+    tables.leave_none_out();
+    fault
+}
+
+/// Why a clean has not ended: data could not be read. While all can be, each clean ends.
+fn unfinished(tables: &Tables) -> CleanFault
+    ensures { result ≡ unfinished tables.now }
+{
+    if tables.unreadable().is_empty() {
+        return CleanFault::Damaged;
+    }
+    CleanFault::Failed
 }

@@ -109,8 +109,8 @@ fn fetch<D: Device>(
     ensures heading { batch.new.heading ≡ batch.old.heading }
     ensures adds { OnOk result (AddsBlock disk.old.drive.geometry.block batch.old.bytes batch.new.bytes) }
     ensures failed { OnErr result (batch.new.bytes ≡ batch.old.bytes) }
-    // While the drive is clean, the contents are the same, and the bytes are the block's. Then it is refused only out of
-    // memory, or where the drive has stopped.
+    // While the drive is clean, the contents are the same, and the bytes are the block's. Then it is refused only out
+    // of memory, or where the drive has stopped.
     ensures reads { IsTrue disk.new.drive.clean → OnlyReads disk.old disk.new }
     ensures ok { IsTrue disk.new.drive.clean → OnOk result
         (batch.new.bytes ≡ batch.old.bytes ++ slice_index_or (mounted_array disk.old) block []) }

@@ -9,18 +9,21 @@
 //! cleaner.turn(&mut disk)?;                           // starts a clean, if one is due
 //! cleaner.turn(&mut disk)?;                           // gathers a record, or appends a Move, or resets the victim
 //! cleaner.append_batch(&mut disk, host, &batch)?;     // a batch of the host, during the clean
-//! cleaner.run_to_end(&mut disk)?;                     // all turns that are left
+//! cleaner.clean_zone(&mut disk)?;                     // all turns that are left, of a disk that needs room
 //! ```
 //!
 //! # What is promised
 //!
 //! Whatever the Reads of its drive return, each call ends within its bound on commands, the numbers of the disk stay in
-//! range, and its size stays (`StaysSane` in specs/Answering). Where they do not fit, it is refused by `Damaged`. All else
-//! is promised while the drive is clean, that is as long as each Read returned what the drive holds:
+//! range, and its size stays (`StaysSane` in specs/Answering). Where they do not fit, it is refused by `Damaged`. All
+//! else is promised while the drive is clean, that is as long as each Read returned what the drive holds:
 //!
 //! * A turn starts the clean that is due, of the sealed zone with the fewest live records. Or it does exactly the next
 //!   step of the running clean: it gathers a record, appends a Move, or resets the victim (`TurnLeaves` in
 //!   specs/Start). Each Move repeats what the array has; only the victim loses its records.
+//! * If a record cannot be read, that is noted, and its zone is left out (`NotesLost` in specs/Undoing). The next turn
+//!   undoes the clean: it resets the destination, and what was moved there has its old place again (`UndoesClean`).
+//!   Nothing is lost by that. Zones that are left out are no victims.
 //! * Whatever a turn answers, the drive can be mounted, encodes the same array and refuses no command
 //!   (`KeepsByCleaning`). The next sequence rises by the Appends.
 //! * Each turn that is done leaves fewer turns, so the clean ends; a refused one leaves as many (`TurnsFewer`). A turn
@@ -28,9 +31,10 @@
 //! * A batch of the host never adds a turn. Once it is appended, the clean forgets the blocks that the batch names.
 //!   After a failed allocation the clean is unchanged; after a stop the drive can be mounted (`HostLeaves` in
 //!   specs/Host).
-//! * `run_to_end` runs a clean to its end, by turns only. A disk without a host zone and a next zone, and with at most
-//!   one empty zone, cleans by `clean_zone`. It then has a next zone, after at most 2 * `capacity` - 2 commands
-//!   (`HasNextZone`). There is always a zone to clean then.
+//! * A disk without a host zone and a next zone, and with at most one empty zone, cleans by `clean_zone`. Done, it has
+//!   a next zone, after at most 2 * `capacity` - 2 commands (`HasNextZone`). While all data can be read, there is
+//!   always a zone to clean. Else it may end by `Failed`: if each zone is left out, or if these commands were not
+//!   enough.
 //! * The last turn empties the victim. The destination keeps two free blocks (`HasRoomFor` in specs/Clean).
 //!
 //! Nothing promises that anyone takes turns while no room is needed.
@@ -42,6 +46,7 @@ mod clean;
 mod cleaner;
 mod fault;
 mod gathered;
+mod moved;
 mod step;
 
 pub use cleaner::Cleaner;

@@ -9,4 +9,6 @@ pub enum Step {
     Move,
     /// The victim is emptied, and the clean ends.
     Reset,
+    /// The destination is emptied, and the clean is given up: data in the victim could not be read.
+    Undo,
 }

@@ -16,7 +16,7 @@ use Rattle.zone_choice.specs.Changes.{told_over}
 use Rattle.zone_choice.specs.Tables.{AreReserved}
 use Rattle.zone_choice.proofs.AgreementLaws.{extended-same}
 use Rattle.zone_translator.specs.Batches.{host_heading}
-use Rattle.zone_cleaner.specs.Start.{trims}
+use Rattle.zone_cleaner.specs.Clean.{trims}
 use Rattle.zone_translator.specs.Changes.{Names}
 use Rattle.zone_translator.specs.Flat.{replaced}
 use Rattle.zone_translator.proofs.FlatLaws.{replaced-none, set-replaced}

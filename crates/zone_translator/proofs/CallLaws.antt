@@ -22,7 +22,7 @@ use Rattle.zone_translator.specs.declared.status.DiskStatus.{DiskStatus}
 use Rattle.zone_translator.specs.declared.status.DiskStatus.TheVariants as statuses
 use Rattle.zone_translator.specs.Batches.{IsBatchCount}
 use Rattle.zone_translator.specs.Calls.{Reads, answer_before, is_known, status_left}
-use Rattle.zone_cleaner.specs.Start.{trims}
+use Rattle.zone_cleaner.specs.Clean.{trims}
 use Rattle.zone_translator.specs.Answers.{HasData}
 use Rattle.zone_translator.specs.Changes.{IsCause, Names}
 use Rattle.zone_translator.specs.Flat.{FlatCall, IsAfterFront, IsFront, answer_while, blocks_from, grow, idle, known_answer, known_growth, known_range, may_refuse, read, replaced, report, status_after, with_nothing, write}

@@ -1,14 +1,15 @@
 -- The clean that ran before a part of a call: it continues or ends, and only newer batches are new.
+use Rattle.drive_port.specs.Drive.{DriveState}
 use Rattle.std.proofs.Common.{◌≡◌, ◌⊎◌, ℕ, zero, suc, ◌≤◌, true, List, [], ◌∷◌, ◌++◌, length, Option, Some, None, is_some, Result, Ok, Err, refl, sym, ap, subst, ◌∙◌, inl, inr, arith, append-nil, append_assoc}
 use Rattle.std.specs.Option.{option_map}
-use Rattle.std.specs.Prelude.{OnOk}
+use Rattle.std.specs.Prelude.{OnOk, IsTrue, IsFalse}
 use Rattle.std.proofs.lemmas.Bool.{cases_eq, cases_lt}
 use Rattle.std.proofs.lemmas.List.{get_or-set_other, set_past}
 use Rattle.zone_states.specs.declared.geometry.Geometry.{Geometry}
 use Rattle.drive_port.specs.declared.device.Halt.{Halt}
 use Rattle.drive_port.specs.declared.device.Halt.TheVariants as halt
 use Rattle.batch_log.specs.Log.{Batch}
-use Rattle.zone_choice.specs.Agreement.{MountedView, mounted_array}
+use Rattle.zone_choice.specs.Agreement.{MountedView, mounted_array, Agrees}
 use Rattle.drive_array.specs.ZoneLogs.{drive_logs, log_at}
 use Rattle.zone_choice.specs.Changes.{CanPlace, KeepsArray}
 use Rattle.zone_choice.specs.Tables.{size_of}
@@ -20,15 +21,15 @@ use Rattle.drive_array.proofs.ClearingLaws.{without-same}
 use Rattle.zone_cleaner.specs.declared.fault.CleanFault.{CleanFault}
 use Rattle.zone_cleaner.specs.declared.fault.CleanFault.TheVariants as faults
 use Rattle.zone_cleaner.specs.declared.step.Step.{Step}
-use Rattle.zone_cleaner.specs.declared.step.Step.TheVariants.{Gather, Move, Reset}
+use Rattle.zone_cleaner.specs.declared.step.Step.TheVariants.{Gather, Move, Reset, Undo}
 use Rattle.zone_cleaner.specs.Clean.{CleanView, forgotten, turns_left}
-use Rattle.zone_cleaner.specs.Start.{AgreesWithClean, AreTurns, CleanLeaves, EndLeaves, TurnLeaves}
+use Rattle.zone_cleaner.specs.Start.{AgreesWithClean, AreMoreTurns, AreTurns, CleanLeaves, EndsBy, IsCleaningCause, IsOn, IsPassed, SameButLost, TurnLeaves}
 use Rattle.zone_cleaner.specs.Turns.{StepDone, StepFails, after_move, next_step, with_record}
 use Rattle.zone_cleaner.specs.LiveRecords.{live_content, gathered_move}
 use Rattle.zone_cleaner.specs.Host.{HostLeaves}
 use Rattle.zone_cleaner.proofs.CloseLaws.{close-turns, stops-close}
 use Rattle.zone_cleaner.proofs.BesideLaws.{kept_turns}
-use Rattle.zone_cleaner.proofs.TurnLaws.{refused-turns, turn_gives, turns_fewer}
+use Rattle.zone_cleaner.proofs.TurnLaws.{refused-turns, turn_gives, turns_fewer, failed-kept}
 use Rattle.zone_translator.specs.declared.fault.DiskFault.{DiskFault}
 use Rattle.zone_translator.specs.declared.fault.DiskFault.TheVariants.{OutOfRange, OutOfMemory, Stopped, Spent, Unmounted, Smaller, Reserve, Damaged, Failed}
 use Rattle.zone_translator.specs.Changes.{NoMoreTurns, cleaning_fault}
@@ -127,7 +128,8 @@ goes-on a b c (Some u) (Some v) (Some w) le same runs p q = (q.0 ∙ p.0, turns-
 pub record StaysClean (a : MountedView) (x : Option CleanView) (b : MountedView) (y : Option CleanView) : Type 0 where
   pub next : a.tables.next ≤ b.tables.next
   pub geometry : b.drive.geometry ≡ a.drive.geometry
-  pub goes : GoesOnOrEnds a x b y
+  pub goes : IsTrue b.drive.unfailing → GoesOnOrEnds a x b y
+  pub unfailing : IsTrue b.drive.unfailing → IsTrue a.drive.unfailing
   pub turns : NoMoreTurns a x b y
   pub newer : OnlyNewer a.tables.next (drive_logs a.drive) (drive_logs b.drive)
 
@@ -136,7 +138,8 @@ pub stays-join : (a b c : MountedView) (x y z : Option CleanView) → StaysClean
 stays-join a b c x y z p q = record {
   next = omega (arith, p.next, q.next);
   geometry = q.geometry ∙ p.geometry;
-  goes = by x y z p.goes q.goes q.turns;
+  goes = λ up. by x y z (p.goes (q.unfailing up)) (q.goes up) q.turns;
+  unfailing = λ up. p.unfailing (q.unfailing up);
   turns = turns-join a b c x y z p.geometry p.turns q.turns;
   newer = newer-join a.tables.next b.tables.next (drive_logs a.drive) (drive_logs b.drive) (drive_logs c.drive) p.next p.newer q.newer;
 }
@@ -153,7 +156,8 @@ array-stays a b clean is kept =
     record {
       next = omega (arith, kept.next);
       geometry = kept.geometry;
-      goes = goes-same a b clean clean refl turns;
+      goes = λ up. goes-same a b clean clean refl turns;
+      unfailing = kept.unfailing;
       turns = turns;
       newer = newer-same a.tables.next (drive_logs a.drive) (drive_logs b.drive) kept.logs;
     }
@@ -163,7 +167,8 @@ pub same-stays : (disk : MountedView) (clean : Option CleanView) → StaysClean 
 same-stays disk clean = record {
   next = omega arith;
   geometry = refl;
-  goes = goes-same disk disk clean clean refl (omega arith);
+  goes = λ up. goes-same disk disk clean clean refl (omega arith);
+  unfailing = λ up. up;
   turns = omega arith;
   newer = newer-same disk.tables.next (drive_logs disk.drive) (drive_logs disk.drive) refl;
 }
@@ -187,11 +192,11 @@ on-any (Err fault) is = tt
 
 -- and keeps what calls promise of it
 pub stays-cleaning : {V : Type 0} (a b : MountedView) (x y : Option CleanView) (result : Result V DiskFault) → StaysClean a x b y → KeepsCleaning a x result b y
-stays-cleaning a b x y result stays = record { clean = stays.goes; turns = on-any result stays.turns; newer = adds-any a b result stays.newer }
+stays-cleaning a b x y result stays = record { clean = stays.goes; unfailing = stays.unfailing; turns = on-any result stays.turns; newer = adds-any a b result stays.newer }
 
 -- what was done stays clean
 pub cleaning-stays : {V : Type 0} (a b : MountedView) (x y : Option CleanView) (done : V) → a.tables.next ≤ b.tables.next → b.drive.geometry ≡ a.drive.geometry → KeepsCleaning a x (Ok done) b y → StaysClean a x b y
-cleaning-stays a b x y done le same keeps = record { next = le; geometry = same; goes = keeps.clean; turns = keeps.turns; newer = keeps.newer }
+cleaning-stays a b x y done le same keeps = record { next = le; geometry = same; goes = keeps.clean; unfailing = keeps.unfailing; turns = keeps.turns; newer = keeps.newer }
 
 -- first a part that keeps the array and the clean
 newer-after : {V : Type 0} (a b c : MountedView) (result : Result V DiskFault) → a.tables.next ≤ b.tables.next → OnlyNewer a.tables.next (drive_logs a.drive) (drive_logs b.drive) → AddsNewer b result c → AddsNewer a result c
@@ -215,7 +220,8 @@ pub array-first : {V : Type 0} (a b c : MountedView) (x z : Option CleanView) (r
 array-first a b c x z result is kept keeps =
     let first = array-stays a b x is kept in
     record {
-      clean = by x is first.turns keeps.clean;
+      clean = λ up. by x is first.turns (keeps.clean up);
+      unfailing = λ up. kept.unfailing (keeps.unfailing up);
       turns = on-then result (λ more. turns-join a b c x x z kept.geometry first.turns more) keeps.turns;
       newer = newer-after a b c result first.next first.newer keeps.newer;
     }
@@ -230,18 +236,21 @@ step-newer : (before after : MountedView) (c : CleanView) (new : Option CleanVie
 step-newer before after c new (Gather block place) done = newer-same before.tables.next (drive_logs before.drive) (drive_logs after.drive) done.0.logs
 step-newer before after c new Move done = newer-one before.tables.next (drive_logs before.drive) (drive_logs after.drive) done.0.destination.zone (gathered_move (size_of before.tables) before.tables.next c.victim c.gathered) (omega arith) done.0.places.logs
 step-newer before after c new Reset done = newer-without before.tables.next (drive_logs before.drive) (drive_logs after.drive) c.victim done.0.logs
+step-newer before after c new Undo done = newer-without before.tables.next (drive_logs before.drive) (drive_logs after.drive) done.0.destination.zone done.0.logs
 
-step-goes : (before after : MountedView) (c : CleanView) (new : Option CleanView) (step : Step) → NoMoreTurns before (Some c) after new → StepDone step before c after new → GoesOnOrEnds before (Some c) after new
-step-goes before after c new (Gather block place) few done = goes-running before after c (with_record c block (live_content (mounted_array before) block place)) new done.2 refl few
-step-goes before after c new Move few done = goes-running before after c (after_move c) new done.1 refl few
-step-goes before after c new Reset few done = goes-ended before after c new done.1 (rw (done.0.logs, without-same (drive_logs before.drive) c.victim) tt)
+step-goes : (before after : MountedView) (c : CleanView) (new : Option CleanView) (step : Step) → Agrees before → IsTrue after.drive.unfailing → NoMoreTurns before (Some c) after new → StepDone step before c after new → GoesOnOrEnds before (Some c) after new
+step-goes before after c new (Gather block place) agrees up few done = goes-running before after c (with_record c block (live_content (mounted_array before) block place)) new done.2 refl few
+step-goes before after c new Move agrees up few done = goes-running before after c (after_move before.tables c) new done.1 refl few
+step-goes before after c new Reset agrees up few done = goes-ended before after c new done.1 (rw (done.0.logs, without-same (drive_logs before.drive) c.victim) tt)
+step-goes before after c new Undo agrees up few done = absurd (done.0.lost (agrees.readable (done.0.unfailing up)))
 
 -- what turns that are done keep
 record TurnsKeep (before : MountedView) (old : Option CleanView) (after : MountedView) (new : Option CleanView) : Type 0 where
   cleaned : AgreesWithClean after new
   next : before.tables.next ≤ after.tables.next
   geometry : after.drive.geometry ≡ before.drive.geometry
-  goes : GoesOnOrEnds before old after new
+  goes : IsTrue after.drive.unfailing → GoesOnOrEnds before old after new
+  unfailing : IsTrue after.drive.unfailing → IsTrue before.drive.unfailing
   newer : OnlyNewer before.tables.next (drive_logs before.drive) (drive_logs after.drive)
 
 turn-keeps : (before after : MountedView) (old new : Option CleanView) → AgreesWithClean before old → TurnLeaves before old (Ok tt) after new → TurnsKeep before old after new
@@ -251,50 +260,85 @@ turn-keeps before after old new is leaves =
       cleaned = gives.goes_on;
       next = omega (arith, gives.keeps.next, gives.keeps.appended);
       geometry = gives.keeps.geometry;
-      goes = goes old is leaves;
+      goes = λ up. goes old is up leaves;
+      unfailing = gives.keeps.unfailing;
       newer = newer old leaves;
     }
   where
-    goes : (old : Option CleanView) → AgreesWithClean before old → TurnLeaves before old (Ok tt) after new → GoesOnOrEnds before old after new
-    goes None is leaves = tt
-    goes (Some c) is leaves =
+    goes : (old : Option CleanView) → AgreesWithClean before old → IsTrue after.drive.unfailing → TurnLeaves before old (Ok tt) after new → GoesOnOrEnds before old after new
+    goes None is up leaves = tt
+    goes (Some c) is up leaves =
         let fewer = (turns_fewer before after (Some c) new is leaves).fewer refl in
-        step-goes before after c new (next_step (batch_most before.drive.geometry) before.tables c) (omega (arith, fewer)) leaves
+        step-goes before after c new (next_step (batch_most before.drive.geometry) before.tables c) is.0 up (omega (arith, fewer)) leaves
 
     newer : (old : Option CleanView) → TurnLeaves before old (Ok tt) after new → OnlyNewer before.tables.next (drive_logs before.drive) (drive_logs after.drive)
     newer None leaves = newer-same before.tables.next (drive_logs before.drive) (drive_logs after.drive) (ap drive_logs leaves.0)
     newer (Some c) leaves = step-newer before after c new (next_step (batch_most before.drive.geometry) before.tables c) leaves
 
 keep-none : (disk : MountedView) (clean : Option CleanView) → AgreesWithClean disk clean → TurnsKeep disk clean disk clean
-keep-none disk clean is = record { cleaned = is; next = omega arith; geometry = refl; goes = goes-same disk disk clean clean refl (omega arith); newer = newer-same disk.tables.next (drive_logs disk.drive) (drive_logs disk.drive) refl }
+keep-none disk clean is = record { cleaned = is; next = omega arith; geometry = refl; goes = λ up. goes-same disk disk clean clean refl (omega arith); unfailing = λ up. up; newer = newer-same disk.tables.next (drive_logs disk.drive) (drive_logs disk.drive) refl }
 
-keep-more : (a b c : MountedView) (x y z : Option CleanView) → is_some y ≡ true → TurnsKeep a x b y → TurnsKeep b y c z → TurnsKeep a x c z
-keep-more a b c x y z runs p q = record {
+-- a turn that failed
+failed-keeps : (before after : MountedView) (old new : Option CleanView) → AgreesWithClean before old → TurnLeaves before old (Err faults.Failed) after new → TurnsKeep before old after new
+failed-keeps before after None new is leaves = absurd leaves
+failed-keeps before after (Some c) new is leaves =
+    let gives = turn_gives before after (Some c) new (Err faults.Failed) is leaves in
+    let parts = failed-kept before after (next_step (batch_most before.drive.geometry) before.tables c) leaves.0 in
+    record {
+      cleaned = gives.goes_on;
+      next = omega (arith, gives.keeps.next, gives.keeps.appended);
+      geometry = gives.keeps.geometry;
+      goes = λ up. absurd (let down = parts.1 in cc);
+      unfailing = gives.keeps.unfailing;
+      newer = newer-same before.tables.next (drive_logs before.drive) (drive_logs after.drive) parts.0.logs;
+    }
+
+passed-keeps : (before after : MountedView) (old new : Option CleanView) (result : Result (Unit {0}) CleanFault) → IsPassed result → AgreesWithClean before old → TurnLeaves before old result after new → TurnsKeep before old after new
+passed-keeps before after old new (Ok done) passed is leaves = turn-keeps before after old new is leaves
+passed-keeps before after old new (Err faults.OutOfMemory) passed is leaves = absurd passed
+passed-keeps before after old new (Err faults.Failed) passed is leaves = failed-keeps before after old new is leaves
+passed-keeps before after old new (Err faults.Stopped) passed is leaves = absurd passed
+passed-keeps before after old new (Err faults.Spent) passed is leaves = absurd passed
+passed-keeps before after old new (Err faults.Damaged) passed is leaves = absurd passed
+
+-- more turns, while no command fails of a clean that runs
+keep-more : (a b c : MountedView) (x y z : Option CleanView) → IsOn b y → TurnsKeep a x b y → TurnsKeep b y c z → TurnsKeep a x c z
+keep-more a b c x y z on p q = record {
   cleaned = q.cleaned;
   next = omega (arith, p.next, q.next);
   geometry = q.geometry ∙ p.geometry;
-  goes = goes-on a b c x y z p.next p.geometry runs p.goes q.goes;
+  goes = λ up. by x on (p.goes (q.unfailing up)) up;
+  unfailing = λ up. p.unfailing (q.unfailing up);
   newer = newer-join a.tables.next b.tables.next (drive_logs a.drive) (drive_logs b.drive) (drive_logs c.drive) p.next p.newer q.newer;
 }
+  where
+    by : (x : Option CleanView) → IsOn b y → GoesOnOrEnds a x b y → IsTrue c.drive.unfailing → GoesOnOrEnds a x c z
+    by None on goes up = tt
+    by (Some u) (inl runs) goes up = goes-on a b c (Some u) y z p.next p.geometry runs goes (q.goes up)
+    by (Some u) (inr down) goes up = absurd (let still = q.unfailing up in cc)
+
+more-keep : (n : ℕ) (a b c : MountedView) (x y z : Option CleanView) → TurnsKeep a x b y → AreMoreTurns n b y c z → TurnsKeep a x c z
+more-keep zero a b c x y z first done = subst (λ (d : MountedView). TurnsKeep a x d z) (sym done.0) (subst (λ (v : Option CleanView). TurnsKeep a x b v) (sym done.1) first)
+more-keep (suc n) a b c x y z first done =
+    let turn = done.1 in
+    let one = passed-keeps b turn.2.0 y turn.2.1 turn.0 turn.1 first.cleaned turn.2.2 in
+    more-keep n a turn.2.0 c x turn.2.1 z (keep-more a b turn.2.0 x y turn.2.1 done.0 first one) turn.2.3
 
 turns-keep : (n : ℕ) (before after : MountedView) (old new : Option CleanView) → AgreesWithClean before old → AreTurns n before old after new → TurnsKeep before old after new
 turns-keep zero before after old new is done = rw (done.0, done.1) (keep-none before old is)
-turns-keep (suc zero) before after old new is done =
-    let first = turn-keeps before done.1.0 old done.1.1 is done.1.2 in
-    rw (done.1.3.0, done.1.3.1) first
-turns-keep (suc (suc n)) before after old new is done =
-    let first = turn-keeps before done.1.0 old done.1.1 is done.1.2 in
-    keep-more before done.1.0 after old done.1.1 new done.1.3.0 first (turns-keep (suc n) done.1.0 after done.1.1 new first.cleaned done.1.3)
+turns-keep (suc n) before after old new is done =
+    more-keep n before done.2.0 after old done.2.1 new (passed-keeps before done.2.0 old done.2.1 done.0 done.1 is done.2.2) done.2.3
 
--- ---- a clean that is run to its end
+-- ---- a clean at once
 
 -- a turn that was not done
-turn-fails : {V : Type 0} (before after : MountedView) (old new : Option CleanView) (cause : CleanFault) → TurnLeaves before old (Err cause) after new → (is_some old ≡ true) × KeepsCleaning {V = V} before old (Err (cleaning_fault cause)) after new
-turn-fails {V} before after None new cause leaves = absurd leaves
-turn-fails {V} before after (Some c) new cause leaves = (
+turn-fails : {V : Type 0} (before after : MountedView) (old new : Option CleanView) (cause : CleanFault) → AgreesWithClean before old → TurnLeaves before old (Err cause) after new → (is_some old ≡ true) × KeepsCleaning {V = V} before old (Err (cleaning_fault cause)) after new
+turn-fails {V} before after None new cause is leaves = absurd leaves
+turn-fails {V} before after (Some c) new cause is leaves = (
   refl,
   record {
-    clean = goes-running before after c c new leaves.1 refl (omega (arith, refused-turns before after (Some c) new (batch_most before.drive.geometry) (Err cause) leaves));
+    clean = λ up. goes-running before after c c new leaves.1 refl (omega (arith, refused-turns before after (Some c) new (batch_most before.drive.geometry) (Err cause) leaves));
+    unfailing = (turn_gives before after (Some c) new (Err cause) is leaves).keeps.unfailing;
     turns = tt;
     newer = by cause leaves.0;
   },
@@ -307,50 +351,55 @@ turn-fails {V} before after (Some c) new cause leaves = (
     spent (Gather block place) fails = absurd fails
     spent Move fails = fails.0
     spent Reset fails = absurd fails
+    spent Undo fails = absurd fails
 
     by : (cause : CleanFault) → StepFails step cause before after → AddsNewer {V = V} before (Err (cleaning_fault cause)) after
     by faults.OutOfMemory fails = newer-same before.tables.next (drive_logs before.drive) (drive_logs after.drive) fails.0.logs
-    by faults.Failed fails = newer-same before.tables.next (drive_logs before.drive) (drive_logs after.drive) fails.0.logs
+    by faults.Failed fails = newer-same before.tables.next (drive_logs before.drive) (drive_logs after.drive) (failed-kept before after step fails).0.logs
     by faults.Stopped fails = tt
     by faults.Spent fails = newer-same before.tables.next (drive_logs before.drive) (drive_logs after.drive) (ap (λ (m : MountedView). drive_logs m.drive) (spent step fails))
     by faults.Damaged fails = absurd fails
 
-end-fails : {V : Type 0} (before after : MountedView) (old new : Option CleanView) (cause : CleanFault) → AgreesWithClean before old → EndLeaves before old (Err cause) after new → KeepsCleaning {V = V} before old (Err (cleaning_fault cause)) after new
-end-fails {V} before after old new cause is ends =
-    let kept = turns-keep ends.turns before ends.middle old ends.clean is ends.done in
-    let last = turn-fails {V = V} ends.middle after ends.clean new cause ends.refused in
+-- turns, and one that was refused
+refused-keep : {V : Type 0} (before middle after : MountedView) (old clean new : Option CleanView) (cause : CleanFault) → TurnsKeep before old middle clean → TurnLeaves middle clean (Err cause) after new → KeepsCleaning {V = V} before old (Err (cleaning_fault cause)) after new
+refused-keep {V} before middle after old clean new cause kept refused =
+    let last = turn-fails {V = V} middle after clean new cause kept.cleaned refused in
     record {
-      clean = goes-on before ends.middle after old ends.clean new kept.next kept.geometry last.0 kept.goes last.1.clean;
+      clean = λ up. goes-on before middle after old clean new kept.next kept.geometry last.0 (kept.goes (last.1.unfailing up)) (last.1.clean up);
+      unfailing = λ up. kept.unfailing (last.1.unfailing up);
       turns = tt;
-      newer = newer-after {V = V} before ends.middle after (Err (cleaning_fault cause)) kept.next kept.newer last.1.newer;
+      newer = newer-after {V = V} before middle after (Err (cleaning_fault cause)) kept.next kept.newer last.1.newer;
     }
 
-end-stays : (before after : MountedView) (old new : Option CleanView) → AgreesWithClean before old → EndLeaves before old (Ok tt) after new → StaysClean before old after new
-end-stays before after old new is ends =
-    let kept = turns-keep ends.1.0 before after old new is ends.1.1 in
-    record { next = kept.next; geometry = kept.geometry; goes = kept.goes; turns = rw ends.0 (omega arith); newer = kept.newer }
+-- turns, and no more
+over-keep : {V : Type 0} (before middle after : MountedView) (old clean new : Option CleanView) → TurnsKeep before old middle clean → SameButLost middle after → IsFalse after.drive.unfailing → KeepsCleaning {V = V} before old (Err Failed) after new
+over-keep {V} before middle after old clean new kept same down = record {
+  clean = λ up. absurd (cc);
+  unfailing = λ up. absurd (cc);
+  turns = tt;
+  newer = subst (λ (d : DriveState). OnlyNewer before.tables.next (drive_logs before.drive) (drive_logs d)) (sym same.drive) kept.newer;
+}
 
--- or started before, if none runs
-pub zone-fails : {V : Type 0} (before after : MountedView) (old new : Option CleanView) (cause : CleanFault) → AgreesWithClean before old → CleanLeaves before old (Err cause) after new → KeepsCleaning {V = V} before old (Err (cleaning_fault cause)) after new
-zone-fails {V} before after (Some c) new cause is leaves = end-fails {V = V} before after (Some c) new cause is leaves
-zone-fails {V} before after None new cause is leaves =
-    let first = turn-keeps before leaves.0 None leaves.1 is leaves.2 in
-    let rest = end-fails {V = V} leaves.0 after leaves.1 new cause first.cleaned leaves.3 in
-    record { clean = tt; turns = tt; newer = newer-after {V = V} before leaves.0 after (Err (cleaning_fault cause)) first.next first.newer rest.newer }
+-- a zone was not cleaned
+pub zone-fails : {V : Type 0} (before after : MountedView) (old new : Option CleanView) (cause : CleanFault) → AgreesWithClean before old → CleanLeaves before old (Err cause) after new → IsCleaningCause after.drive after.tables.next cause
+    → KeepsCleaning {V = V} before old (Err (cleaning_fault cause)) after new
+zone-fails {V} before after old new cause is leaves why =
+    let kept = turns-keep leaves.0 before leaves.1 old leaves.2 is leaves.3 in
+    by cause kept leaves.4 why
+  where
+    by : (cause : CleanFault) → TurnsKeep before old leaves.1 leaves.2 → EndsBy cause leaves.1 leaves.2 after new → IsCleaningCause after.drive after.tables.next cause → KeepsCleaning {V = V} before old (Err (cleaning_fault cause)) after new
+    by faults.OutOfMemory kept ends why = refused-keep {V = V} before leaves.1 after old leaves.2 new faults.OutOfMemory kept ends
+    by faults.Failed kept (inl ends) why = refused-keep {V = V} before leaves.1 after old leaves.2 new faults.Failed kept ends
+    by faults.Failed kept (inr over) why = over-keep {V = V} before leaves.1 after old leaves.2 new kept over.0 why
+    by faults.Stopped kept ends why = refused-keep {V = V} before leaves.1 after old leaves.2 new faults.Stopped kept ends
+    by faults.Spent kept ends why = refused-keep {V = V} before leaves.1 after old leaves.2 new faults.Spent kept ends
+    by faults.Damaged kept ends why = refused-keep {V = V} before leaves.1 after old leaves.2 new faults.Damaged kept ends
 
--- a clean of a zone at once keeps the clean that ran, or ends it
-pub zone-stays : (before after : MountedView) (old new : Option CleanView) → AgreesWithClean before old → CleanLeaves before old (Ok tt) after new → StaysClean before old after new
-zone-stays before after (Some c) new is leaves = end-stays before after (Some c) new is leaves
-zone-stays before after None new is leaves =
-    let first = turn-keeps before leaves.0 None leaves.1 is leaves.2 in
-    let rest = end-stays leaves.0 after leaves.1 new first.cleaned leaves.3 in
-    record {
-      next = omega (arith, first.next, rest.next);
-      geometry = rest.geometry ∙ first.geometry;
-      goes = tt;
-      turns = rw leaves.3.0 (omega arith);
-      newer = newer-join before.tables.next leaves.0.tables.next (drive_logs before.drive) (drive_logs leaves.0.drive) (drive_logs after.drive) first.next first.newer rest.newer;
-    }
+-- one that was leaves no turns
+pub zone-stays : (before after : MountedView) (old new : Option CleanView) → AgreesWithClean before old → CleanLeaves before old (Ok tt) after new → new ≡ None → StaysClean before old after new
+zone-stays before after old new is leaves ended =
+    let kept = turns-keep leaves.0 before after old new is leaves.1 in
+    record { next = kept.next; geometry = kept.geometry; goes = kept.goes; unfailing = kept.unfailing; turns = rw ended (omega arith); newer = kept.newer }
 
 -- ---- a batch of the host
 
@@ -359,7 +408,8 @@ pub append-stays : (b c : MountedView) (old new : Option CleanView) (zone : ℕ)
 append-stays b c old new zone batch (Ok done) can leaves = record {
   next = omega (arith, leaves.0.next);
   geometry = leaves.0.geometry;
-  goes = forgets old new leaves.1 leaves.2.turns;
+  goes = λ up. forgets old new leaves.1 leaves.2.turns;
+  unfailing = leaves.0.unfailing;
   turns = leaves.2.turns;
   newer = newer-one b.tables.next (drive_logs b.drive) (drive_logs c.drive) zone batch (omega (arith, can.sequence)) leaves.0.logs;
 }
@@ -370,14 +420,16 @@ append-stays b c old new zone batch (Ok done) can leaves = record {
 append-stays b c old new zone batch (Err halt.Memory) can leaves = record {
   next = omega (arith, leaves.0.next);
   geometry = leaves.0.geometry;
-  goes = goes-same b c old new leaves.1 leaves.2.turns;
+  goes = λ up. goes-same b c old new leaves.1 leaves.2.turns;
+  unfailing = leaves.0.unfailing;
   turns = leaves.2.turns;
   newer = newer-same b.tables.next (drive_logs b.drive) (drive_logs c.drive) leaves.0.logs;
 }
 append-stays b c old new zone batch (Err halt.Failed) can leaves = record {
   next = omega (arith, leaves.0.next);
   geometry = leaves.0.geometry;
-  goes = goes-same b c old new leaves.1 leaves.2.turns;
+  goes = λ up. goes-same b c old new leaves.1 leaves.2.turns;
+  unfailing = leaves.0.unfailing;
   turns = leaves.2.turns;
   newer = newer-same b.tables.next (drive_logs b.drive) (drive_logs c.drive) leaves.0.logs;
 }
@@ -386,7 +438,8 @@ append-stays b c old new zone batch (Err halt.Stopped) can leaves =
     record {
       next = omega (arith, (stops-tables b c zone batch leaves.0).next);
       geometry = leaves.0.geometry;
-      goes = goes-same b c old new leaves.1 turns;
+      goes = λ up. goes-same b c old new leaves.1 turns;
+      unfailing = leaves.0.unfailing;
       turns = turns;
       newer = elim leaves.0.left as (λ _. OnlyNewer b.tables.next (drive_logs b.drive) (drive_logs c.drive)) [
         | inl same ↦ newer-same b.tables.next (drive_logs b.drive) (drive_logs c.drive) same.logs_are

@@ -1,6 +1,6 @@
 -- A disk, by what its parts change.
 use Rattle.std.proofs.Common.{◌≡◌, ℕ, Bool, true, false, List, length, Option, Some, None, is_some, Result, Ok, Err, inl, inr, refl, sym, ap, subst, ◌≤◌, ◌∙◌, arith}
-use Rattle.std.specs.Prelude.{OnOk}
+use Rattle.std.specs.Prelude.{OnOk, IsTrue}
 use Rattle.zone_states.specs.declared.geometry.Geometry.{Geometry}
 use Rattle.zone_choice.specs.Agreement.{MountedView, mounted_array}
 use Rattle.drive_array.specs.ZoneLogs.{drive_logs}
@@ -26,7 +26,7 @@ use Rattle.zone_translator.specs.declared.status.DiskStatus.TheVariants as statu
 use Rattle.zone_translator.specs.Calls.{HoldsClean, status_left}
 use Rattle.zone_translator.specs.Changes.{GrowLeaves, Keeps, Names, NoMoreTurns, StopKeeps, WriteLeaves, cleaning_fault}
 use Rattle.zone_translator.specs.declared.write.Rest.{Rest}
-use Rattle.zone_translator.specs.Answers.{KeepsClean}
+use Rattle.zone_translator.specs.Answers.{KeepsClean, ThrowsNone}
 use Rattle.zone_translator.specs.Batches.{IsTaken, WritesRest, is_trim}
 use Rattle.zone_translator.specs.Cleaning.{AddsNewer, GoesOnOrEnds, KeepsCleaning, OnlyNewer}
 use Rattle.zone_translator.specs.Parts.{KeepsByRead, ReadStops, WroteSome}
@@ -319,7 +319,7 @@ wrote-some a b clean clean' was is rest count serving serves taken leaves = reco
 -- ---- the clean that ran
 
 -- a clean that continues or ends is not thrown back
-pub goes-clean : (a b : MountedView) (x y : Option CleanView) (was is : DiskStatus) → b.drive.geometry ≡ a.drive.geometry → GoesOnOrEnds a x b y → KeepsClean (view_of a x was) (view_of b y is)
+pub goes-clean : (a b : MountedView) (x y : Option CleanView) (was is : DiskStatus) → b.drive.geometry ≡ a.drive.geometry → GoesOnOrEnds a x b y → ThrowsNone (view_of a x was) (view_of b y is)
 goes-clean a b None y was is same goes = tt
 goes-clean a b (Some u) None was is same goes = inr goes
 goes-clean a b (Some u) (Some v) was is same goes =
@@ -327,13 +327,13 @@ goes-clean a b (Some u) (Some v) was is same goes =
 
 -- once a write is done
 pub done-clean : (a b : MountedView) (x y : Option CleanView) (was is : DiskStatus) → StaysClean a x b y → KeepsClean (view_of a x was) (view_of b y is)
-done-clean a b x y was is stays = goes-clean a b x y was is stays.geometry stays.goes
+done-clean a b x y was is stays = λ up. goes-clean a b x y was is stays.geometry (stays.goes up)
 
 -- where nothing was done
 pub same-clean : (disk : DiskView) → KeepsClean disk disk
-same-clean disk = by disk.clean refl
+same-clean disk = λ up. by disk.clean refl
   where
-    by : (x : Option CleanView) → disk.clean ≡ x → KeepsClean disk disk
+    by : (x : Option CleanView) → disk.clean ≡ x → ThrowsNone disk disk
     by None e = rw e tt
     by (Some u) e = rw e (inl (record { same = u; runs = refl; victim = refl; turns = omega arith }))
 
@@ -356,16 +356,17 @@ goes-turns b c v (Some w) goes = goes.1
 -- a refusal throws no clean back
 pub refused-clean : (a b c : MountedView) (x y z : Option CleanView) (was is : DiskStatus) (fault : DiskFault) → c.drive.geometry ≡ a.drive.geometry → StaysClean a x b y → KeepsCleaning {V = ℕ} b y (Err fault) c z → status_left fault ≡ statuses.Serving
     → KeepsClean (view_of a x was) (view_of c z is)
-refused-clean a b c None y z was is fault same stays keeps serves = tt
-refused-clean a b c (Some u) None z was is fault same stays keeps serves =
-    inr (newer-log a.tables.next b.tables.next (drive_logs b.drive) (drive_logs c.drive) u.victim stays.next stays.goes (newer-unless b c fault serves keeps.newer))
-refused-clean a b c (Some u) (Some v) z was is fault same stays keeps serves =
-    goes-clean a c (Some u) z was is same (goes-on a b c (Some u) (Some v) z stays.next stays.geometry refl stays.goes keeps.clean)
+refused-clean a b c x y z was is fault same stays keeps serves = λ up. by x y stays.goes stays.unfailing (keeps.clean up) (keeps.unfailing up)
+  where
+    by : (x y : Option CleanView) → (IsTrue b.drive.unfailing → GoesOnOrEnds a x b y) → (IsTrue b.drive.unfailing → IsTrue a.drive.unfailing) → GoesOnOrEnds b y c z → IsTrue b.drive.unfailing → ThrowsNone (view_of a x was) (view_of c z is)
+    by None y goes mono then up = tt
+    by (Some u) None goes mono then up = inr (newer-log a.tables.next b.tables.next (drive_logs b.drive) (drive_logs c.drive) u.victim stays.next (goes up) (newer-unless b c fault serves keeps.newer))
+    by (Some u) (Some v) goes mono then up = goes-clean a c (Some u) z was is same (goes-on a b c (Some u) (Some v) z stays.next stays.geometry refl (goes up) then)
 
 -- one batch leaves no more turns of a clean that ran
-pub batch-turns : {V : Type 0} (a b : MountedView) (x y : Option CleanView) (was is : DiskStatus) (result : Result V DiskFault) → b.drive.geometry ≡ a.drive.geometry → KeepsCleaning a x result b y → is_some x ≡ true → disk_turns (view_of b y is) ≤ disk_turns (view_of a x was)
-batch-turns a b None y was is result same keeps runs = absurd (cc)
-batch-turns a b (Some u) y was is result same keeps runs = turns-on a b (Some u) y was is same (goes-turns a b u y keeps.clean)
+pub batch-turns : {V : Type 0} (a b : MountedView) (x y : Option CleanView) (was is : DiskStatus) (result : Result V DiskFault) → b.drive.geometry ≡ a.drive.geometry → KeepsCleaning a x result b y → IsTrue b.drive.unfailing → is_some x ≡ true → disk_turns (view_of b y is) ≤ disk_turns (view_of a x was)
+batch-turns a b None y was is result same keeps up runs = absurd (cc)
+batch-turns a b (Some u) y was is result same keeps up runs = turns-on a b (Some u) y was is same (goes-turns a b u y (keeps.clean up))
 
 -- ---- reads
 

@@ -1,6 +1,6 @@
 -- A flush of a disk.
 use Rattle.std.proofs.Common.{◌≡◌, List, false, true, None, Some, Ok, Err, refl, ap, inl, arith}
-use Rattle.std.specs.Prelude.{Option}
+use Rattle.std.specs.Prelude.{Option, IsTrue}
 use Rattle.zone_states.specs.Zone.{Zone}
 use Rattle.drive_port.specs.Answering.{FlushAnswers}
 use Rattle.drive_port.specs.Calls.{OnlyCloses}
@@ -45,7 +45,7 @@ lawful-hardened drive durable is = record {
 -- and agrees with the same tables
 agrees-hardened : (drive : DriveState) (durable : List (List Zone)) (tables : TablesView) → Agrees (mounted drive tables) → Agrees (mounted (record drive { durable = durable }) tables)
 agrees-hardened drive durable tables agrees =
-    agrees_same drive (record drive { durable = durable }) tables (record { geometry = refl; contents = refl }) (λ zone is. is) (lawful-hardened drive durable agrees.lawful) agrees
+    agrees_same drive (record drive { durable = durable }) tables (record { geometry = refl; contents = refl }) (λ zone is. is) (lawful-hardened drive durable agrees.lawful) (λ up. up) agrees
 
 -- and with the same clean
 pub clean-hardened : (before after : MountedView) (clean : Option CleanView) → AgreesWithClean before clean → AgreesWithClean (hardened before after) clean
@@ -59,6 +59,7 @@ clean-hardened before after (Some clean) is = (
     gathers = record { within = is.1.gathers.within; few = is.1.gathers.few; gathered = is.1.gathers.gathered };
     room = is.1.room;
     moves = is.1.moves;
+    undo = record { all = is.1.undo.all; each = is.1.undo.each; away = is.1.undo.away };
   },
 )
 
@@ -78,14 +79,14 @@ keeps-hardened before after clean was is keeps = record {
 -- ---- the Flush of the drive
 
 -- it keeps the array
-keeps : (old new : DriveState) (tables : TablesView) → Agrees (mounted old tables) → OnlyCloses old new → IsLawful new → new.refused ≡ old.refused → new.appended ≡ old.appended → KeepsArray (hardened (mounted old tables) (mounted new tables)) (mounted new tables)
-keeps old new tables agrees kept lawful refused appended =
+keeps : (old new : DriveState) (tables : TablesView) → Agrees (mounted old tables) → OnlyCloses old new → IsLawful new → (IsTrue new.unfailing → IsTrue old.unfailing) → new.refused ≡ old.refused → new.appended ≡ old.appended → KeepsArray (hardened (mounted old tables) (mounted new tables)) (mounted new tables)
+keeps old new tables agrees kept lawful failed refused appended =
     keeps-same (record old { durable = new.durable }) new tables (agrees-hardened old new.durable tables agrees) (record { geometry = kept.contents.geometry; contents = kept.contents.contents })
-    (closing-opens old.zones new.zones kept.closing) lawful refused refl appended
+    (closing-opens old.zones new.zones kept.closing) lawful failed refused refl appended
 
 -- one that was done
 pub flush-kept : (old new : DriveState) (tables : TablesView) → Agrees (mounted old tables) → FlushAnswers {V = Unit {0}} old (Ok tt) new → KeepsArray (hardened (mounted old tables) (mounted new tables)) (mounted new tables)
-flush-kept old new tables agrees answers = keeps old new tables agrees answers.kept answers.lawful answers.flushed.counts.refused (omega (arith, answers.flushed.counts.appended))
+flush-kept old new tables agrees answers = keeps old new tables agrees answers.kept answers.lawful answers.unfailing answers.flushed.counts.refused (omega (arith, answers.flushed.counts.appended))
 
 -- one that was not
 pub record FlushFails (old new : DriveState) (fault : PortFault) : Type 0 where
@@ -105,13 +106,13 @@ pub flush_keeps : (old new : DriveState) (tables : TablesView) (fault : PortFaul
 flush_keeps old new tables (port.Refused status) agrees answers = absurd answers.taken
 flush_keeps old new tables port.Memory agrees answers =
     let same = answers.gives.1.1.1 in
-    keeps old new tables agrees answers.kept answers.lawful (ap (λ (drive : DriveState). drive.refused) same) (ap (λ (drive : DriveState). drive.appended) same)
+    keeps old new tables agrees answers.kept answers.lawful answers.unfailing (ap (λ (drive : DriveState). drive.refused) same) (ap (λ (drive : DriveState). drive.appended) same)
 flush_keeps old new tables port.Failed agrees answers =
     let failed = answers.fails refl in
-    keeps old new tables agrees answers.kept answers.lawful failed.1.refused failed.1.appended
+    keeps old new tables agrees answers.kept answers.lawful answers.unfailing failed.1.refused failed.1.appended
 flush_keeps old new tables port.Stopped agrees answers =
     let stops = answers.stops refl in
-    keeps old new tables agrees answers.kept answers.lawful stops.1.refused stops.1.appended
+    keeps old new tables agrees answers.kept answers.lawful answers.unfailing stops.1.refused stops.1.appended
 
 -- ---- the answers of a flush
 

@@ -10,7 +10,7 @@ use Rattle.std.proofs.lemmas.Nat.{mul-le}
 use Rattle.zone_states.specs.Zone.{cut_blocks}
 use Rattle.batch_log.specs.Log.{data_count}
 use Rattle.logical_map.specs.declared.place.Place.TheVariants as places
-use Rattle.zone_cleaner.specs.Start.{trims}
+use Rattle.zone_cleaner.specs.Clean.{trims}
 use Rattle.zone_translator.specs.Answers.{KeepsClean}
 use Rattle.zone_translator.specs.Changes.{IsCause}
 use Rattle.zone_translator.specs.Cleaning.{AddsNewer, KeepsCleaning}
@@ -289,7 +289,7 @@ list-refused old new es bodies fault none front size status geometry cause =
 
 -- a clean that ran and was not thrown back, after a batch of a list that was refused
 pub refused-list-clean : (a b c : MountedView) (x y z : Option CleanView) (was is : DiskStatus) (fault : DiskFault) → c.drive.geometry ≡ a.drive.geometry → StaysClean a x b y → KeepsCleaning {V = Taken} b y (Err fault) c z → status_left fault ≡ statuses.Serving → KeepsClean (view_of a x was) (view_of c z is)
-refused-list-clean a b c x y z was is fault same stays keeps serves = refused-clean a b c x y z was is fault same stays (record { clean = keeps.clean; turns = tt; newer = by fault keeps.newer }) serves
+refused-list-clean a b c x y z was is fault same stays keeps serves = refused-clean a b c x y z was is fault same stays (record { clean = keeps.clean; unfailing = keeps.unfailing; turns = tt; newer = by fault keeps.newer }) serves
   where
     by : (fault : DiskFault) → AddsNewer {V = Taken} b (Err fault) c → AddsNewer {V = ℕ} b (Err fault) c
     by OutOfRange newer = newer

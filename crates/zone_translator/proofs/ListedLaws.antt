@@ -10,7 +10,7 @@ use Rattle.logical_map.specs.declared.place.Place.{Place}
 use Rattle.logical_map.specs.declared.place.Place.TheVariants as places
 use Rattle.drive_array.specs.Records.{entry_content, entry_records, over, shown, shown_content}
 use Rattle.zone_choice.specs.Builder.{entry_place, placed}
-use Rattle.zone_cleaner.specs.Start.{trims}
+use Rattle.zone_cleaner.specs.Clean.{trims}
 use Rattle.zone_cleaner.proofs.MoveLaws.{length-placed}
 use Rattle.zone_translator.specs.Batches.{names}
 use Rattle.zone_translator.specs.Flat.{Put, put_all}

@@ -34,7 +34,8 @@ use Rattle.zone_choice.proofs.AloneLaws.{stops-tables}
 use Rattle.zone_choice.proofs.ChangeLaws.{large-block}
 use Rattle.zone_cleaner.specs.Clean.{CleanView}
 use Rattle.zone_cleaner.specs.Host.{HostLeaves}
-use Rattle.zone_cleaner.specs.Start.{AgreesWithClean, KeepsByCleaning, trims}
+use Rattle.zone_cleaner.specs.Start.{AgreesWithClean, KeepsByCleaning}
+use Rattle.zone_cleaner.specs.Clean.{trims}
 use Rattle.zone_translator.specs.declared.list.ListRest.{ListRest}
 use Rattle.zone_translator.specs.declared.list.Taken.{Taken}
 use Rattle.drive_array.specs.Records.{append_log}

@@ -1,4 +1,5 @@
 -- Blocks are read, one by itself or neighbours together.
+use Rattle.std.specs.Prelude.{IsTrue}
 use Rattle.std.proofs.Common.{◌≡◌, ℕ, zero, suc, ◌+◌, ◌-◌, ◌*◌, ◌/◌, ◌%◌, ◌<◌, ◌≤◌, ◌^◌, List, [], ◌∷◌, ◌++◌, length, drop, drop-cons, add-one, false, get_or, replicate, Some, Err, refl, sym, ap, ◌∙◌, append-nil, arith}
 use Rattle.std.specs.List.{concat}
 use Rattle.std.proofs.lemmas.Nat.{div-mul-add, mod-mul-add, mul-le}
@@ -6,7 +7,7 @@ use Rattle.std.proofs.Math.Nat.{add-mul, mul_comm}
 use Rattle.std.proofs.lemmas.List.{length-append, length-replicate}
 use Rattle.drive_array.proofs.WholeLaws.{length-encoded}
 use Rattle.zone_choice.proofs.AgreementLaws.{size-encoded}
-use Rattle.zone_cleaner.specs.Start.{trims}
+use Rattle.zone_cleaner.specs.Clean.{trims}
 use Rattle.zone_states.specs.declared.geometry.Geometry.{Geometry}
 use Rattle.drive_port.specs.Calls.{CanRead, IsNotRefused, Obeys, ReadGives}
 use Rattle.drive_port.specs.Contents.{Counts, SameContents, block_at, bytes_at, content_at, contents}
@@ -57,12 +58,12 @@ row_halts old new tables address count returned port.Failed agrees can gives sam
     let failed = obeys.fails refl in
     record {
       halt = tt;
-      kept = keeps-same old new tables agrees same (closing-opens old.zones new.zones closing) obeys.lawful failed.1.refused obeys.durable failed.1.appended;
+      kept = keeps-same old new tables agrees same (closing-opens old.zones new.zones closing) obeys.lawful obeys.unfailing failed.1.refused obeys.durable failed.1.appended;
       cause = failed.0;
     }
 row_halts old new tables address count returned port.Stopped agrees can gives same closing obeys passed = record {
   halt = tt;
-  kept = keeps-same old new tables agrees same (closing-opens old.zones new.zones closing) obeys.lawful (obeys.counts refl).refused obeys.durable (obeys.counts refl).appended;
+  kept = keeps-same old new tables agrees same (closing-opens old.zones new.zones closing) obeys.lawful obeys.unfailing (obeys.counts refl).refused obeys.durable (obeys.counts refl).appended;
   cause = obeys.stops refl;
 }
 
@@ -73,8 +74,8 @@ place_halts old new tables block address returned fault agrees lt at gives same 
     row_halts old new tables address 1 returned fault agrees (holds old tables block (places.At address) agrees lt at).can gives same closing obeys passed
 
 -- and one that was done
-pub place_kept : (old new : DriveState) (tables : TablesView) → Agrees (mounted old tables) → SameContents old new → IsClosing old.zones new.zones → IsLawful new → new.durable ≡ old.durable → Counts old new 0 → KeepsArray (mounted old tables) (mounted new tables)
-place_kept old new tables agrees same closing lawful durable counts = keeps-contents old new tables agrees same (closing-opens old.zones new.zones closing) lawful durable counts
+pub place_kept : (old new : DriveState) (tables : TablesView) → Agrees (mounted old tables) → SameContents old new → IsClosing old.zones new.zones → IsLawful new → (IsTrue new.unfailing → IsTrue old.unfailing) → new.durable ≡ old.durable → Counts old new 0 → KeepsArray (mounted old tables) (mounted new tables)
+place_kept old new tables agrees same closing lawful failed durable counts = keeps-contents old new tables agrees same (closing-opens old.zones new.zones closing) lawful failed durable counts
 
 -- it shows the block of the array
 pub place_shown : (drive : DriveState) (tables : TablesView) (block address : ℕ) (shown : List ℕ) → Agrees (mounted drive tables) → block < size_of tables → places.At address ≡ get_or tables.map.places block places.None

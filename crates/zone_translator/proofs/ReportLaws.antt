@@ -51,7 +51,7 @@ reports-all old new dwords bytes range count is reported = record {
 
 -- it keeps the array
 pub report_kept : (old new : DriveState) (tables : TablesView) (dwords : ℕ) (bytes : List ℕ) → Agrees (mounted old tables) → SameContents old new → IsClosing old.zones new.zones → Obeys {V = Unit {0}} old (Ok tt) new → Reported old new 0 AnyState false dwords bytes → KeepsArray (mounted old tables) (mounted new tables)
-report_kept old new tables dwords bytes agrees same closing obeys reported = keeps-contents old new tables agrees same (closing-opens old.zones new.zones closing) obeys.lawful obeys.durable reported.counts
+report_kept old new tables dwords bytes agrees same closing obeys reported = keeps-contents old new tables agrees same (closing-opens old.zones new.zones closing) obeys.lawful obeys.unfailing obeys.durable reported.counts
 
 -- it is not refused, and the result is kept
 pub report_halts : (old new : DriveState) (tables : TablesView) (dwords : ℕ) (returned : List ℕ) (fault : PortFault) → Agrees (mounted old tables) → ReportGives {V = Unit {0}} old 0 AnyState false dwords (Err fault) returned new → SameContents old new → IsClosing old.zones new.zones
@@ -62,12 +62,12 @@ report_halts old new tables dwords returned port.Failed agrees gives same closin
     let failed = obeys.fails refl in
     record {
       halt = tt;
-      kept = keeps-same old new tables agrees same (closing-opens old.zones new.zones closing) obeys.lawful failed.1.refused obeys.durable failed.1.appended;
+      kept = keeps-same old new tables agrees same (closing-opens old.zones new.zones closing) obeys.lawful obeys.unfailing failed.1.refused obeys.durable failed.1.appended;
       cause = failed.0;
     }
 report_halts old new tables dwords returned port.Stopped agrees gives same closing obeys passed = record {
   halt = tt;
-  kept = keeps-same old new tables agrees same (closing-opens old.zones new.zones closing) obeys.lawful (obeys.counts refl).refused obeys.durable (obeys.counts refl).appended;
+  kept = keeps-same old new tables agrees same (closing-opens old.zones new.zones closing) obeys.lawful obeys.unfailing (obeys.counts refl).refused obeys.durable (obeys.counts refl).appended;
   cause = obeys.stops refl;
 }
 

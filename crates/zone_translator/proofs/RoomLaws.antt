@@ -14,7 +14,7 @@ use Rattle.zone_choice.specs.Changes.{IsHalt, KeepsArray, fault_halt}
 use Rattle.zone_choice.specs.declared.roles.Second.TheVariants.{Destination}
 use Rattle.zone_choice.specs.Roles.{IsLowestEmpty, RolesView, empty_count, is_at, is_filling_at, filling_list, next_of, promoted, sealed, taken}
 use Rattle.zone_choice.specs.Tables.{TablesView, size_of}
-use Rattle.zone_choice.proofs.AgreementLaws.{agrees_finish, agrees_seal, agrees_take, spare-taken, tables_with}
+use Rattle.zone_choice.proofs.AgreementLaws.{StaysFailed, agrees_finish, agrees_seal, agrees_take, spare-taken, tables_with}
 use Rattle.zone_choice.proofs.ChangeLaws.{keeps-halt, keeps-same}
 use Rattle.zone_choice.proofs.CommandLaws.{can_finish, filling-few, filling-full, filling-in_range, zone-start}
 use Rattle.zone_choice.proofs.MarkLaws.{sealed-seal, sealed-take}
@@ -23,7 +23,8 @@ use Rattle.zone_choice.proofs.RolesLaws.{roles_with, second_list}
 use Rattle.zone_cleaner.specs.declared.fault.CleanFault.{CleanFault}
 use Rattle.zone_cleaner.specs.declared.fault.CleanFault.TheVariants as faults
 use Rattle.zone_cleaner.specs.Clean.{CleanView}
-use Rattle.zone_cleaner.specs.Start.{AgreesWithClean, GoesOn, IsCleaningCause, KeepsByCleaning, trims}
+use Rattle.zone_cleaner.specs.Start.{AgreesWithClean, GoesOn, IsCleaningCause, KeepsByCleaning}
+use Rattle.zone_cleaner.specs.Clean.{trims}
 use Rattle.zone_cleaner.proofs.NextLaws.{cleaned_kept, cleaning_kept, promote_gives}
 use Rattle.zone_cleaner.proofs.TurnLaws.{keeps-more}
 use Rattle.zone_translator.proofs.CleaningLaws.{StaysClean, array-stays, goes-same, newer-same, stays-cleaning}
@@ -81,6 +82,7 @@ retire-stops a b clean is leaves =
       durable = kept.durable;
       next = omega (arith, ap (λ (t : TablesView). t.next) leaves.0, kept.appended);
       appended = omega (arith, kept.appended);
+      unfailing = kept.unfailing;
     }
 
 -- the host zone was sealed, or the drive stopped
@@ -102,7 +104,7 @@ retire_clean V a b clean OutOfMemory is leaves = stays-cleaning {V = V} a b clea
 retire_clean V a b clean Failed is leaves = stays-cleaning {V = V} a b clean clean (Err Failed) (array-stays a b clean is leaves)
 retire_clean V a b clean Stopped is leaves =
     let turns : NoMoreTurns a clean b clean = rw leaves.0 (omega arith) in
-    record { clean = goes-same a b clean clean refl turns; turns = tt; newer = tt }
+    record { clean = λ up. goes-same a b clean clean refl turns; unfailing = leaves.1.1.unfailing; turns = tt; newer = tt }
 retire_clean V a b clean Spent is leaves = stays-cleaning {V = V} a b clean clean (Err Spent) (array-stays a b clean is leaves)
 retire_clean V a b clean Smaller is leaves = stays-cleaning {V = V} a b clean clean (Err Smaller) (array-stays a b clean is leaves)
 retire_clean V a b clean Reserve is leaves = stays-cleaning {V = V} a b clean clean (Err Reserve) (array-stays a b clean is leaves)
@@ -141,9 +143,9 @@ filling-host roles host is =
     ap (λ (h : Option Filling). list_any (is_at host.zone) (filling_list h ++ second_list roles.second)) is ∙ ap (λ (b : Bool). b || list_any (is_at host.zone) (second_list roles.second)) (eq-eqb host.zone host.zone refl)
 
 -- tables with a known host zone
-with-host : (drive : DriveState) (tables : TablesView) (host : Option Filling) → tables.roles.host ≡ host → Agrees (mounted drive tables) → Agrees (mounted drive (tables_with tables.map (roles_with tables.roles.empty host tables.roles.second) tables.next tables.given))
+with-host : (drive : DriveState) (tables : TablesView) (host : Option Filling) → tables.roles.host ≡ host → Agrees (mounted drive tables) → Agrees (mounted drive (tables_with tables.map (roles_with tables.roles.empty host tables.roles.second) tables.next tables.given tables.unreadable))
 with-host drive tables host e agrees =
-    let P : Option Filling → Type 0 = λ h. Agrees (mounted drive (tables_with tables.map (roles_with tables.roles.empty h tables.roles.second) tables.next tables.given)) in subst P e agrees
+    let P : Option Filling → Type 0 = λ h. Agrees (mounted drive (tables_with tables.map (roles_with tables.roles.empty h tables.roles.second) tables.next tables.given tables.unreadable)) in subst P e agrees
 
 -- it holds what the tables say
 pub host-filled : (drive : DriveState) (tables : TablesView) (host : Filling) → tables.roles.host ≡ Some host → Agrees (mounted drive tables) → HoldsFilling drive.geometry.capacity (contents drive.zones) (drive_logs drive) host
@@ -162,7 +164,7 @@ pub keeps-seal : (drive : DriveState) (tables new : TablesView) (host : Filling)
     → (content_at (contents drive.zones) host.zone).usage ≡ full → KeepsArray (mounted drive tables) (mounted drive new)
 keeps-seal drive tables new host agrees is new-is some is_full =
     rw new-is (record {
-      agrees = agrees_seal drive tables.map tables.roles.empty host tables.roles.second tables.next tables.given (with-host drive tables (Some host) is agrees) some is_full;
+      agrees = agrees_seal drive tables.map tables.roles.empty host tables.roles.second tables.next tables.given tables.unreadable (with-host drive tables (Some host) is agrees) some is_full;
       logs = refl;
       array = refl;
       places = refl;
@@ -175,22 +177,23 @@ keeps-seal drive tables new host agrees is new-is some is_full =
       refused = refl;
       durable = refl;
       appended = refl;
+      unfailing = λ up. up;
     })
 
 -- the tables after a Finish of the host zone agree with the drive, and the array is the same
 finished_host : (old new : DriveState) (tables : TablesView) (host : Filling) (start : ℕ) → Agrees (mounted old tables) → tables.roles.host ≡ Some host → start ≡ host.zone * old.geometry.size → 1 ≤ host.written → host.written < old.geometry.capacity
-    → new.geometry ≡ old.geometry → Finishes (contents old.zones) (contents new.zones) (start / old.geometry.size) → OpensNone old.zones new.zones → IsLawful new
+    → new.geometry ≡ old.geometry → Finishes (contents old.zones) (contents new.zones) (start / old.geometry.size) → OpensNone old.zones new.zones → IsLawful new → StaysFailed old new
     → Agrees (mounted new (record tables { roles = sealed tables.roles })) × (drive_logs new ≡ drive_logs old) × (encoded new tables.given ≡ encoded old tables.given)
-finished_host old new tables host start agrees is start-is some room geometry finishes opens lawful =
+finished_host old new tables host start agrees is start-is some room geometry finishes opens lawful failed =
     let index = (zone-start host.zone old.geometry.size agrees.geometry.size.0).0 in
-    let done = agrees_finish old new tables.map tables.roles.empty host tables.roles.second tables.next tables.given (with-host old tables (Some host) is agrees) some room geometry lawful (rw (start-is, index) at finishes) opens in
+    let done = agrees_finish old new tables.map tables.roles.empty host tables.roles.second tables.next tables.given tables.unreadable (with-host old tables (Some host) is agrees) some room geometry lawful failed (rw (start-is, index) at finishes) opens in
     (done.0, done.1, done.2)
 
 -- and so does finishing it
 pub keeps-finish : (old new : DriveState) (tables after : TablesView) (host : Filling) (start : ℕ) → Agrees (mounted old tables) → tables.roles.host ≡ Some host → start ≡ host.zone * old.geometry.size → 1 ≤ host.written → host.written < old.geometry.capacity
-    → Finished old new start → OpensNone old.zones new.zones → IsLawful new → new.durable ≡ old.durable → after ≡ record tables { roles = sealed tables.roles } → KeepsArray (mounted old tables) (mounted new after)
-keeps-finish old new tables after host start agrees is start-is some room finished opens lawful durable after-is =
-    let done = finished_host old new tables host start agrees is start-is some room finished.geometry finished.contents opens lawful in
+    → Finished old new start → OpensNone old.zones new.zones → IsLawful new → StaysFailed old new → new.durable ≡ old.durable → after ≡ record tables { roles = sealed tables.roles } → KeepsArray (mounted old tables) (mounted new after)
+keeps-finish old new tables after host start agrees is start-is some room finished opens lawful failed durable after-is =
+    let done = finished_host old new tables host start agrees is start-is some room finished.geometry finished.contents opens lawful failed in
     rw after-is (record {
       agrees = done.0;
       logs = done.1;
@@ -205,6 +208,7 @@ keeps-finish old new tables after host start agrees is start-is some room finish
       refused = finished.counts.refused;
       durable = durable;
       appended = omega (arith, finished.counts.appended);
+      unfailing = failed;
     })
 
 -- a Finish of the host zone that did not succeed
@@ -221,17 +225,17 @@ finish_halts old new tables host start port.Memory agrees is start-is some room 
 finish_halts old new tables host start port.Failed agrees is start-is some room gives kept leaves obeys passed =
     let failed = obeys.fails refl in
     let opens : OpensNone old.zones new.zones = finish-opens {V = Unit {0}} old new start (Err port.Failed) leaves in
-    record { halt = tt; leaves = keeps-same old new tables agrees kept opens obeys.lawful failed.1.refused obeys.durable failed.1.appended; cause = failed.0 }
+    record { halt = tt; leaves = keeps-same old new tables agrees kept opens obeys.lawful obeys.unfailing failed.1.refused obeys.durable failed.1.appended; cause = failed.0 }
 finish_halts old new tables host start port.Stopped agrees is start-is some room gives kept leaves obeys passed = record { halt = tt; leaves = (refl, by kept); cause = obeys.stops refl }
   where
     opens : OpensNone old.zones new.zones
     opens = finish-opens {V = Unit {0}} old new start (Err port.Stopped) leaves
 
     by : SameContents old new ⊎ FinishedContents old new start → (after : TablesView) × KeepsArray (mounted old tables) (mounted new after)
-    by (inl same) = (tables, keeps-same old new tables agrees same opens obeys.lawful (obeys.counts refl).refused obeys.durable (obeys.counts refl).appended)
+    by (inl same) = (tables, keeps-same old new tables agrees same opens obeys.lawful obeys.unfailing (obeys.counts refl).refused obeys.durable (obeys.counts refl).appended)
     by (inr finished) =
         let after = record tables { roles = sealed tables.roles } in
-        let done = finished_host old new tables host start agrees is start-is some room finished.geometry finished.contents opens obeys.lawful in (
+        let done = finished_host old new tables host start agrees is start-is some room finished.geometry finished.contents opens obeys.lawful obeys.unfailing in (
           after,
           record {
             agrees = done.0;
@@ -247,6 +251,7 @@ finish_halts old new tables host start port.Stopped agrees is start-is some room
             refused = (obeys.counts refl).refused;
             durable = obeys.durable;
             appended = (obeys.counts refl).appended;
+            unfailing = obeys.unfailing;
           },
         )
 
@@ -255,7 +260,7 @@ keeps-take : (drive : DriveState) (tables new : TablesView) (zone : ℕ) → Agr
     → KeepsArray (mounted drive tables) (mounted drive new)
 keeps-take drive tables new zone agrees is lowest two new-is =
     rw new-is (record {
-      agrees = agrees_take drive tables.map tables.roles.empty tables.roles.second zone tables.next tables.given (with-host drive tables None is agrees) lowest.in_range lowest.is_empty;
+      agrees = agrees_take drive tables.map tables.roles.empty tables.roles.second zone tables.next tables.given tables.unreadable (with-host drive tables None is agrees) lowest.in_range lowest.is_empty;
       logs = refl;
       array = refl;
       places = refl;
@@ -268,6 +273,7 @@ keeps-take drive tables new zone agrees is lowest two new-is =
       refused = refl;
       durable = refl;
       appended = refl;
+      unfailing = λ up. up;
     })
 
 -- ---- a host zone is found
@@ -285,7 +291,7 @@ take-next drive old new None host is none next new-is =
     record {
       leaves = (gives.keeps, gives.cleaned);
       host_is = record { host_is = gives.host; free = gives.room };
-      stays = record { next = rw new-is (omega arith); geometry = refl; goes = tt; turns = omega arith; newer = newer-same old.next (drive_logs drive) (drive_logs drive) refl };
+      stays = record { next = rw new-is (omega arith); geometry = refl; goes = λ up. tt; unfailing = λ up. up; turns = omega arith; newer = newer-same old.next (drive_logs drive) (drive_logs drive) refl };
     }
 take-next drive old new (Some c) host is none next new-is = let bad : next_of (Some (Destination is.1.destination)) ≡ Some host = rw is.1.second at next in absurd (cc)
 

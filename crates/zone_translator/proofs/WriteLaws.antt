@@ -36,7 +36,8 @@ use Rattle.zone_choice.proofs.CommandLaws.{filling-in_range}
 use Rattle.drive_array.proofs.SizeLaws.{greatest-append_log}
 use Rattle.zone_cleaner.specs.Clean.{CleanView}
 use Rattle.zone_cleaner.specs.Host.{HostLeaves}
-use Rattle.zone_cleaner.specs.Start.{AgreesWithClean, KeepsByCleaning, trims}
+use Rattle.zone_cleaner.specs.Start.{AgreesWithClean, KeepsByCleaning}
+use Rattle.zone_cleaner.specs.Clean.{trims}
 use Rattle.zone_cleaner.proofs.NextLaws.{cleaning_kept}
 use Rattle.zone_cleaner.proofs.TurnLaws.{cleans_mountable, keeps-more}
 use Rattle.zone_translator.specs.declared.write.Rest.{Rest}

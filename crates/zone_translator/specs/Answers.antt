@@ -1,5 +1,5 @@
 -- What the calls of a disk promise.
-use Rattle.std.specs.Prelude.{◌≡◌, ◌⊎◌, ℕ, ◌+◌, ◌-◌, ◌*◌, ◌<◌, ◌≤◌, Bool, true, false, List, length}
+use Rattle.std.specs.Prelude.{◌≡◌, ◌⊎◌, ℕ, ◌+◌, ◌-◌, ◌*◌, ◌<◌, ◌≤◌, Bool, true, false, List, length, IsTrue}
 use Rattle.std.specs.Prelude.{slice_index_or, Some, None, IfErr, IfSome, OnOk, OnErr, Result, Ok, Err}
 use Rattle.logical_map.specs.declared.place.Place.{Place}
 use Rattle.logical_map.specs.declared.place.Place.TheVariants as places
@@ -15,7 +15,8 @@ use Rattle.zone_choice.specs.Changes.{sequence_end}
 use Rattle.drive_array.specs.Mountable.{IsMountable}
 use Rattle.drive_array.specs.Reserve.{FitsReserve}
 use Rattle.zone_cleaner.specs.Clean.{CleanView}
-use Rattle.zone_cleaner.specs.Start.{TurnsFewer, trims}
+use Rattle.zone_cleaner.specs.Start.{TurnsFewer}
+use Rattle.zone_cleaner.specs.Clean.{trims}
 use Rattle.zone_translator.specs.declared.fault.DiskFault.{DiskFault}
 use Rattle.zone_translator.specs.declared.fault.DiskFault.TheVariants.{Stopped}
 use Rattle.zone_translator.specs.declared.status.DiskStatus.TheVariants as statuses
@@ -122,8 +123,12 @@ pub record RunsOn (clean : CleanView) (old new : DiskView) : Type 0 where
 
 -- The clean that ran before a call is not thrown back: it still runs, or it has ended in the call, and its victim was
 -- emptied, in which only batches of the call are. Another clean may run then.
+abbrev pub ThrowsNone : DiskView → DiskView → Type 0
+ThrowsNone old new = IfSome old.clean (λ clean. RunsOn clean old new ⊎ AreNewer (next_sequence old) (log_in_zone new.drive clean.victim))
+
+-- So it is while no command fails. Else the clean may be given up.
 abbrev pub KeepsClean : DiskView → DiskView → Type 0
-KeepsClean old new = IfSome old.clean (λ clean. RunsOn clean old new ⊎ AreNewer (next_sequence old) (log_in_zone new.drive clean.victim))
+KeepsClean old new = IsTrue new.drive.unfailing → ThrowsNone old new
 
 -- What a write costs, whatever it answers: so many commands at most. One that is done adds no turns of a clean, and one
 -- after which the disk serves throws none back that runs.

@@ -1,5 +1,5 @@
 -- What a part of a call leaves of the clean that ran before it.
-use Rattle.std.specs.Prelude.{◌≡◌, ◌⊎◌, ℕ, ◌≤◌, List, ◌++◌, Option, Some, None, OnOk, Result, Err}
+use Rattle.std.specs.Prelude.{◌≡◌, ◌⊎◌, ℕ, ◌≤◌, List, ◌++◌, IsTrue, Option, Some, None, OnOk, Result, Err}
 use Rattle.std.specs.List.{AllByRecursion}
 use Rattle.drive_port.specs.Drive.{DriveState}
 use Rattle.batch_log.specs.Log.{Batch}
@@ -36,10 +36,11 @@ abbrev pub AddsNewer : {V : Type 0} → MountedView → Result V DiskFault → M
 AddsNewer before (Err Stopped) after = Unit {0}
 AddsNewer before result after = OnlyNewer before.tables.next (drive_logs before.drive) (drive_logs after.drive)
 
--- The clean that ran continues, or ends. Once the call is done, no more turns are left than before, also if none ran;
+-- While no command fails, the clean that ran continues, or ends. Once the call is done, no more turns are left than before, also if none ran;
 -- a call that was refused may leave a clean that it started.
 pub record KeepsCleaning {V : Type 0} (before : MountedView) (old : Option CleanView) (result : Result V DiskFault) (after : MountedView)
     (new : Option CleanView) : Type 0 where
-  pub clean : GoesOnOrEnds before old after new
+  pub clean : IsTrue after.drive.unfailing → GoesOnOrEnds before old after new
+  pub unfailing : IsTrue after.drive.unfailing → IsTrue before.drive.unfailing
   pub turns : OnOk result (NoMoreTurns before old after new)
   pub newer : AddsNewer before result after

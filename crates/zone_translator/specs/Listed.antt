@@ -18,7 +18,8 @@ use Rattle.drive_array.specs.Sizes.{greatest}
 use Rattle.drive_array.specs.ZoneLogs.{drive_logs}
 use Rattle.zone_choice.specs.Tables.{size_of}
 use Rattle.zone_cleaner.specs.Clean.{CleanView}
-use Rattle.zone_cleaner.specs.Start.{AgreesWithClean, KeepsByCleaning, trims}
+use Rattle.zone_cleaner.specs.Start.{AgreesWithClean, KeepsByCleaning}
+use Rattle.zone_cleaner.specs.Clean.{trims}
 use Rattle.zone_translator.specs.declared.list.ListRest.{ListRest}
 use Rattle.zone_translator.specs.declared.list.Taken.{Taken}
 use Rattle.zone_translator.specs.declared.fault.DiskFault.{DiskFault}

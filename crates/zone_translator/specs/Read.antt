@@ -4,7 +4,7 @@ use Rattle.zone_states.specs.declared.geometry.Geometry.{Geometry}
 use Rattle.logical_map.specs.declared.place.Place.{Place}
 use Rattle.logical_map.specs.declared.place.Place.TheVariants as places
 use Rattle.zone_choice.specs.Agreement.{MountedView}
-use Rattle.zone_cleaner.specs.Start.{trims}
+use Rattle.zone_cleaner.specs.Clean.{trims}
 use Rattle.drive_port.specs.Drive.{DriveState}
 use Rattle.zone_translator.specs.declared.fault.DiskFault.{DiskFault}
 use Rattle.zone_translator.specs.declared.fault.DiskFault.TheVariants.{OutOfMemory, Failed, Stopped}

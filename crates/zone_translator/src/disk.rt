@@ -10,7 +10,7 @@ ghost use Rattle.drive_survey.specs.Survey.{MayAsk};
 ghost use Rattle.drive_array.specs.Reserve.{FitsReserve};
 ghost use Rattle.zone_choice.specs.Roles.{empty_count};
 ghost use Rattle.zone_choice.specs.Sane.{IsSane, KeepsShape};
-ghost use Rattle.zone_choice.specs.Tables.{size_of};
+ghost use Rattle.zone_choice.specs.Tables.{is_left_out, size_of};
 ghost use Rattle.zone_translator.specs.Answers.{Answers, AnswersRead, AreBlocksOf, CostsAtMost, IsMounted};
 ghost use Rattle.zone_translator.specs.Answers.{KeepsClean, Remounts, SaysSize, Stores, TakesTurn};
 ghost use Rattle.zone_translator.specs.Answers.{StoresList, count_of_blocks, list_commands, write_bytes};
@@ -198,6 +198,14 @@ impl<D: Device + Drop> AnyDisk<D> {
         self.mounted.tables.live(zone)
     }
 
+    /// Whether no clean takes a zone now, since the drive failed to read live data in it. That ends if those blocks are
+    /// written anew or trimmed, at a remount, and if no other zone can be cleaned.
+    pub fn is_left_out(&self, zone: u32) -> bool
+        ensures { result ≡ is_left_out self.now.tables zone }
+    {
+        self.mounted.tables.is_left_out(zone)
+    }
+
     /// Whether the disk serves calls, has answered `Stopped`, or has refused a remount.
     pub fn status(&self) -> DiskStatus
         ensures { result ≡ self.now.status }
@@ -242,7 +250,8 @@ impl<D: Device + Drop> AnyDisk<D> {
         // It answers as a flat array does. The drive can be mounted again, and each batch is as long as it can be.
         ensures answers { IsTrue self.new.drive.clean → Answers self.old
             (write_content self.old first blocks content.entry) result self.new }
-        ensures stores { IsTrue self.new.drive.clean → Stores (is_trim content.entry) self.old first blocks result self.new }
+        ensures stores { IsTrue self.new.drive.clean
+            → Stores (is_trim content.entry) self.old first blocks result self.new }
         // It completes at most that many commands and, unless the drive stops, adds no turns to a clean that runs.
         ensures costs { IsTrue self.new.drive.clean → CostsAtMost self.old
             (write_commands (is_trim content.entry) self.old blocks) result self.new }
@@ -283,8 +292,8 @@ impl<D: Device + Drop> AnyDisk<D> {
             ++ slice_index_or (disk_array self.old) block []) }
         ensures serving { OnOk result (self.new.status ≡ Serving) }
         ensures err { IsTrue self.new.drive.clean → IfErr result (ReadStops self.old block self.new) }
-        // Whatever the Read returned, it adds as many bytes as a block has, and shape, size and turns stay. It completes one
-        // command at most.
+        // Whatever the Read returned, it adds as many bytes as a block has, and shape, size and turns stay. It
+        // completes one command at most.
         ensures added { OnOk result (length into.new.items ≡ length into.old.items
             + 1 * self.old.drive.geometry.block) }
         ensures alike { StaysAlike self.old self.new }
@@ -312,11 +321,12 @@ impl<D: Device + Drop> AnyDisk<D> {
         // Done, it has added the bytes of a piece, and the disk still serves. Refused, the fault has its cause.
         ensures ok { IsTrue self.new.drive.clean → IfOk result (λ count. into.new.items ≡ into.old.items
             ++ concat (blocks_from (disk_array self.old) block count)) }
-        ensures piece { IsTrue self.new.drive.clean → IfOk result (λ count. IsPiece self.old.drive.geometry (disk_places self.old) block left count) }
+        ensures piece { IsTrue self.new.drive.clean
+            → IfOk result (λ count. IsPiece self.old.drive.geometry (disk_places self.old) block left count) }
         ensures serving { OnOk result (self.new.status ≡ Serving) }
         ensures err { IsTrue self.new.drive.clean → IfErr result (ReadStops self.old block self.new) }
-        // Whatever the Read returned, it adds as many bytes as the piece has, and shape, size and turns stay. It completes
-        // one command at most.
+        // Whatever the Read returned, it adds as many bytes as the piece has, and shape, size and turns stay. It
+        // completes one command at most.
         ensures added { IfOk result (λ count. length into.new.items ≡ length into.old.items
             + count * self.old.drive.geometry.block) }
         ensures some { IfOk result (λ count. (1 ≤ count) × (count ≤ left)) }
@@ -400,7 +410,8 @@ impl<D: Device + Drop> AnyDisk<D> {
     pub fn write(&mut self, first: u64, bytes: &[u8]) -> Result<(), DiskFault>
         requires whole { AreBlocksOf self.old bytes.now }
         // It answers as a flat array does. Whatever it answers, the drive can be mounted again.
-        ensures answers { IsTrue self.new.drive.clean → Answers self.old (write_bytes self.old first bytes.now) result self.new }
+        ensures answers { IsTrue self.new.drive.clean
+            → Answers self.old (write_bytes self.old first bytes.now) result self.new }
         // Done, the newest records of these blocks have data. In any case each batch is as long as it can be.
         ensures stores { IsTrue self.new.drive.clean → Stores false self.old first
             (count_of_blocks self.old bytes.now) result self.new }
@@ -445,7 +456,8 @@ impl<D: Device + Drop> AnyDisk<D> {
         ensures err { IsTrue self.new.drive.clean → IfErr result (RefusedPuts self.old left.entry self.new) }
         // Whatever it answers, the drive can be mounted, and the size is the same. Its batch is as long as it can be.
         ensures kept { IsTrue self.new.drive.clean → KeepsDurable self.old self.new }
-        ensures cut { IsTrue self.new.drive.clean → KeepsCutTo (last_block left.entry.entries.now) self.old.drive self.new.drive }
+        ensures cut { IsTrue self.new.drive.clean
+            → KeepsCutTo (last_block left.entry.entries.now) self.old.drive self.new.drive }
         // It adds no turns to a clean that ran.
         ensures clean { IsTrue self.new.drive.clean → KeepsCleaning (mounted_of self.old) self.old.clean result
             (mounted_of self.new) self.new.clean }
@@ -576,10 +588,11 @@ impl<D: Device + Drop> AnyDisk<D> {
         // It answers as a flat array does, and the drive can be mounted again. Done, a header has the new size.
         ensures answers { IsTrue self.new.drive.clean → Answers self.old (grow blocks) result self.new }
         ensures says { IsTrue self.new.drive.clean → OnOk result (SaysSize self.old blocks self.new) }
-        // Done, or if a clean ran before, no turns are added, and the clean is not thrown back. It costs at most the
-        // commands of one batch.
+        // Done, or if a clean ran before and no command failed, no turns are added, and the clean is not thrown back.
+        // It costs at most the commands of one batch.
         ensures turns { IsTrue self.new.drive.clean → OnOk result (disk_turns self.new ≤ disk_turns self.old) }
-        ensures fewer { IsTrue self.new.drive.clean → is_some self.old.clean ≡ true → disk_turns self.new ≤ disk_turns self.old }
+        ensures fewer { IsTrue self.new.drive.clean → IsTrue self.new.drive.unfailing → is_some self.old.clean ≡ true
+            → disk_turns self.new ≤ disk_turns self.old }
         ensures clean { IsTrue self.new.drive.clean → KeepsClean self.old self.new }
         // Whatever the Reads returned: done, it has this size; refused, the old one. The commands have that bound.
         ensures size { OnOk result (disk_size self.new ≡ blocks) }
@@ -604,8 +617,8 @@ impl<D: Device + Drop> AnyDisk<D> {
         }
     }
 
-    /// Makes the array durable, by a Flush of the drive: a loss of power leaves it, as far as the drive says what such a
-    /// loss leaves.
+    /// Makes the array durable, by a Flush of the drive: a loss of power leaves it, as far as the drive says what such
+    /// a loss leaves.
     ///
     /// After a refusal the array is the same, and a loss of power leaves what it might have left before, or this array.
     pub fn flush(&mut self) -> Result<(), DiskFault>
@@ -655,8 +668,8 @@ impl<D: Device + Drop> AnyDisk<D> {
     }
 
     /// Mounts the drive again, as a mount with the same number of logical blocks does it. A clean that runs is
-    /// forgotten. A drive that has stopped is not mounted: take it by [`into_device`](AnyDisk::into_device), restart it,
-    /// and mount it.
+    /// forgotten. A drive that has stopped is not mounted: take it by [`into_device`](AnyDisk::into_device), restart
+    /// it, and mount it.
     ///
     /// A refusal is `Halted` or `OutOfMemory`. It leaves the array on the drive, and the disk answers `Unmounted` to
     /// every call that needs the drive, until a remount is done.
@@ -699,10 +712,11 @@ impl<D: Device + Drop> AnyDisk<D> {
         }
     }
 
-    /// Shows `blocks` blocks from `first` on. `into` has the bytes of as many blocks then, whatever the Reads returned. It is
-    /// empty after a refusal.
+    /// Shows `blocks` blocks from `first` on. `into` has the bytes of as many blocks then, whatever the Reads returned.
+    /// It is empty after a refusal.
     pub fn read(&mut self, first: u64, blocks: u64, into: &mut Vec<u8>) -> Result<(), DiskFault>
-        ensures answers { IsTrue self.new.drive.clean → AnswersRead self.old first blocks result into.new.items self.new }
+        ensures answers { IsTrue self.new.drive.clean
+            → AnswersRead self.old first blocks result into.new.items self.new }
         ensures whole { OnOk result (length into.new.items ≡ blocks * self.old.drive.geometry.block) }
         ensures none { OnErr result (into.new.items ≡ []) }
         ensures turns { disk_turns self.new ≡ disk_turns self.old }
@@ -722,15 +736,16 @@ impl<D: Device + Drop> AnyDisk<D> {
         Ok(())
     }
 
-    /// Shows blocks as [`read`](AnyDisk::read) does, by fewer commands: one for all blocks whose data are neighbours on the
-    /// drive, as far as one command reaches.
+    /// Shows blocks as [`read`](AnyDisk::read) does, by fewer commands: one for all blocks whose data are neighbours on
+    /// the drive, as far as one command reaches.
     pub fn read_joined(
         &mut self,
         first: u64,
         blocks: u64,
         into: &mut Vec<u8>,
     ) -> Result<(), DiskFault>
-        ensures answers { IsTrue self.new.drive.clean → AnswersRead self.old first blocks result into.new.items self.new }
+        ensures answers { IsTrue self.new.drive.clean
+            → AnswersRead self.old first blocks result into.new.items self.new }
         ensures whole { OnOk result (length into.new.items ≡ blocks * self.old.drive.geometry.block) }
         ensures none { OnErr result (into.new.items ≡ []) }
         ensures turns { disk_turns self.new ≡ disk_turns self.old }

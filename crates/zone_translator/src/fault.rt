@@ -29,12 +29,12 @@ pub enum DiskFault {
     /// A growth to more blocks than the drive's reserve allows. Nothing was sent, and nothing changed.
     #[error("the drive's reserve does not allow this number of logical blocks")]
     Reserve,
-    /// The drive failed at a command, which had no effect. Of a write, a fill or a trim a front is in place, a growth is
-    /// not done, and the disk continues.
+    /// The drive failed at a command, which had no effect. Of a write, a fill or a trim a front is in place, a growth
+    /// is not done, and the disk continues.
     #[error("the drive failed at a command")]
     Failed,
-    /// What the drive returned does not fit, or it refused a command. A drive that obeys, and returns what it holds, gives
-    /// no cause for it. The disk answers `Stopped` from then on, until its drive is mounted again.
+    /// What the drive returned does not fit, or it refused a command. A drive that obeys, and returns what it holds,
+    /// gives no cause for it. The disk answers `Stopped` from then on, until its drive is mounted again.
     #[error("what the drive returned does not fit")]
     Damaged,
 }

@@ -1,6 +1,7 @@
-//! A disk over a device that is always clean: what `AnyDisk` promises while the drive is clean, is always promised here.
+//! A disk over a device that is always clean: what `AnyDisk` promises while the drive is clean, is always promised
+//! here.
 
-ghost use Rattle.std.specs.Prelude.{◌≡◌, ◌+◌, ◌<◌, ◌≤◌, ◌^◌, ◌++◌, [], IfErr, IfOk, None, OnErr, OnOk, false};
+ghost use Rattle.std.specs.Prelude.{◌≡◌, ◌+◌, ◌<◌, ◌≤◌, ◌^◌, ◌++◌, [], IfErr, IfOk, None, OnErr, OnOk, false, IsTrue};
 ghost use Rattle.std.specs.Prelude.{is_some, length, nat_eq, nat_lt, slice_index_or, true, ◌*◌};
 ghost use Rattle.std.specs.List.{AllByRecursion, IsDistinct, concat, list_all};
 ghost use Rattle.batch_log.specs.Log.{data_count};
@@ -11,7 +12,7 @@ ghost use Rattle.drive_survey.specs.Scan.{FailsBy};
 ghost use Rattle.drive_survey.specs.Survey.{MayAsk};
 ghost use Rattle.drive_array.specs.Reserve.{FitsReserve};
 ghost use Rattle.zone_choice.specs.Roles.{empty_count};
-ghost use Rattle.zone_choice.specs.Tables.{size_of};
+ghost use Rattle.zone_choice.specs.Tables.{is_left_out, size_of};
 ghost use Rattle.zone_translator.specs.Answers.{Answers, AnswersRead, AreBlocksOf, CostsAtMost, IsMounted};
 ghost use Rattle.zone_translator.specs.Answers.{KeepsClean, Remounts, SaysSize, Stores, TakesTurn};
 ghost use Rattle.zone_translator.specs.Answers.{StoresList, count_of_blocks, list_commands, write_bytes};
@@ -147,6 +148,14 @@ impl<D: Device + Honest + Drop> Disk<D> {
         self.disk.live(zone)
     }
 
+    /// Whether no clean takes a zone now, since the drive failed to read live data in it. That ends if those blocks are
+    /// written anew or trimmed, at a remount, and if no other zone can be cleaned.
+    pub fn is_left_out(&self, zone: u32) -> bool
+        ensures { result ≡ is_left_out self.now.tables zone }
+    {
+        self.disk.is_left_out(zone)
+    }
+
     /// Whether the disk serves calls, has answered `Stopped`, or has refused a remount.
     pub fn status(&self) -> DiskStatus
         ensures { result ≡ self.now.status }
@@ -236,10 +245,11 @@ impl<D: Device + Honest + Drop> Disk<D> {
         // It answers as a flat array does, and the drive can be mounted again. Done, a header has the new size.
         ensures answers { Answers self.old (grow blocks) result self.new }
         ensures says { OnOk result (SaysSize self.old blocks self.new) }
-        // Done, or if a clean ran before, no turns are added, and the clean is not thrown back. It costs at most the
-        // commands of one batch.
+        // Done, or if a clean ran before and no command failed, no turns are added, and the clean is not thrown back.
+        // It costs at most the commands of one batch.
         ensures turns { OnOk result (disk_turns self.new ≤ disk_turns self.old) }
-        ensures fewer { is_some self.old.clean ≡ true → disk_turns self.new ≤ disk_turns self.old }
+        ensures fewer { IsTrue self.new.drive.unfailing → is_some self.old.clean ≡ true
+            → disk_turns self.new ≤ disk_turns self.old }
         ensures clean { KeepsClean self.old self.new }
         ensures completed { CompletesAtMost self.old
             (batch_commands self.old.drive.geometry) self.new }
@@ -249,8 +259,8 @@ impl<D: Device + Honest + Drop> Disk<D> {
         result
     }
 
-    /// Makes the array durable, by a Flush of the drive: a loss of power leaves it, as far as the drive says what such a
-    /// loss leaves.
+    /// Makes the array durable, by a Flush of the drive: a loss of power leaves it, as far as the drive says what such
+    /// a loss leaves.
     ///
     /// After a refusal the array is the same, and a loss of power leaves what it might have left before, or this array.
     pub fn flush(&mut self) -> Result<(), DiskFault>
@@ -328,8 +338,8 @@ impl<D: Device + Honest + Drop> Disk<D> {
         result
     }
 
-    /// Shows blocks as [`read`](Disk::read) does, by fewer commands: one for all blocks whose data are neighbours on the
-    /// drive, as far as one command reaches.
+    /// Shows blocks as [`read`](Disk::read) does, by fewer commands: one for all blocks whose data are neighbours on
+    /// the drive, as far as one command reaches.
     pub fn read_joined(
         &mut self,
         first: u64,

@@ -46,8 +46,8 @@ pub fn lists_are_found()
     ensures found { ListIsFound }
 {}
 
-/// After a loss of power the array of the last flush is found again: the last one that was done, or one after it that was
-/// refused. That is said of a drive that says what a loss of power leaves.
+/// After a loss of power the array of the last flush is found again: the last one that was done, or one after it that
+/// was refused. That is said of a drive that says what a loss of power leaves.
 pub fn flushed_is_found()
     ensures { LossIsFound }
 {}

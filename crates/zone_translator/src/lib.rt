@@ -23,15 +23,15 @@
 //!
 //! # What is promised
 //!
-//! Whatever the Reads of its device return, each call of an `AnyDisk` ends, done or refused. Its drive keeps its shape, and
-//! the disk its size but for a growth or a remount (`StaysAlike`). Its commands have the bounds below. The numbers by
-//! which it sends commands stay in range (`Holds`). What does not fit them is refused by `Damaged`, and then the disk
-//! serves no more until its drive is mounted again. While the drive is clean, that never comes. All that follows is
-//! promised of an `AnyDisk` while its drive is clean, that is as long as each Read returned what the drive holds; and of
-//! a `Disk` always.
+//! Whatever the Reads of its device return, each call of an `AnyDisk` ends, done or refused. Its drive keeps its shape,
+//! and the disk its size but for a growth or a remount (`StaysAlike`). Its commands have the bounds below. The numbers
+//! by which it sends commands stay in range (`Holds`). What does not fit them is refused by `Damaged`, and then the
+//! disk serves no more until its drive is mounted again. While the drive is clean, that never comes. All that follows
+//! is promised of an `AnyDisk` while its drive is clean, that is as long as each Read returned what the drive holds;
+//! and of a `Disk` always.
 //!
-//! That is for every list of calls on a disk mounted on any drive, with stops and failed allocations at any point. A stop
-//! may fall between two commands or inside one: what holds at an exit with `Stopped` holds then.
+//! That is for every list of calls on a disk mounted on any drive, with stops and failed allocations at any point. A
+//! stop may fall between two commands or inside one: what holds at an exit with `Stopped` holds then.
 //!
 //! * Each answer is a flat array's answer (`FlatCall` in specs/Flat), by these cases in order: a call of no block is
 //!   done; one past the end is `OutOfRange`; a disk that refused a remount answers `Unmounted`; one that has answered
@@ -39,12 +39,13 @@
 //! * Done, a read shows the array's blocks, and a write, a fill, a trim or a list has replaced them. A growth is
 //!   refused as `Smaller` below the disk's size, then as `Reserve` above what the drive allows. Done, its new blocks
 //!   are zeros.
-//! * A read or a report is refused midway only by `OutOfMemory` or `Stopped`, and shows nothing. A refused write, fill,
-//!   trim or list has written a front of its blocks, and nothing else. A refused growth leaves the array the same, or
-//!   after a stop the array before or after the growth.
-//! * No call is refused for lack of room: once it was begun, only by `OutOfMemory` or `Stopped`; all but reads and
-//!   reports also by `Spent`. A read of a disk that serves answers `Stopped` only if one of its blocks has data
-//!   (`HasData`).
+//! * A read or a report is refused midway only by `OutOfMemory`, `Failed` or `Stopped`, and shows nothing. A refused
+//!   write, fill, trim or list has written a front of its blocks, and nothing else. A refused growth leaves the array
+//!   the same, or after a stop the array before or after the growth.
+//! * While all data can be read, no call is refused for lack of room. Once it was begun, it is refused only by
+//!   `OutOfMemory`, `Failed` or `Stopped`; all but reads and reports also by `Spent`. A read of a disk that serves
+//!   answers `Stopped` only if one of its blocks has data (`HasData`). `Failed` comes only if the drive has failed at a
+//!   command.
 //! * `Stopped` comes only if the drive has stopped, `Spent` only if the next sequence is 2^63 - `capacity` or more
 //!   (`cause`). A call whose answer is known before it begins leaves disk and drive untouched.
 //! * The drive refuses no command. At each exit, whatever the answer, the drive can be mounted and encodes the array
@@ -70,8 +71,8 @@
 //!   data, or a block and all its neighbours on the drive that one command reaches (`ReadsPieces` in specs/Parts).
 //! * An `idle` of a serving disk is exactly one turn of cleaning (`IsTurn`). Each completed turn leaves fewer turns, a
 //!   refused one as many, and no other completed call adds any. A clean that a turn starts has at most `capacity` - 1.
-//! * A refused write, fill, trim, list or growth does not set back a clean that ran before it: it still runs, of the
-//!   same zone, or its zone was emptied (`KeepsClean`).
+//! * If no command fails, a refused write, fill, trim, list or growth does not set back a clean that ran before it: it
+//!   still runs, of the same zone, or its zone was emptied (`KeepsClean`). A clean whose data cannot be read is undone.
 //! * While the disk serves, `place_of` tells where the newest record of a block is, `live` how many blocks have theirs
 //!   in a zone, and `is_cleaning` whether a clean runs. If none runs, a zone is kept empty.
 //! * A report shows all zones, whole, at one moment of the call, up to closings (`ReportsAll`).

@@ -1,6 +1,7 @@
 //! Lists of blocks: the batches that a disk makes of one.
 
-ghost use Rattle.std.specs.Prelude.{◌≡◌, ◌++◌, ◌+◌, ◌*◌, ◌≤◌, ◌<◌, ◌^◌, IfOk, IfErr, IsTrue, OnOk, Some, drop, length, nat_eq};
+ghost use Rattle.std.specs.Prelude.{◌≡◌, ◌++◌, ◌+◌, ◌*◌, ◌≤◌, ◌<◌, ◌^◌, IfOk, IfErr, IsTrue, OnOk, Some, drop, length};
+ghost use Rattle.std.specs.Prelude.{nat_eq};
 ghost use Rattle.std.specs.List.{AllByRecursion, IsDistinct};
 ghost use Rattle.batch_log.specs.Header.{IsSize, entry_room, header_block};
 ghost use Rattle.logical_map.specs.Places.{IsReady};

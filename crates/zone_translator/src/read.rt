@@ -1,4 +1,5 @@
-ghost use Rattle.std.specs.Prelude.{◌≡◌, ◌≢◌, ◌≤◌, ◌+◌, ◌++◌, ◌*◌, ◌<◌, ◌^◌, [], IfErr, IfOk, IsTrue, OnOk, false, length, replicate, slice_index_or};
+ghost use Rattle.std.specs.Prelude.{◌≡◌, ◌≢◌, ◌≤◌, ◌+◌, ◌++◌, ◌*◌, ◌<◌, ◌^◌, [], IfErr, IfOk, IsTrue, OnOk, false};
+ghost use Rattle.std.specs.Prelude.{length, replicate, slice_index_or};
 ghost use Rattle.std.specs.List.{concat};
 ghost use Rattle.logical_map.specs.declared.place.Place.TheVariants as places;
 ghost use Rattle.zone_choice.specs.Agreement.{Agrees, mounted_array};
@@ -36,8 +37,8 @@ fn follows(place: Place, address: u64, count: u32) -> bool
     }
 }
 
-/// How many blocks from `block` on, at most `left`, have their data in a row from this address on, where the data of the
-/// first is.
+/// How many blocks from `block` on, at most `left`, have their data in a row from this address on, where the data of
+/// the first is.
 fn neighbours<D: Device>(disk: &Mounted<D>, block: u32, address: u64, left: u32) -> u32
     requires in_order { IsInRange disk.now.drive.geometry }
     requires short { size_of disk.now.tables ≤ 2 ^ 31 }
@@ -60,8 +61,8 @@ fn neighbours<D: Device>(disk: &Mounted<D>, block: u32, address: u64, left: u32)
     most
 }
 
-/// Shows one block and its neighbours after what `into` holds, at most `left` of them: their data by one command, or zeros
-/// for one block without data. It answers how many.
+/// Shows one block and its neighbours after what `into` holds, at most `left` of them: their data by one command, or
+/// zeros for one block without data. It answers how many.
 pub(crate) fn read_piece<D: Device>(
     disk: &mut Mounted<D>,
     block: u32,
@@ -75,13 +76,13 @@ pub(crate) fn read_piece<D: Device>(
     requires agrees { IsTrue disk.old.drive.clean → Agrees disk.old }
     // Then array and tables are the same, and tables and drive agree.
     ensures kept { IsTrue disk.new.drive.clean → KeepsArray disk.old disk.new }
-    // Then, done, it has added the bytes of the blocks. Refused, it is out of memory, or the drive stopped at a block with
-    // data.
+    // Then, done, it has added the bytes of the blocks. Refused, it is out of memory, or the drive stopped at a block
+    // with data.
     ensures ok { IsTrue disk.new.drive.clean → IfOk result (λ count. into.new.items ≡ into.old.items
         ++ concat (blocks_from (mounted_array disk.old) block count)) }
     ensures err { IsTrue disk.new.drive.clean → IfErr result (IsBlockFault disk.new block) }
-    // Done, the blocks are a piece, and it adds as many bytes as they have. Whatever the Read returned, the tables are the
-    // same.
+    // Done, the blocks are a piece, and it adds as many bytes as they have. Whatever the Read returned, the tables are
+    // the same.
     ensures piece { IfOk result (λ count. IsPiece disk.old.drive.geometry disk.old.tables.map.places block left count) }
     ensures added { IfOk result (λ count. length into.new.items ≡ length into.old.items
         + count * disk.old.drive.geometry.block) }
@@ -113,7 +114,8 @@ pub(crate) fn read_block<D: Device>(
     requires agrees { IsTrue disk.old.drive.clean → Agrees disk.old }
     // Then array and tables are the same, and tables and drive agree.
     ensures kept { IsTrue disk.new.drive.clean → KeepsArray disk.old disk.new }
-    // Then, done, it has added the block's bytes. Refused, it is out of memory, or the drive stopped at a block with data.
+    // Then, done, it has added the block's bytes. Refused, it is out of memory, or the drive stopped at a block with
+    // data.
     ensures ok { IsTrue disk.new.drive.clean → OnOk result (into.new.items ≡ into.old.items
         ++ slice_index_or (mounted_array disk.old) block []) }
     ensures err { IsTrue disk.new.drive.clean → IfErr result (IsBlockFault disk.new block) }

@@ -1,4 +1,5 @@
-ghost use Rattle.std.specs.Prelude.{◌≡◌, ◌+◌, ◌*◌, ◌≤◌, ◌<◌, IfOk, IfErr, IfSome, IfNone, IsTrue, OnOk, None, Some, true};
+ghost use Rattle.std.specs.Prelude.{◌≡◌, ◌+◌, ◌*◌, ◌≤◌, ◌<◌, IfOk, IfErr, IfSome, IfNone, IsTrue, OnOk, None, Some};
+ghost use Rattle.std.specs.Prelude.{true};
 ghost use Rattle.zone_choice.specs.Agreement.{Agrees};
 ghost use Rattle.zone_choice.specs.Changes.{IsHalt, fault_halt};
 ghost use Rattle.zone_choice.specs.Roles.{AreApart};
@@ -109,7 +110,8 @@ fn find_host<D: Device>(disk: &mut Mounted<D>, cleaner: &mut Cleaner) -> Result<
     }
 }
 
-/// Makes the host zone one with two free blocks at least: the one that there is, or else another, which may take a clean.
+/// Makes the host zone one with two free blocks at least: the one that there is, or else another, which may take a
+/// clean.
 pub(crate) fn make_room<D: Device>(
     disk: &mut Mounted<D>,
     cleaner: &mut Cleaner,

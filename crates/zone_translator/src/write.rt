@@ -95,7 +95,8 @@ pub(crate) fn find_room<D: Device>(
     ensures leaves { IsTrue disk.new.drive.clean → RoomLeaves disk.old disk.new cleaner.new result }
     ensures cause { IsTrue disk.new.drive.clean → IfErr result (IsCause disk.new.drive disk.new.tables.next) }
     ensures clean { IsTrue disk.new.drive.clean → KeepsCleaning disk.old cleaner.old result disk.new cleaner.new }
-    // Done, by the tables there is room, and a sequence is left. Whatever the Reads returned, the numbers stay in range.
+    // Done, by the tables there is room, and a sequence is left. Whatever the Reads returned, the numbers stay in
+    // range.
     ensures ok { IfOk result (IsRoom disk.new) }
     ensures apart { OnOk result (AreApart disk.new.tables.roles) }
     ensures stays { StaysOfSize disk.old disk.new }
@@ -253,7 +254,8 @@ pub(crate) fn grow_batch<D: Device>(
     // While the drive is clean, the reserve allows it, and tables, drive and clean agree.
     requires reserve { IsTrue disk.old.drive.clean → FitsReserve disk.old.drive.geometry blocks }
     requires agrees { IsTrue disk.old.drive.clean → AgreesWithClean disk.old cleaner.old }
-    // Then, done, the disk has this size, and a header says so. Refused, the array is the same, unless the drive stopped.
+    // Then, done, the disk has this size, and a header says so. Refused, the array is the same, unless the drive
+    // stopped.
     ensures leaves { IsTrue disk.new.drive.clean → GrowLeaves disk.old disk.new cleaner.new blocks result }
     ensures cause { IsTrue disk.new.drive.clean → IfErr result (IsCause disk.new.drive disk.new.tables.next) }
     // Then it adds no turns to a clean that ran.

@@ -96,7 +96,7 @@ fn place_batches(
     // Done, each block has the place of the newest of these records, if no block had a place.
     ensures places { OnOk result (PlacesNewest zone_size [] tables.old.map.places
         → PlacesNewest zone_size (all_listed (heads_in scanned.now) batches.items) tables.new.map.places) }
-    // Whatever it answers, the sizes of the tables and the given number are the same.
+    // Whatever it answers, the tables have the same sizes and given number, and note as much as unreadable.
     ensures kept { SameButPlaces tables.old tables.new }
 {
     let mut batches = batches;

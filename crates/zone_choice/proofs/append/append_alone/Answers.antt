@@ -65,7 +65,7 @@ returns-in-Ok-clause-leaves g c = λ clean.
     let tables = placed-tables c.grow_to.new.tables c.place_blocks-blocks.new.tables c.appended.new.self c.args.zone c.in-Ok.address c.place_blocks-blocks.result c.args.batch.now c.entries.result.now c.entries.ensures c.place_blocks-blocks.ensures.placed c.appended.ensures in
     rw (← c.disk.view_is)
     (place_writes _ _ c.disk.inside.tables c.grow_to.new.tables c.appended.new.self c.args.zone _ c.in-Ok.address c.place_blocks-blocks.result c.args.batch.now c.bytes.result.now c.bytes.ensures built can alone (rw (c.start_of-start.ensures, c.geometry.ensures, ← c.disk.view_is) refl)
-    c.in-Ok.ensures.appended c.in-Ok.ensures.leaves c.append.ensures.obeys.lawful c.append.ensures.obeys.durable size (rw c.size.ensures at c.grow_to.ensures) tables)
+    c.in-Ok.ensures.appended c.in-Ok.ensures.leaves c.append.ensures.obeys.lawful c.append.ensures.obeys.unfailing c.append.ensures.obeys.durable size (rw c.size.ensures at c.grow_to.ensures) tables)
 
 pub returns-in-Ok-clause-tables : goal.returns-in-Ok-clause-tables
 returns-in-Ok-clause-tables g c =

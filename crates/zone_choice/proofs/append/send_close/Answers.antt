@@ -26,7 +26,7 @@ returns-clause-leaves g c = λ clean.
     let filling = rw (← c.disk.view_is) at c.requires.filling in
     let beside = sym c.in-Some.ensures in
     rw (← c.disk.view_is)
-    (inr (c.in-Some.other, beside, other_closed _ _ c.disk.inside.tables c.args.zone _ c.in-Some.other agrees filling beside (rw (c.start_of.ensures, c.geometry-geometry.ensures, ← c.disk.view_is) refl) c.close.ensures.kept c.in_default-close.ensures.leaves c.close.ensures.obeys.lawful c.close.ensures.obeys.durable c.in_default-close.ensures.closed.counts))
+    (inr (c.in-Some.other, beside, other_closed _ _ c.disk.inside.tables c.args.zone _ c.in-Some.other agrees filling beside (rw (c.start_of.ensures, c.geometry-geometry.ensures, ← c.disk.view_is) refl) c.close.ensures.kept c.in_default-close.ensures.leaves c.close.ensures.obeys.lawful c.close.ensures.obeys.unfailing c.close.ensures.obeys.durable c.in_default-close.ensures.closed.counts))
 
 pub returns-clause-stays : goal.returns-clause-stays
 returns-clause-stays g c = rw (← c.disk.view_is) (record { geometry = c.close.ensures.obeys.geometry; trusted = c.close.ensures.obeys.trusted })

@@ -36,7 +36,7 @@ pub returns-clause-reads : goal.returns-clause-reads
 returns-clause-reads g c = λ clean.
     let e = c.in_default.ensures.read in
     let stored = (rw (← c.disk.view_is) at c.requires) (e.obeys.trusted clean) in
-    rw (← c.disk.view_is) (fetch_reads _ _ c.disk.inside.tables _ _ stored e.kept.contents e.kept.closing e.obeys.lawful e.obeys.durable e.shown.counts)
+    rw (← c.disk.view_is) (fetch_reads _ _ c.disk.inside.tables _ _ stored e.kept.contents e.kept.closing e.obeys.lawful e.obeys.unfailing e.obeys.durable e.shown.counts)
 
 pub returns-clause-ok : goal.returns-clause-ok
 returns-clause-ok g c = λ clean.

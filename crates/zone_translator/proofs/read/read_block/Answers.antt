@@ -39,7 +39,7 @@ returns-clause-ok g c = λ clean.
 pub returns-clause-kept : goal.returns-clause-kept
 returns-clause-kept g c = λ clean.
     let agrees = (rw (← c.disk.view_is) at c.requires.agrees) (c.read_extending.ensures.obeys.trusted clean) in
-    rw (← c.disk.view_is) (place_kept _ _ c.disk.inside.tables agrees c.in_default-read_extending.ensures.kept.contents c.in_default-read_extending.ensures.kept.closing c.in_default-read_extending.ensures.obeys.lawful c.in_default-read_extending.ensures.obeys.durable c.in_default-read_extending.ensures.shown.counts)
+    rw (← c.disk.view_is) (place_kept _ _ c.disk.inside.tables agrees c.in_default-read_extending.ensures.kept.contents c.in_default-read_extending.ensures.kept.closing c.in_default-read_extending.ensures.obeys.lawful c.in_default-read_extending.ensures.obeys.unfailing c.in_default-read_extending.ensures.obeys.durable c.in_default-read_extending.ensures.shown.counts)
 
 -- ---- whatever the Read returned
 

@@ -60,7 +60,7 @@ returns-in-Err-clause-clean g c = λ clean.
     let same = c.in_default.ensures.none.1 in
     let agrees = c.requires.agrees (subst (λ (d : MountedView). IsTrue d.drive.clean) same (c.clean_zone.ensures.stays.shape.trusted clean)) in
     let leaves = subst (λ (d : MountedView). CleanLeaves d c.args.cleaner.now (Err c.in-Err.fault) c.clean_zone.new.disk c.clean_zone.new.self) same (c.in-Err.ensures.answers clean).leaves in
-    rw c.from.ensures (zone-fails {V = Filling} c.args.disk.now c.clean_zone.new.disk c.args.cleaner.now c.clean_zone.new.self c.in-Err.fault agrees leaves)
+    rw c.from.ensures (zone-fails {V = Filling} c.args.disk.now c.clean_zone.new.disk c.args.cleaner.now c.clean_zone.new.self c.in-Err.fault agrees leaves (c.in-Err.ensures.answers clean).cleaning.cause)
 
 pub returns-in-Err-clause-stays : goal.returns-in-Err-clause-stays
 returns-in-Err-clause-stays g c = subst (λ (d : MountedView). StaysOfSize d c.clean_zone.new.disk) c.in_default.ensures.none.1 (range-cleaned c.take.new.disk c.clean_zone.new.disk c.clean_zone.ensures.stays)
@@ -98,7 +98,7 @@ returns-in-Some-take-clause-clean g c = λ clean.
     let leaves = subst (λ (d : MountedView). CleanLeaves d c.args.cleaner.now (Ok tt) middle here) c.in_default.ensures.none.1 cleaned.leaves in
     let took = take_gives middle c.take-2.new.disk here c.in-Some-take.host cleaned.cleaning.goes_on cleaned.done.host c.take-2.ensures.drive c.in-Some-take.ensures.some in
     stays-cleaning {V = Filling} first c.take-2.new.disk c.args.cleaner.now here (Ok c.in-Some-take.host)
-    (stays-join first middle c.take-2.new.disk c.args.cleaner.now here here (zone-stays first middle c.args.cleaner.now here agrees leaves) took.stays)
+    (stays-join first middle c.take-2.new.disk c.args.cleaner.now here here (zone-stays first middle c.args.cleaner.now here agrees leaves cleaned.done.ended) took.stays)
 
 pub returns-in-Some-take-clause-stays : goal.returns-in-Some-take-clause-stays
 returns-in-Some-take-clause-stays g c =

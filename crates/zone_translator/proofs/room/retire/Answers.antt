@@ -64,7 +64,7 @@ returns-clause-leaves g c = λ clean.
     let few = (host-within (mounted (g.D.Device.drive c.disk.inside.device) t) c.args.host (rw (← c.disk.view_is) at c.requires.sane) host).1 in
     let other = rw (c.geometry-geometry.ensures, ← c.disk.view_is) at c.if-host-geometry.false in
     rw (← c.disk.view_is) (keeps-finish _ _ t _ c.args.host _ agrees host (rw (c.start_of.ensures, c.geometry-geometry.ensures, ← c.disk.view_is) refl) (omega (arith, capacity, agrees.geometry.capacity)) (omega (arith, few, other))
-    c.in_default.ensures.finished (finish-opens {V = Unit {0}} (g.D.Device.drive c.disk.inside.device) (g.D.Device.drive c.finish.new.device) _ (Ok tt) c.in_default.ensures.leaves) c.finish.ensures.obeys.lawful c.finish.ensures.obeys.durable c.seal-2.ensures)
+    c.in_default.ensures.finished (finish-opens {V = Unit {0}} (g.D.Device.drive c.disk.inside.device) (g.D.Device.drive c.finish.new.device) _ (Ok tt) c.in_default.ensures.leaves) c.finish.ensures.obeys.lawful c.finish.ensures.obeys.unfailing c.finish.ensures.obeys.durable c.seal-2.ensures)
 
 pub returns-clause-stays : goal.returns-clause-stays
 returns-clause-stays g c =

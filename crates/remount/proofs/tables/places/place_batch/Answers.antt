@@ -8,7 +8,7 @@ use Rattle.remount.proofs.tables.places.place_batch.Goals as goal
 use Rattle.remount.proofs.tables.places.place_batch.Goals.{then-not-is_trim, else-not-is_trim}
 
 pub loop-entry-init : goal.loop-entry-init
-loop-entry-init c = (so-far-none c.args.zone_size c.args.batch.now.head.sequence c.args.tables.now.map.places _, record { size = refl; zones = refl; zone_size = refl; given = refl }, omega arith)
+loop-entry-init c = (so-far-none c.args.zone_size c.args.batch.now.head.sequence c.args.tables.now.map.places _, record { size = refl; zones = refl; zone_size = refl; given = refl; unreadable = refl }, omega arith)
 
 pub loop-entry-preserved : goal.loop-entry-preserved
 loop-entry-preserved c =

@@ -5,7 +5,7 @@ use Rattle.remount.proofs.PlacingLaws.{batches-all, batches-more, batches-none, 
 use Rattle.remount.proofs.tables.places.place_batches.Goals as goal
 
 pub loop-batch-init : goal.loop-batch-init
-loop-batch-init c = (batches-none c.args.zone_size (heads_in c.args.scanned.now) c.args.tables.now.map.places c.args.batches.items, record { size = refl; zones = refl; zone_size = refl; given = refl })
+loop-batch-init c = (batches-none c.args.zone_size (heads_in c.args.scanned.now) c.args.tables.now.map.places c.args.batches.items, record { size = refl; zones = refl; zone_size = refl; given = refl; unreadable = refl })
 
 pub loop-batch-preserved : goal.loop-batch-preserved
 loop-batch-preserved c = (

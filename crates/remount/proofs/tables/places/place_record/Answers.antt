@@ -11,7 +11,7 @@ returns-then-block-blocks-clause-places c all placed older =
 pub returns-in_default : goal.returns-in_default
 returns-in_default c = record {
   places = λ all placed older. place-kept c.args.zone_size all c.args.found c.args.tables.now.map.places (λ is. c.in_default.not-None (c.place_of.ensures ∙ is)) older placed;
-  kept = record { size = refl; zones = refl; zone_size = refl; given = refl };
+  kept = record { size = refl; zones = refl; zone_size = refl; given = refl; unreadable = refl };
 }
 
 pub returns-clause-places : goal.returns-clause-places

@@ -22,6 +22,7 @@ returns-clause-placed c drive logs same knows =
       zones = kept.zones ∙ ap (λ (t : TablesView). t.map.zones) begun ∙ fresh.zones;
       zone_size = kept.zone_size ∙ ap (λ (t : TablesView). t.map.zone_size) begun ∙ fresh.zone_size;
       given = kept.given ∙ ap (λ (t : TablesView). t.given) begun ∙ fresh.given;
+      unreadable = kept.unreadable ∙ ap (λ (t : TablesView). t.unreadable) begun ∙ fresh.unreadable;
     }
 
 pub returns-clause-few : goal.returns-clause-few

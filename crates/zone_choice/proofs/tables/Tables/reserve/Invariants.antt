@@ -11,5 +11,6 @@ invariant-loop-block l =
     × (l.self-inside.roles ≡ l.fn.self.roles)
     × (l.self-inside.next ≡ l.fn.self.next)
     × (l.self-inside.given ≡ l.fn.self.given)
+    × (l.self-inside.unreadable.items ≡ l.fn.self.unreadable)
     × AreLive l.self-inside.map l.self-inside.index
     × ((k : ℕ) → l.fn.first ≤ k → k < l.block → IsReady l.self-inside.map k)

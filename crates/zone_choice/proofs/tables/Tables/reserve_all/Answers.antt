@@ -14,5 +14,6 @@ loop-entry-preserved c =
       search rules,
       search rules,
       search rules,
-      rw step (ready-more c.loop-entry.self-inside.map c.reserve_for.new.self c.args.entries.now c.loop-entry.entry-index none c.loop-entry-test.true c.in_ok-reserve_for.ensures.ok c.loop-entry.invariant.7),
+      search rules,
+      rw step (ready-more c.loop-entry.self-inside.map c.reserve_for.new.self c.args.entries.now c.loop-entry.entry-index none c.loop-entry-test.true c.in_ok-reserve_for.ensures.ok c.loop-entry.invariant.8),
     )

@@ -13,5 +13,6 @@ invariant-loop-entry l =
     × (l.self-inside.roles ≡ l.fn.self.roles)
     × (l.self-inside.next ≡ l.fn.self.next)
     × (l.self-inside.given ≡ l.fn.self.given)
+    × (l.self-inside.unreadable.items ≡ l.fn.self.unreadable)
     × AreLive l.self-inside.map l.self-inside.index
     × AllByRecursion (λ (e : Entry). IsReady l.self-inside.map e.block) (take l.entry-index l.fn.entries)

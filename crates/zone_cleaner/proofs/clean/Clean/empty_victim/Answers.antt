@@ -30,7 +30,7 @@ returns-clause-ok g c = λ clean.
     let at = (rw (← c.disk.view_is) at c.requires.at) (c.reset.ensures.obeys.trusted clean) in
     let due = reset-due (mounted old c.disk.inside.tables) (batch_most old.geometry) c.args.self.now at.due in
     let e = c.in_default.ensures in
-    rw (← c.disk.view_is) (reset_done old _ c.disk.inside.tables c.end_clean.new.self c.args.self.now _ at.agrees at.clean_is due (rw (c.start_of-start.ensures, c.geometry.ensures, ← c.disk.view_is, ← c.self.view_is) refl) e.reset e.leaves e.obeys.lawful e.obeys.durable (rw (← c.self.view_is) c.end_clean.ensures))
+    rw (← c.disk.view_is) (reset_done old _ c.disk.inside.tables c.end_clean.new.self c.args.self.now _ at.agrees at.clean_is due (rw (c.start_of-start.ensures, c.geometry.ensures, ← c.disk.view_is, ← c.self.view_is) refl) e.reset e.leaves e.obeys.lawful e.obeys.unfailing e.obeys.durable (rw (← c.self.view_is) c.end_clean.ensures))
 
 pub returns-clause-stays : goal.returns-clause-stays
 returns-clause-stays g c = record {

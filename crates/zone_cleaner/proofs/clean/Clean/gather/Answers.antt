@@ -1,6 +1,9 @@
-use Rattle.std.proofs.Common.{◌+◌, ap, arith, refl}
+use Rattle.std.proofs.Common.{◌+◌, ◌<◌, ◌∙◌, ap, subst, arith, refl}
+use Rattle.std.specs.Prelude.{IsTrue}
+use Rattle.zone_choice.specs.Agreement.{MountedView, mounted}
+use Rattle.zone_choice.specs.Tables.{size_of}
 use Rattle.zone_cleaner.proofs.BuildLaws.{data-whole}
-use Rattle.zone_cleaner.proofs.FailLaws.{next_record, read_fails}
+use Rattle.zone_cleaner.proofs.FailLaws.{lost_gives, next_record}
 use Rattle.zone_cleaner.proofs.RecordLaws.{below-more}
 use Rattle.zone_cleaner.proofs.clean.Clean.gather.Goals as goal
 
@@ -18,9 +21,17 @@ gather-requires-clause-whole g c = λ clean.
 pub returns-in-Err-clause-leaves : goal.returns-in-Err-clause-leaves
 returns-in-Err-clause-leaves g c = λ clean.
     let e = c.in-Err.ensures in
-    let at = c.requires.at (e.asks.shape.trusted clean) in
-    let reads = e.reads clean in
-    (read_fails c.args.disk.now c.gather.new.disk c.args.self.now c.args.block c.args.place c.in-Err.fault at.agrees at.clean_is reads.kept reads.tables (e.err clean), rw (e.failed, ← c.self.view_is) refl)
+    let up : IsTrue c.gather.new.disk.drive.clean = subst (λ (m : MountedView). IsTrue m.drive.clean) c.disk.view_is clean in
+    let at = c.requires.at (e.asks.shape.trusted up) in
+    let reads = e.reads up in
+    let next = next_record c.args.disk.now c.args.self.now c.args.block c.args.place at.agrees at.clean_is at.due in
+    let drive = ap (λ m. m.drive) c.disk.view_is in
+    let tables = ap (λ m. m.tables) c.disk.view_is in
+    let below : c.args.block < size_of c.disk.inside.tables = rw (tables, reads.tables) next.in_range in (
+      lost_gives c.args.disk.now c.gather.new.disk (mounted (g.D.Device.drive c.disk.inside.device) c.note_lost.new.tables) c.args.self.now c.args.block c.args.place c.in-Err.fault c.note_lost.result
+          at.agrees at.clean_is reads.kept reads.tables (e.err up) drive (λ is. rw (← tables) (c.note_lost.ensures.failed is)) (λ is. c.note_lost.ensures.other is ∙ tables) (c.note_lost.ensures.fault below),
+      rw (e.failed, ← c.self.view_is) refl,
+    )
 
 pub invariant_of-self-2 : goal.invariant_of-self-2
 invariant_of-self-2 g c =

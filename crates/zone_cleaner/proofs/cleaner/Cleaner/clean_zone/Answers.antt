@@ -1,41 +1,55 @@
-use Rattle.std.proofs.Common.{arith, sym, subst, ◌∙◌}
+use Rattle.std.proofs.Common.{◌≡◌, ◌-◌, ◌+◌, arith, ap, sym, subst, false, is_some, ◌∙◌}
 use Rattle.std.specs.Prelude.{IsTrue}
-use Rattle.drive_port.specs.Drive.{DriveState}
-use Rattle.zone_cleaner.proofs.NeedLaws.{begins, left-few, next-zone}
-use Rattle.zone_cleaner.proofs.RunLaws.{cleans-running, cleans-started}
-use Rattle.zone_cleaner.proofs.TurnLaws.{keeps-more}
+use Rattle.zone_states.specs.declared.geometry.Geometry.{Geometry}
+use Rattle.zone_choice.specs.Agreement.{MountedView}
+use Rattle.zone_choice.specs.Roles.{next_of}
+use Rattle.zone_cleaner.specs.Start.{unfinished}
+use Rattle.zone_cleaner.proofs.SaneLaws.{stays-more, stays-same}
+use Rattle.zone_cleaner.proofs.SoFarLaws.{HasRun, run-found, run-more, run-none, run-over, run-refused}
 use Rattle.zone_cleaner.proofs.cleaner.Cleaner.clean_zone.Goals as goal
 
--- ---- a clean runs
+pub loop-init : goal.loop-init
+loop-init g c = (
+  stays-same c.args.disk.now c.requires.sane,
+  omega arith,
+  λ n one clean. subst (λ n. HasRun c.args.disk.now c.args.self.now n c.args.disk.now c.args.self.now) (omega (arith, one)) (run-none c.args.disk.now c.args.self.now (c.requires.cleaned clean) c.requires.lacks),
+  omega arith,
+)
 
-pub returns-then-running-clause-answers : goal.returns-then-running-clause-answers
-returns-then-running-clause-answers g c = λ clean.
-    let runs = sym c.running.ensures ∙ c.if-running.true in
-    let run = c.run_to_end.ensures.answers clean in
-    let is = c.requires.cleaned (c.run_to_end.ensures.stays.shape.trusted clean) in
-    record {
-      leaves = cleans-running c.args.disk.now c.run_to_end.new.disk c.args.self.now c.run_to_end.new.self c.run_to_end.result runs run.leaves;
-      cleaning = run.cleaning;
-      done = next-zone c.run_to_end.result c.args.disk.now c.run_to_end.new.disk c.args.self.now c.run_to_end.new.self run.done runs c.requires.lacks.host;
-      completed = omega (arith, run.completed, left-few c.args.disk.now c.args.self.now is);
-    }
+pub go_on-requires-clause-cleaned : goal.go_on-requires-clause-cleaned
+go_on-requires-clause-cleaned g c = λ clean. (c.loop.invariant.2 (c.loop.counter - 1) (omega (arith, c.loop.invariant.3)) clean).agrees
 
--- ---- one is started
+pub go_on-requires-clause-lacks : goal.go_on-requires-clause-lacks
+go_on-requires-clause-lacks g c = λ clean none all. ((c.loop.invariant.2 (c.loop.counter - 1) (omega (arith, c.loop.invariant.3)) clean).idle all none).1
 
-pub run_to_end-requires-2-clause-cleaned : goal.run_to_end-requires-2-clause-cleaned
-run_to_end-requires-2-clause-cleaned g c = λ clean.
-    let is = c.requires.cleaned (subst (λ (d : DriveState). IsTrue d.clean) c.start.ensures.turn.0 clean) in
-    (begins c.args.disk.now c.start.new.disk c.args.self.now c.start.new.self (sym c.running.ensures ∙ c.if-running.false) is c.requires.lacks c.start.ensures.turn).cleaned
+pub returns-in-Err-clause-answers : goal.returns-in-Err-clause-answers
+returns-in-Err-clause-answers g c = λ clean.
+    let turn = c.in-Err.ensures in
+    run-refused c.args.disk.now c.loop.disk c.go_on.new.disk c.args.self.now c.loop.self c.go_on.new.self (c.loop.counter - 1) c.in-Err.fault
+    (c.loop.invariant.2 (c.loop.counter - 1) (omega (arith, c.loop.invariant.3)) (turn.stays.shape.trusted clean)) (turn.answers clean)
+
+pub returns-then-has_next-clause-answers : goal.returns-then-has_next-clause-answers
+returns-then-has_next-clause-answers g c = λ clean.
+    let turn = c.in_default.ensures in
+    let stays = stays-more c.args.disk.now c.loop.disk c.go_on.new.disk c.loop.invariant.0 turn.stays in
+    run-found c.args.disk.now c.loop.disk c.go_on.new.disk c.args.self.now c.loop.self c.go_on.new.self (c.loop.counter - 1)
+    (c.loop.invariant.2 (c.loop.counter - 1) (omega (arith, c.loop.invariant.3)) (turn.stays.shape.trusted clean)) (turn.answers clean) (stays.host c.requires.lacks.host)
+    (sym (ap (λ (m : MountedView). is_some (next_of m.tables.roles.second)) c.disk-in-loop.view_is) ∙ sym c.has_next.ensures ∙ c.if-has_next.true)
+
+pub loop-preserved : goal.loop-preserved
+loop-preserved g c =
+    let so_far = c.loop.invariant in
+    let turn = c.in_default.ensures in (
+      stays-more c.args.disk.now c.loop.disk c.go_on.new.disk so_far.0 turn.stays,
+      omega (arith, so_far.1, turn.completed),
+      λ n one clean.
+          let before = so_far.2 (c.loop.counter - 1) (omega (arith, so_far.3)) (turn.stays.shape.trusted clean) in
+          let after = run-more c.args.disk.now c.loop.disk c.go_on.new.disk c.args.self.now c.loop.self c.go_on.new.self (c.loop.counter - 1) c.requires.sane.geometry.capacity.0 before (turn.answers clean) (sym (ap (λ (m : MountedView). is_some (next_of m.tables.roles.second)) c.disk-in-loop.view_is) ∙ sym c.has_next.ensures ∙ c.if-has_next.false) in
+          subst (λ n. HasRun c.args.disk.now c.args.self.now n c.go_on.new.disk c.go_on.new.self) (omega (arith, one, so_far.3)) after,
+      omega arith,
+    )
 
 pub returns-clause-answers : goal.returns-clause-answers
 returns-clause-answers g c = λ clean.
-    let none = sym c.running.ensures ∙ c.if-running.false in
-    let is = c.requires.cleaned (subst (λ (d : DriveState). IsTrue d.clean) c.start.ensures.turn.0 (c.run_to_end-2.ensures.stays.shape.trusted clean)) in
-    let begun = begins c.args.disk.now c.start.new.disk c.args.self.now c.start.new.self none is c.requires.lacks c.start.ensures.turn in
-    let run = c.run_to_end-2.ensures.answers clean in
-    let kept = keeps-more c.args.disk.now c.start.new.disk c.run_to_end-2.new.disk begun.keeps run.cleaning.keeps in record {
-      leaves = cleans-started c.args.disk.now c.start.new.disk c.run_to_end-2.new.disk c.args.self.now c.start.new.self c.run_to_end-2.new.self c.run_to_end-2.result none c.start.ensures.turn run.leaves;
-      cleaning = record { goes_on = run.cleaning.goes_on; keeps = kept; cause = run.cleaning.cause };
-      done = next-zone c.run_to_end-2.result c.start.new.disk c.run_to_end-2.new.disk c.start.new.self c.run_to_end-2.new.self run.done begun.runs begun.host;
-      completed = omega (arith, rw c.start.ensures.turn.0 at run.completed, begun.turns);
-    }
+    run-over c.args.disk.now c.loop.disk c.args.self.now c.loop.self (c.loop.counter - 1) c.unfinished.result c.requires.sane.geometry.capacity.0 (c.loop.invariant.2 (c.loop.counter - 1) (omega (arith, c.loop.invariant.3)) clean)
+    (omega (arith, c.loop.invariant.3, c.loop-test.false, ap (λ (g : Geometry). g.capacity) c.geometry-end.ensures, ap (λ (m : MountedView). m.drive.geometry.capacity) c.disk.view_is)) (c.unfinished.ensures ∙ ap (λ (m : MountedView). unfinished m.tables) c.disk-2.view_is)

@@ -46,7 +46,7 @@ returns-in-Ok-clause-turns g c = λ clean.
 
 pub returns-in-Ok-clause-fewer : goal.returns-in-Ok-clause-fewer
 returns-in-Ok-clause-fewer g c = λ clean.
-    rw (← c.self.view_is) (λ runs. batch-turns c.self.inside.mounted c.grow_batch.new.disk c.self.inside.cleaner c.grow_batch.new.cleaner c.self.inside.status c.self.inside.status (Ok tt) (c.in-Ok.ensures.leaves clean).keeps.geometry (c.in-Ok.ensures.clean clean) runs)
+    rw (← c.self.view_is) (λ up runs. batch-turns c.self.inside.mounted c.grow_batch.new.disk c.self.inside.cleaner c.grow_batch.new.cleaner c.self.inside.status c.self.inside.status (Ok tt) (c.in-Ok.ensures.leaves clean).keeps.geometry (c.in-Ok.ensures.clean clean) up runs)
 
 pub returns-in-Err-clause-answers : goal.returns-in-Err-clause-answers
 returns-in-Err-clause-answers g c = λ clean.
@@ -68,18 +68,18 @@ returns-in-Err-clause-fewer g c = λ clean.
     let was = c.grow_batch.ensures.stays.shape.trusted clean in
     let serves = holds-agrees c.self.inside.mounted c.self.inside.cleaner c.self.inside.status (rw (← c.self.view_is) at c.in_ok-check_growth.ensures.serving) (c.self.invariant.when was) in
     let lost = refused-growth c.self.inside.mounted c.grow_batch.new.disk c.self.inside.cleaner c.grow_batch.new.cleaner c.args.blocks c.in-Err.fault c.self.inside.status (c.self.invariant.when was).reserve serves (c.in-Err.ensures.leaves clean) in
-    rw (← c.self.view_is) (λ runs. batch-turns c.self.inside.mounted c.grow_batch.new.disk c.self.inside.cleaner c.grow_batch.new.cleaner c.self.inside.status c.status_of-self-inside.result (Err c.in-Err.fault) lost.refused.kept.kept.geometry (c.in-Err.ensures.clean clean) runs)
+    rw (← c.self.view_is) (λ up runs. batch-turns c.self.inside.mounted c.grow_batch.new.disk c.self.inside.cleaner c.grow_batch.new.cleaner c.self.inside.status c.status_of-self-inside.result (Err c.in-Err.fault) lost.refused.kept.kept.geometry (c.in-Err.ensures.clean clean) up runs)
 
 pub returns-in-Ok-clause-clean : goal.returns-in-Ok-clause-clean
 returns-in-Ok-clause-clean g c = λ clean.
-    rw (← c.self.view_is) (goes-clean c.self.inside.mounted c.grow_batch.new.disk c.self.inside.cleaner c.grow_batch.new.cleaner c.self.inside.status c.self.inside.status (c.in-Ok.ensures.leaves clean).keeps.geometry (c.in-Ok.ensures.clean clean).clean)
+    rw (← c.self.view_is) (λ up. goes-clean c.self.inside.mounted c.grow_batch.new.disk c.self.inside.cleaner c.grow_batch.new.cleaner c.self.inside.status c.self.inside.status (c.in-Ok.ensures.leaves clean).keeps.geometry ((c.in-Ok.ensures.clean clean).clean up))
 
 pub returns-in-Err-clause-clean : goal.returns-in-Err-clause-clean
 returns-in-Err-clause-clean g c = λ clean.
     let was = c.grow_batch.ensures.stays.shape.trusted clean in
     let serves = holds-agrees c.self.inside.mounted c.self.inside.cleaner c.self.inside.status (rw (← c.self.view_is) at c.in_ok-check_growth.ensures.serving) (c.self.invariant.when was) in
     let lost = refused-growth c.self.inside.mounted c.grow_batch.new.disk c.self.inside.cleaner c.grow_batch.new.cleaner c.args.blocks c.in-Err.fault c.self.inside.status (c.self.invariant.when was).reserve serves (c.in-Err.ensures.leaves clean) in
-    rw (← c.self.view_is) (goes-clean c.self.inside.mounted c.grow_batch.new.disk c.self.inside.cleaner c.grow_batch.new.cleaner c.self.inside.status c.status_of-self-inside.result lost.refused.kept.kept.geometry (c.in-Err.ensures.clean clean).clean)
+    rw (← c.self.view_is) (λ up. goes-clean c.self.inside.mounted c.grow_batch.new.disk c.self.inside.cleaner c.grow_batch.new.cleaner c.self.inside.status c.status_of-self-inside.result lost.refused.kept.kept.geometry ((c.in-Err.ensures.clean clean).clean up))
 
 pub returns-in_err-check_growth-clause-clean : goal.returns-in_err-check_growth-clause-clean
 returns-in_err-check_growth-clause-clean g c = λ clean.

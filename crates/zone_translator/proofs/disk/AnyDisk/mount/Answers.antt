@@ -22,3 +22,11 @@ returns-in-Ok-clause-shape g c = rw c.new.ensures (record { geometry = c.mount.e
 
 pub returns-in-Err-clause-back : goal.returns-in-Err-clause-back
 returns-in-Err-clause-back g c = record { geometry = c.mount.ensures.stays.geometry; trusted = c.mount.ensures.stays.trusted }
+
+pub returns-in-Err-clause-err : goal.returns-in-Err-clause-err
+returns-in-Err-clause-err g c clean = record {
+  why = c.in-Err.ensures.err clean;
+  refused = c.in-Err.ensures.refused clean;
+  early = c.in-Err.ensures.early clean;
+  kept = c.mount.ensures.kept clean;
+}

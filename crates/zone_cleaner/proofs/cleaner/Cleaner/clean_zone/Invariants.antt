@@ -2,7 +2,7 @@ use Rattle.std.proofs.Common.{◌≡◌, ◌≤◌, ◌+◌, ◌*◌, ℕ}
 use Rattle.std.specs.Prelude.{IsTrue}
 use Rattle.zone_cleaner.specs.Answering.{StaysSane}
 use Rattle.zone_cleaner.proofs.SoFarLaws.{HasRun}
-use Rattle.zone_cleaner.proofs.cleaner.Cleaner.run_to_end.Given as goal
+use Rattle.zone_cleaner.proofs.cleaner.Cleaner.clean_zone.Given as goal
 
 abbrev pub invariant-loop : goal.invariant-loop
 invariant-loop g l =
