@@ -31,6 +31,13 @@ pub grown : {P Q : Type 0} (done : Result (Unit {0}) DiskFault) → OnOk done P 
 grown (Ok u) ok err = inl ok
 grown (Err fault) ok err = inr err
 
+-- one that leaves shape and size, and takes no more commands than it may
+pub stays_alike : (said : Option (TraceLine × List ℕ)) (old new : DiskView) → StaysAlike old new
+    → (disk_size new ≡ disk_size old → MayHaveSize said (disk_size old) (disk_size new))
+    → CompletesAtMost old (most_commands old.drive.geometry said) new → StaysBy false said old new
+stays_alike said old new alike sized costs =
+    record { shape = alike.shape; size = sized alike.size; completed = λ none. costs }
+
 flush_more : (flushed : Bool) (n : ℕ) → with_flush flushed n ≡ n + with_flush flushed 0
 flush_more true n = omega arith
 flush_more false n = omega arith
@@ -59,20 +66,22 @@ stays_said taking line call bytes old new says stays =
 -- ---- the form of a reply
 
 -- the reply to a read past the end
-pub past_form : (first n : ℕ) (was reply : List ℕ) → was ≡ [] → reply ≡ was ++ out_of_range_text → HasForm (Read first n) reply
-past_form first n was reply none is = record {
+pub past_form : (block first n : ℕ) (was reply : List ℕ) → was ≡ [] → reply ≡ was ++ out_of_range_text → HasForm block (Read first n) reply
+past_form block first n was reply none is = record {
   shown = [];
   result = Err OutOfRange;
   long = tt;
+  whole = tt;
   reply_is = ap (λ (xs : List ℕ). Some xs) (sym (is ∙ ap (λ (xs : List ℕ). xs ++ out_of_range_text) none));
 }
 
 -- and to one that showed its blocks
-pub read_form : (first n : ℕ) (was text reply : List ℕ) → was ≡ [] → PutsLines first n was text → reply ≡ text ++ ok_text → HasForm (Read first n) reply
-read_form first n was text reply none puts is = record {
+pub read_form : (block first n : ℕ) (was text reply : List ℕ) → was ≡ [] → PutsLines block first n was text → reply ≡ text ++ ok_text → HasForm block (Read first n) reply
+read_form block first n was text reply none puts is = record {
   shown = puts.shown;
   result = Ok tt;
   long = puts.long;
+  whole = puts.whole;
   reply_is = ap (λ (xs : List ℕ). Some xs) (sym (is ∙ ap (λ (xs : List ℕ). xs ++ ok_text) (puts.after_is ∙ ap (λ (xs : List ℕ). xs ++ block_lines first puts.shown) none)));
 }
 
@@ -81,18 +90,18 @@ none_shown n (Ok u) none = sym none
 none_shown n (Err fault) none = tt
 
 -- the reply to a line that shows nothing
-pub told_form : (line : TraceLine) (done : Result (Unit {0}) DiskFault) (result : Result (Unit {0}) RunFault) (reply : List ℕ) → count_shown line ≡ 0 → OnOk result (reply_of 0 [] done ≡ Some reply) → OnOk result (HasForm line reply)
-told_form line done (Ok u) reply none told = record { shown = []; result = done; long = none_shown (count_shown line) done none; reply_is = nothing-shown (first_shown line) done ∙ told }
-told_form line done (Err fault) reply none told = tt
+pub told_form : (block : ℕ) (line : TraceLine) (done : Result (Unit {0}) DiskFault) (result : Result (Unit {0}) RunFault) (reply : List ℕ) → count_shown line ≡ 0 → OnOk result (reply_of 0 [] done ≡ Some reply) → OnOk result (HasForm block line reply)
+told_form block line done (Ok u) reply none told = record { shown = []; result = done; long = none_shown (count_shown line) done none; whole = tt; reply_is = nothing-shown (first_shown line) done ∙ told }
+told_form block line done (Err fault) reply none told = tt
 
 -- and to a remount
-pub remount_form : (result : Result (Unit {0}) RunFault) (reply : List ℕ) → OnOk result (reply ≡ ok_text) → OnOk result (HasForm Remount reply)
-remount_form (Ok u) reply is = record { shown = []; result = Ok tt; long = refl; reply_is = ap (λ (xs : List ℕ). Some xs) (sym is) }
-remount_form (Err fault) reply is = tt
+pub remount_form : (block : ℕ) (result : Result (Unit {0}) RunFault) (reply : List ℕ) → OnOk result (reply ≡ ok_text) → OnOk result (HasForm block Remount reply)
+remount_form block (Ok u) reply is = record { shown = []; result = Ok tt; long = refl; whole = tt; reply_is = ap (λ (xs : List ℕ). Some xs) (sym is) }
+remount_form block (Err fault) reply is = tt
 
 -- ---- a line is answered as long as the drive is clean
 
-pub any_answered : (taking : Taking) (old new : DiskView) (line reply bytes : List ℕ) (call : TraceLine) → Says line call bytes → takes_call taking old.drive.geometry.block call bytes ≡ true → StaysBy (flushes taking call) (Some (call, bytes)) old new → HasForm call reply
+pub any_answered : (taking : Taking) (old new : DiskView) (line reply bytes : List ℕ) (call : TraceLine) → Says line call bytes → takes_call taking old.drive.geometry.block call bytes ≡ true → StaysBy (flushes taking call) (Some (call, bytes)) old new → HasForm old.drive.geometry.block call reply
     → (IsTrue new.drive.clean → IsAnswered (disk_lines taking) old line reply new) → IsAnswered (any_lines taking) old line reply new
 any_answered taking old new line reply bytes call says taken stays form does = record {
   legal = taken_legal taking old.drive.geometry.block line bytes call says taken;
@@ -100,7 +109,7 @@ any_answered taking old new line reply bytes call says taken stays form does = r
     before = stays.shape.trusted;
     always = record {
       stays = stays_said taking line call bytes old new says stays;
-      form = subst (λ (said : Option (TraceLine × List ℕ)). FormOf said reply) (sym (said_is line call bytes says)) form;
+      form = subst (λ (said : Option (TraceLine × List ℕ)). FormOf old.drive.geometry.block said reply) (sym (said_is line call bytes says)) form;
     };
     does = λ clean. (does clean).answers;
   };

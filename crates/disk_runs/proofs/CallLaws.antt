@@ -1,9 +1,10 @@
 -- Calls of a flat disk, and their replies.
-use Rattle.std.proofs.Common.{◌≡◌, ℕ, zero, suc, ◌+◌, ◌<◌, ◌≤◌, ◌==◌, true, false, List, [], ◌∷◌, ◌++◌, length, take, drop, Some, None, Ok, Err, refl, sym, ap, subst, ◌∙◌, append_assoc, arith}
+use Rattle.std.proofs.Common.{◌≡◌, ℕ, zero, suc, ◌+◌, ◌*◌, ◌<◌, ◌≤◌, ◌==◌, true, false, List, [], ◌∷◌, ◌++◌, length, take, drop, Some, None, Ok, Err, refl, sym, ap, subst, ◌∙◌, append_assoc, arith}
 use Rattle.std.specs.Prelude.{nat_lt, ◌&&◌}
 use Rattle.std.specs.List.{concat}
 use Rattle.std.proofs.lemmas.Bool.Decides.{nat_tests}
 use Rattle.std.proofs.lemmas.List.{append-nil, drop-drop, length-append, length-drop}
+use Rattle.zone_states.proofs.ListLaws.{all-append}
 use Rattle.disk_files.specs.Reply.{block_line, block_lines, ok_text, out_of_range_text}
 use Rattle.zone_translator.specs.Calls.{Reads}
 use Rattle.zone_translator.specs.Flat.{Answer, FlatCall, FlatDisk, answer_while, blocks_from, known_answer, may_refuse, read, with_nothing}
@@ -223,14 +224,19 @@ lines-append first (y ∷ ys) x at e =
     let more = lines-append (first + 1) ys x at (omega (arith, e)) in
     ap (λ (zs : List ℕ). block_line first y ++ zs) more ∙ sym (append_assoc (block_line first y) (block_lines (first + 1) ys) (block_line at x))
 
--- whatever the bytes of the block are
-pub puts_more : (first i : ℕ) (before reply new bytes : List ℕ) → PutsLines first i before reply → new ≡ reply ++ block_line (first + i) bytes → PutsLines first (i + 1) before new
-puts_more first i before reply new bytes so_far e =
+-- one block was read, which has as many bytes as before
+pub one_whole : (block block' : ℕ) (items bytes : List ℕ) → length items ≡ 1 * block' → block' ≡ block → bytes ≡ items → length bytes ≡ block
+one_whole block block' items bytes whole same is = rw is (omega (arith, whole, same))
+
+-- whatever the bytes of the block are, if they are a whole one
+pub puts_more : (block first i : ℕ) (before reply new bytes : List ℕ) → PutsLines block first i before reply → length bytes ≡ block → new ≡ reply ++ block_line (first + i) bytes → PutsLines block first (i + 1) before new
+puts_more block first i before reply new bytes so_far is_whole e =
     let last = block_line (first + i) bytes in
     let here : first + i ≡ first + length so_far.shown = omega (arith, so_far.long) in
     record {
       shown = so_far.shown ++ bytes ∷ [];
       long = omega (arith, length-append so_far.shown (bytes ∷ []), so_far.long);
+      whole = all-append (λ (b : List ℕ). length b ≡ block) so_far.shown (bytes ∷ []) so_far.whole (is_whole, tt);
       after_is = e ∙ ap (λ (xs : List ℕ). xs ++ last) so_far.after_is ∙ append_assoc before (block_lines first so_far.shown) last
           ∙ ap (λ (xs : List ℕ). before ++ xs) (sym (lines-append first so_far.shown bytes (first + i) here));
     }

@@ -236,8 +236,8 @@ clean_same : (disk : DiskView) → KeepsClean disk disk
 clean_same disk = by disk.clean refl
   where
     by : (clean : Option CleanView) → disk.clean ≡ clean → KeepsClean disk disk
-    by None e = rw e tt
-    by (Some clean) e = rw e (inl (record { same = clean; runs = refl; victim = refl; turns = omega arith }))
+    by None e = rw e (λ up. tt)
+    by (Some clean) e = rw e (λ up. inl (record { same = clean; runs = refl; victim = refl; turns = omega arith }))
 
 costs_nothing : (count : ℕ) (disk : DiskView) → CostsAtMost disk count (Ok tt) disk
 costs_nothing count disk = record { turns = omega arith; clean = λ serves. clean_same disk; completed = omega arith }

@@ -12,7 +12,8 @@ use Rattle.disk_runs.specs.Taken.{is_flushed}
 use Rattle.disk_runs.specs.Trace.{said_by}
 use Rattle.disk_runs.specs.declared.taking.Taking.{Taking}
 
--- at most how many commands a line takes: one for each block that it reads, those of each batch of a write and of a growth, and two a turn
+-- at most how many commands a line takes: one for each block that it reads, those of each batch of a write and of a
+-- growth, and two a turn
 abbrev pub most_commands : Geometry → Option (TraceLine × List ℕ) → ℕ
 most_commands geometry None = 0
 most_commands geometry (Some (Read first n, bytes)) = n

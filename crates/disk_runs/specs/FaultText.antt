@@ -11,7 +11,8 @@ use Rattle.batch_log.specs.declared.fault.LogFault.TheVariants as log
 use Rattle.drive_survey.specs.declared.fault.MountFault.{MountFault}
 use Rattle.drive_survey.specs.declared.fault.MountFault.TheVariants as mount
 use Rattle.disk_runs.specs.declared.fault.RunFault.{RunFault}
-use Rattle.disk_runs.specs.declared.fault.RunFault.TheVariants.{Line, Long, Disk, Mount, Geometry, Input, Output, Memory}
+use Rattle.disk_runs.specs.declared.fault.RunFault.TheVariants.{Line, Long, Disk, Mount, Geometry, Input, Output}
+use Rattle.disk_runs.specs.declared.fault.RunFault.TheVariants.{Memory}
 
 -- a refusal: its number in its list, and its name
 pub record Refusal : Type 0 where
@@ -70,15 +71,19 @@ geometry_refusal geometry.Active = record { number = 6; name = codes "Active" }
 geometry_refusal geometry.Open = record { number = 7; name = codes "Open" }
 
 abbrev pub refusal_text : List ℕ → Refusal → List ℕ
-refusal_text kind refusal = codes "fault " ++ kind ++ codes " " ++ decimal refusal.number ++ codes " " ++ refusal.name ++ codes "\n"
+refusal_text kind refusal =
+    codes "fault " ++ kind ++ codes " " ++ decimal refusal.number ++ codes " " ++ refusal.name ++ codes "\n"
 
 -- the refusal of a mount, followed by the zone that it names
 abbrev pub zone_text : Refusal → ℕ → List ℕ
-zone_text refusal zone = codes "fault mount " ++ decimal refusal.number ++ codes " " ++ refusal.name ++ codes " " ++ decimal zone ++ codes "\n"
+zone_text refusal zone =
+    codes "fault mount " ++ decimal refusal.number ++ codes " " ++ refusal.name ++ codes " " ++ decimal zone
+    ++ codes "\n"
 
 -- followed by a zone and a block of it, and the end of such a line, which names the cause
 abbrev pub block_text : Refusal → ℕ → ℕ → List ℕ
-block_text refusal zone offset = codes "fault mount " ++ decimal refusal.number ++ codes " " ++ refusal.name ++ codes " "
+block_text refusal zone offset =
+    codes "fault mount " ++ decimal refusal.number ++ codes " " ++ refusal.name ++ codes " "
     ++ decimal zone ++ codes " " ++ decimal offset
 
 abbrev pub cause_text : Refusal → List ℕ
@@ -86,7 +91,8 @@ cause_text cause = codes " " ++ decimal cause.number ++ codes " " ++ cause.name 
 
 abbrev pub mount_text : MountFault → List ℕ
 mount_text (mount.ZoneUnusable zone) = zone_text (mount_refusal (mount.ZoneUnusable zone)) zone
-mount_text (mount.Log zone offset cause) = block_text (mount_refusal (mount.Log zone offset cause)) zone offset ++ cause_text (log_refusal cause)
+mount_text (mount.Log zone offset cause) =
+    block_text (mount_refusal (mount.Log zone offset cause)) zone offset ++ cause_text (log_refusal cause)
 mount_text (mount.TornZone zone) = zone_text (mount_refusal (mount.TornZone zone)) zone
 mount_text fault = refusal_text (codes "mount") (mount_refusal fault)
 

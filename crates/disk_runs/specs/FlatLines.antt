@@ -6,7 +6,8 @@ use Rattle.disk_files.specs.Reply.{out_of_range_text, read_text, reserve_text, s
 use Rattle.disk_files.specs.TraceLine.{is_skipped, trace_line}
 use Rattle.disk_files.specs.declared.trace_line.TraceLine.{TraceLine}
 use Rattle.disk_files.specs.declared.trace_line.TraceLine.TheVariants.{Read, Fill, Write, Trim, Idle, Grow, Remount}
-use Rattle.zone_translator.specs.Flat.{Answer, Call, FlatCall, FlatDisk, FlatRemount, fill, grow, idle, read, trim, with_nothing, write}
+use Rattle.zone_translator.specs.Flat.{Answer, Call, FlatCall, FlatDisk, FlatRemount, fill, grow, idle, read, trim}
+use Rattle.zone_translator.specs.Flat.{with_nothing, write}
 use Rattle.zone_translator.specs.declared.fault.DiskFault.{DiskFault}
 use Rattle.zone_translator.specs.declared.fault.DiskFault.TheVariants.{OutOfRange, Smaller, Reserve}
 use Rattle.disk_runs.specs.Run.{Language}
@@ -25,7 +26,8 @@ pub data Request : Type 0 where
 abbrev pub is_whole : ℕ → List ℕ → Bool
 is_whole size bytes = length bytes % size == 0
 
--- what a line asks for, with its data, where a block has this many bytes: data that is not whole blocks asks for nothing
+-- what a line asks for, with its data, where a block has this many bytes: data that is not whole blocks asks for
+-- nothing
 abbrev pub asked : ℕ → TraceLine → List ℕ → Option Request
 asked size (Read first n) bytes = Some (single (read first n))
 asked size (Fill first n byte) bytes = Some (single (fill size first n byte))
@@ -54,7 +56,8 @@ is_legal size line = is_skipped line || is_some (asked_by size line)
 -- that many turns of cleaning are done, one after the other
 abbrev pub TurnsDone : ℕ → FlatDisk → FlatDisk → Type 0
 TurnsDone zero old new = new ≡ old
-TurnsDone (suc n) old new = (middle : FlatDisk) × FlatCall old idle (with_nothing (Ok tt)) middle × TurnsDone n middle new
+TurnsDone (suc n) old new =
+    (middle : FlatDisk) × FlatCall old idle (with_nothing (Ok tt)) middle × TurnsDone n middle new
 
 -- some of the turns are done, and the next one is refused
 pub record TurnsStop (n : ℕ) (old : FlatDisk) (fault : DiskFault) (new : FlatDisk) : Type 0 where
@@ -69,7 +72,8 @@ abbrev pub Turns : ℕ → FlatDisk → Result (Unit {0}) DiskFault → FlatDisk
 Turns n old (Ok done) new = TurnsDone n old new
 Turns n old (Err fault) new = TurnsStop n old fault new
 
--- a call is answered as a flat disk answers it; turns show nothing, and neither does a remount, which is answered where it is done
+-- a call is answered as a flat disk answers it; turns show nothing, and neither does a remount, which is answered where
+-- it is done
 abbrev pub FlatAnswer : FlatDisk → Request → Answer → FlatDisk → Type 0
 FlatAnswer old (single call) answer new = FlatCall old call answer new
 FlatAnswer old (turns n) answer new = (answer.shown ≡ []) × Turns n old answer.result new
@@ -132,7 +136,8 @@ RefusesRequest old (Some request) (Disk fault) new = IsRefused old request fault
 RefusesRequest old (Some remount) (Mount fault) new = FlatRemount old (Err fault) new
 RefusesRequest old wanted fault new = ⊥
 
--- why what a line asks for has no reply, and what it left: it was refused, or there was no memory for the reply and nothing changed
+-- why what a line asks for has no reply, and what it left: it was refused, or there was no memory for the reply and
+-- nothing changed
 abbrev pub RequestStops : FlatDisk → Option Request → RunFault → FlatDisk → Type 0
 RequestStops old wanted (Disk fault) new = RefusesRequest old wanted (Disk fault) new
 RequestStops old wanted (Mount fault) new = RefusesRequest old wanted (Mount fault) new

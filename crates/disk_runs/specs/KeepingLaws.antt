@@ -12,11 +12,15 @@ reads_none n disk = record { turns = refl; completed = omega arith }
 
 -- a disk of which nothing came
 pub nothing_same : (disk : DiskView) → ComesToNothing disk disk
-nothing_same disk = record { flat = refl; keeps = keeps_same disk; reads = reads_none (disk_size disk) disk; durable = refl }
+nothing_same disk =
+    record { flat = refl; keeps = keeps_same disk; reads = reads_none (disk_size disk) disk; durable = refl }
 
 -- the same in any case
 pub read_same : (disk : DiskView) → StaysRead disk disk
-read_same disk = record { alike = record { shape = record { geometry = refl; trusted = λ clean. clean }; size = refl }; reads = reads_none (disk_size disk) disk }
+read_same disk = record {
+  alike = record { shape = record { geometry = refl; trusted = λ clean. clean }; size = refl };
+  reads = reads_none (disk_size disk) disk;
+}
 
 -- and over any device
 pub any_same : (taking : Taking) (disk : DiskView) → (any_lines taking).Same disk disk

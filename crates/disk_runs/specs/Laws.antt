@@ -1,5 +1,6 @@
 -- What holds of runs.
-use Rattle.std.specs.Prelude.{◌≡◌, ◌⊎◌, ℕ, zero, suc, ◌+◌, ◌<◌, ◌≤◌, Bool, true, false, List, [], ◌∷◌, Contains, Option, Some, None, Result, Ok, Err, ⊤}
+use Rattle.std.specs.Prelude.{◌≡◌, ◌⊎◌, ℕ, zero, suc, ◌+◌, ◌<◌, ◌≤◌, Bool, true, false, List, [], ◌∷◌, Contains, Option}
+use Rattle.std.specs.Prelude.{Some, None, Result, Ok, Err, ⊤}
 use Rattle.std.specs.List.{AllByRecursion}
 use Rattle.zone_states.specs.Zone.{Zone}
 use Rattle.drive_port.specs.Drive.{DriveState}
@@ -25,7 +26,8 @@ use Rattle.disk_runs.specs.declared.taking.Taking.TheVariants.{Synced}
 -- a run of which only the lines are taken that read leaves the array as it was, however it ends
 abbrev pub ReadsKeepArray : Type 0
 ReadsKeepArray =
-    (bytes : Exchange) (old new : DiskView) (ended : Result (Unit {0}) RunFault) → Runs reads bytes old ended new → disk_array new ≡ disk_array old
+    (bytes : Exchange) (old new : DiskView) (ended : Result (Unit {0}) RunFault) → Runs reads bytes old ended new
+    → disk_array new ≡ disk_array old
 
 -- ---- progress
 
@@ -38,14 +40,18 @@ abbrev pub all_turns : List (List ℕ) → ℕ
 all_turns [] = 0
 all_turns (line ∷ lines) = turns_asked (said_by line) + all_turns lines
 
--- Whatever lines of a run are answered, they take no more commands than each may, if none of them mounts the drive again.
+-- Whatever lines of a run are answered, they take no more commands than each may, if none of them mounts the drive
+-- again.
 abbrev pub CommandsAreFew : (Taking → Language DiskView) → Type 0
 CommandsAreFew lines_of =
-    (taking : Taking) (old new : DiskView) (lines : List (List ℕ)) (text : List ℕ) → AnswersAll (lines_of taking) old lines text new → NoneMounts lines
+    (taking : Taking) (old new : DiskView) (lines : List (List ℕ)) (text : List ℕ)
+    → AnswersAll (lines_of taking) old lines text new → NoneMounts lines
     → CompletesAtMost old (all_commands taking old.drive.geometry lines) new
 
--- and the line that ends a run takes no more than one that is answered; nothing is said of one that mounts the drive again
-abbrev pub LastCosts : (language : Language DiskView) (taking : Taking) (fault : RunFault) (left : Known) (number : ℕ) (old : DiskView) (shown : List ℕ)
+-- and the line that ends a run takes no more than one that is answered; nothing is said of one that mounts the drive
+-- again
+abbrev pub LastCosts : (language : Language DiskView) (taking : Taking) (fault : RunFault) (left : Known) (number : ℕ)
+    (old : DiskView) (shown : List ℕ)
     (new : DiskView) → StopsAt language fault left number old shown new → Type 0
 LastCosts language taking Output left number old shown new s =
     mounts (said_by s.line) ≡ false → CompletesAtMost old (line_commands taking old.drive.geometry s.line) new
@@ -58,13 +64,16 @@ LastCosts language taking fault left number old shown new s = CompletesAtMost ol
 abbrev pub LastIsFew : (Taking → Language DiskView) → Type 0
 LastIsFew lines_of =
     (taking : Taking) (fault : RunFault) (left : Known) (number : ℕ) (old : DiskView) (shown : List ℕ) (new : DiskView)
-    (s : StopsAt (lines_of taking) fault left number old shown new) → LastCosts (lines_of taking) taking fault left number old shown new s
+    (s : StopsAt (lines_of taking) fault left number old shown new)
+    → LastCosts (lines_of taking) taking fault left number old shown new s
 
 -- From a mount on, a clean that runs has always fewer turns left than a zone has blocks.
 abbrev pub TurnsAreFew : Type 0
 TurnsAreFew =
-    (taking : Taking) (drive : DriveState) (n : ℕ) (first new : DiskView) (lines : List (List ℕ)) (text : List ℕ) → MountsDisk drive n first
-    → KeepsMountable n drive first.drive → AnswersAll (disk_lines taking) first lines text new → disk_turns new < new.drive.geometry.capacity
+    (taking : Taking) (drive : DriveState) (n : ℕ) (first new : DiskView) (lines : List (List ℕ)) (text : List ℕ)
+    → MountsDisk drive n first
+    → KeepsMountable n drive first.drive → AnswersAll (disk_lines taking) first lines text new
+    → disk_turns new < new.drive.geometry.capacity
 
 -- at a moment before one of these turns no clean runs
 abbrev pub PausesAmong : (n : ℕ) (old new : DiskView) → TakesTurns n old new → Type 0
@@ -77,7 +86,8 @@ PausesAt (Some (Idle n, bytes)) old new does = PausesAmong n old new does.1
 PausesAt said old new does = ⊥
 
 -- the same of a line that is answered
-abbrev pub PausesWith : (flushed : Bool) (old : DiskView) (line reply : List ℕ) (new : DiskView) → AnswersWith flushed old line reply new → Type 0
+abbrev pub PausesWith : (flushed : Bool) (old : DiskView) (line reply : List ℕ) (new : DiskView)
+    → AnswersWith flushed old line reply new → Type 0
 PausesWith false old line reply new answers = PausesAt (said_by line) old new answers.does
 PausesWith true old line reply new answers = PausesAt (said_by line) old answers.middle answers.answers.does
 
@@ -86,13 +96,15 @@ abbrev pub Pauses : (taking : Taking) (old : DiskView) (lines : List (List ℕ))
     → AnswersAll (disk_lines taking) old lines text new → Type 0
 Pauses taking old [] text new all = old.clean ≡ None
 Pauses taking old (line ∷ lines) text new all =
-    PausesWith (is_flushed taking line) old line all.reply all.middle all.answers ⊎ Pauses taking all.middle lines all.after new all.rest
+    PausesWith (is_flushed taking line) old line all.reply all.middle all.answers
+    ⊎ Pauses taking all.middle lines all.after new all.rest
 
--- A clean ends by its last turn, whatever lines fall between: where lines ask for as many turns as are left of the clean that runs, then at a moment of
--- them no clean runs.
+-- A clean ends by its last turn, whatever lines fall between: where lines ask for as many turns as are left of the
+-- clean that runs, then at a moment of them no clean runs.
 abbrev pub CleansEnd : Type 0
 CleansEnd =
-    (taking : Taking) (old new : DiskView) (lines : List (List ℕ)) (text : List ℕ) (all : AnswersAll (disk_lines taking) old lines text new)
+    (taking : Taking) (old new : DiskView) (lines : List (List ℕ)) (text : List ℕ)
+    (all : AnswersAll (disk_lines taking) old lines text new)
     → disk_turns old ≤ all_turns lines → Pauses taking old lines text new all
 
 -- ---- over any device
@@ -100,18 +112,21 @@ CleansEnd =
 -- A run keeps the shape of its drive, whatever the Reads of the drive returned, and however it ends.
 abbrev pub RunKeepsShape : Type 0
 RunKeepsShape =
-    (taking : Taking) (bytes : Exchange) (old new : DiskView) (ended : Result (Unit {0}) RunFault) → Runs (any_lines taking) bytes old ended new
+    (taking : Taking) (bytes : Exchange) (old new : DiskView) (ended : Result (Unit {0}) RunFault)
+    → Runs (any_lines taking) bytes old ended new
     → KeepsShape old.drive new.drive
 
 -- the lines that it answers keep the size of the disk, if none of them is a growth or mounts the drive again
 abbrev pub LinesKeepSize : Type 0
 LinesKeepSize =
-    (taking : Taking) (old new : DiskView) (lines : List (List ℕ)) (text : List ℕ) → AnswersAll (any_lines taking) old lines text new → NoneResizes lines
+    (taking : Taking) (old new : DiskView) (lines : List (List ℕ)) (text : List ℕ)
+    → AnswersAll (any_lines taking) old lines text new → NoneResizes lines
     → disk_size new ≡ disk_size old
 
 -- ---- a loss of power in a synced run
 
--- A loss of power leaves these zones: those of a disk that was flushed, with the array of this one. A mount of them finds that array.
+-- A loss of power leaves these zones: those of a disk that was flushed, with the array of this one. A mount of them
+-- finds that array.
 pub record LeavesFlushed (disk : DiskView) (zones : List Zone) : Type 0 where
   pub flushed : DiskView
   pub leaves : LeavesDisk flushed zones
@@ -123,17 +138,20 @@ pub record LeavesFlushed (disk : DiskView) (zones : List Zone) : Type 0 where
 abbrev pub NoneFlushed : List (List ℕ) → Type 0
 NoneFlushed lines = AllByRecursion (λ (line : List ℕ). is_flushed Synced line ≡ false) lines
 
--- What it leaves after lines that were answered: the array after the last of them. Where none was flushed, it may also leave what it might have left
--- before the first.
+-- What it leaves after lines that were answered: the array after the last of them. Where none was flushed, it may also
+-- leave what it might have left before the first.
 abbrev pub LossAfterLines : DiskView → List (List ℕ) → DiskView → List Zone → Type 0
-LossAfterLines first lines last zones = LeavesFlushed last zones ⊎ (NoneFlushed lines × Contains first.drive.durable zones)
+LossAfterLines first lines last zones =
+    LeavesFlushed last zones ⊎ (NoneFlushed lines × Contains first.drive.durable zones)
 
 abbrev pub AnsweredIsDurable : Type 0
 AnsweredIsDurable =
-    (first last : DiskView) (lines : List (List ℕ)) (text : List ℕ) → CanMountAgain first → AnswersAll synced first lines text last
+    (first last : DiskView) (lines : List (List ℕ)) (text : List ℕ) → CanMountAgain first
+    → AnswersAll synced first lines text last
     → (zones : List Zone) → Contains last.drive.durable zones → LossAfterLines first lines last zones
 
--- The next line was done, but its reply was not written whole: its flush was refused, or the writer failed. The array after it is left.
+-- The next line was done, but its reply was not written whole: its flush was refused, or the writer failed. The array
+-- after it is left.
 pub record LeavesDone (left : Known) (old : DiskView) (zones : List Zone) : Type 0 where
   pub line : List ℕ
   pub next : IsNextLine left line
@@ -142,19 +160,24 @@ pub record LeavesDone (left : Known) (old : DiskView) (zones : List Zone) : Type
   pub answers : AnswersLine old line reply done
   pub leaves : LeavesFlushed done zones
 
--- What it leaves after a run: the array after the last line that was answered or, where the line that ended the run was done, the array after that one.
+-- What it leaves after a run: the array after the last line that was answered or, where the line that ended the run was
+-- done, the array after that one.
 abbrev pub LossAfterRun : (bytes : Exchange) (first : DiskView) (ended : Result (Unit {0}) RunFault) (last : DiskView)
     → Runs synced bytes first ended last → List Zone → Type 0
 LossAfterRun bytes first (Ok done) last ran zones = LossAfterLines first ran.lines last zones
-LossAfterRun bytes first (Err fault) last ran zones = LossAfterLines first ran.lines ran.middle zones ⊎ LeavesDone ran.left ran.middle zones
+LossAfterRun bytes first (Err fault) last ran zones =
+    LossAfterLines first ran.lines ran.middle zones ⊎ LeavesDone ran.left ran.middle zones
 
 abbrev pub RunIsDurable : Type 0
 RunIsDurable =
     (bytes : Exchange) (first : DiskView) (ended : Result (Unit {0}) RunFault) (last : DiskView) → CanMountAgain first
-    → (ran : Runs synced bytes first ended last) → (zones : List Zone) → Contains last.drive.durable zones → LossAfterRun bytes first ended last ran zones
+    → (ran : Runs synced bytes first ended last) → (zones : List Zone) → Contains last.drive.durable zones
+    → LossAfterRun bytes first ended last ran zones
 
 -- the same of a drive that was mounted, and is given back
 abbrev pub DriveIsDurable : Type 0
 DriveIsDurable =
-    (n : ℕ) (bytes : Exchange) (old : DriveState) (ended : Result (Unit {0}) RunFault) (new : DriveState) → (keeps : RunKeeps synced n bytes old ended new)
-    → (zones : List Zone) → Contains new.durable zones → LossAfterRun bytes keeps.first ended keeps.last keeps.runs zones
+    (n : ℕ) (bytes : Exchange) (old : DriveState) (ended : Result (Unit {0}) RunFault) (new : DriveState)
+    → (keeps : RunKeeps synced n bytes old ended new)
+    → (zones : List Zone) → Contains new.durable zones
+    → LossAfterRun bytes keeps.first ended keeps.last keeps.runs zones

@@ -1,5 +1,6 @@
 -- Runs of lines: each line of a reader is answered, in order, and the replies are what a writer gets.
-use Rattle.std.specs.Prelude.{◌≡◌, ◌≢◌, ℕ, ◌+◌, ◌<◌, ◌≤◌, Bool, true, false, List, [], ◌∷◌, ◌++◌, length, take, Some, None, Result, Ok, Err, IsTrue, ⊤}
+use Rattle.std.specs.Prelude.{◌≡◌, ◌≢◌, ℕ, ◌+◌, ◌<◌, ◌≤◌, Bool, true, false, List, [], ◌∷◌, ◌++◌, length, take, Some}
+use Rattle.std.specs.Prelude.{None, Result, Ok, Err, IsTrue, ⊤}
 use Rattle.std.specs.Io.KnownBytes.{Appends}
 pub use Rattle.disk_files.specs.Input.{Known}
 use Rattle.disk_files.specs.Line.{after_line, first_line}
@@ -20,26 +21,32 @@ exchange input written contents = record { input = input; written = written; con
 
 -- ---- what lines mean
 
--- What lines mean to something that has a state: which are in the grammar; what each replies, and to which state it leads; by what it may be refused,
--- and where that leads; and which states a line leads to of which nothing came.
+-- What lines mean to something that has a state: which are in the grammar; what each replies, and to which state it
+-- leads; by what it may be refused, and where that leads; and which states a line leads to of which nothing came.
 pub record Language (S : Type 0) : Type 1 where
   pub is_legal : S → List ℕ → Bool
   pub Answers : S → List ℕ → List ℕ → S → Type 0
   pub Refuses : S → List ℕ → RunFault → S → Type 0
   pub Same : S → S → Type 0
 
--- Something is done. It is this in any case. As long as something holds of the state, which once lost does not come back, it is that, too.
+-- Something is done. It is this in any case. As long as something holds of the state, which once lost does not come
+-- back, it is that, too.
 pub record AsLongAs {S : Type 0} (holds : S → Bool) (old : S) (Always Does : Type 0) (new : S) : Type 0 where
   pub before : IsTrue (holds new) → IsTrue (holds old)
   pub always : Always
   pub does : IsTrue (holds new) → Does
 
--- The lines of a language, of which it is promised what they do as long as something holds. What another language says of them is promised in any case.
+-- The lines of a language, of which it is promised what they do as long as something holds. What another language says
+-- of them is promised in any case.
 abbrev pub while : {S : Type 0} → (S → Bool) → Language S → Language S → Language S
 while holds always language = record {
   is_legal = language.is_legal;
-  Answers = λ old line reply new. AsLongAs holds old (always.Answers old line reply new) (language.Answers old line reply new) new;
-  Refuses = λ old line fault new. AsLongAs holds old (always.Refuses old line fault new) (language.Refuses old line fault new) new;
+  Answers =
+      λ old line reply new. AsLongAs holds old (always.Answers old line reply new)
+      (language.Answers old line reply new) new;
+  Refuses =
+      λ old line fault new. AsLongAs holds old (always.Refuses old line fault new)
+      (language.Refuses old line fault new) new;
   Same = λ old new. AsLongAs holds old (always.Same old new) (language.Same old new) new;
 }
 
@@ -49,7 +56,8 @@ pub record IsLine {S : Type 0} (language : Language S) (state : S) (line : List 
   pub legal : language.is_legal state line ≡ true
 
 -- one line is answered, and what follows it is done from where it led
-pub record AnswersFirst {S : Type 0} (language : Language S) (old : S) (line text : List ℕ) (Rest : S → List ℕ → Type 0) : Type 0 where
+pub record AnswersFirst {S : Type 0} (language : Language S) (old : S) (line text : List ℕ)
+    (Rest : S → List ℕ → Type 0) : Type 0 where
   pub reply : List ℕ
   pub after : List ℕ
   pub middle : S
@@ -89,7 +97,8 @@ line_fault number lines.Memory = Memory
 -- these are the first lines of the bytes, and the rest is what follows them
 abbrev pub TakesLines : List ℕ → List (List ℕ) → List ℕ → Type 0
 TakesLines bytes [] rest = bytes ≡ rest
-TakesLines bytes (line ∷ lines) rest = (bytes ≢ []) × (line ≡ first_line bytes) × TakesLines (after_line bytes) lines rest
+TakesLines bytes (line ∷ lines) rest =
+    (bytes ≢ []) × (line ≡ first_line bytes) × TakesLines (after_line bytes) lines rest
 
 -- these are the first lines of what a reader had left, and this is what it has left after them, where that is known
 abbrev pub HasRead : Known → List (List ℕ) → Known → Type 0
@@ -143,18 +152,22 @@ pub record IsBeginning {S : Type 0} (language : Language S) (old : S) (line show
   pub short : count < length reply
   pub shown_is : shown ≡ take count reply
 
--- Why a run stops at the line of this number, which is the first of what is left. What is shown of its reply is written, and the old state has become
--- the new one. Where memory ran out, nothing came of the line.
+-- Why a run stops at the line of this number, which is the first of what is left. What is shown of its reply is
+-- written, and the old state has become the new one. Where memory ran out, nothing came of the line.
 abbrev pub StopsAt : {S : Type 0} → Language S → RunFault → Known → ℕ → S → List ℕ → S → Type 0
-StopsAt language (Line m) left number old shown new = (m ≡ number) × AtWrongLine language left old × (shown ≡ []) × (new ≡ old)
+StopsAt language (Line m) left number old shown new =
+    (m ≡ number) × AtWrongLine language left old × (shown ≡ []) × (new ≡ old)
 StopsAt language (Long m) left number old shown new = (m ≡ number) × IsNextLong left × (shown ≡ []) × (new ≡ old)
 StopsAt language Input left number old shown new = (shown ≡ []) × (new ≡ old)
-StopsAt language Output left number old shown new = AtLine language left old (λ line. IsBeginning language old line shown new)
+StopsAt language Output left number old shown new =
+    AtLine language left old (λ line. IsBeginning language old line shown new)
 StopsAt language Memory left number old shown new = (shown ≡ []) × language.Same old new
-StopsAt language fault left number old shown new = (shown ≡ []) × AtLine language left old (λ line. language.Refuses old line fault new)
+StopsAt language fault left number old shown new =
+    (shown ≡ []) × AtLine language left old (λ line. language.Refuses old line fault new)
 
 -- some lines are answered, and of the next at most a beginning of its reply is written
-pub record StopsEarly {S : Type 0} (language : Language S) (bytes : Exchange) (old : S) (fault : RunFault) (new : S) : Type 0 where
+pub record StopsEarly {S : Type 0} (language : Language S) (bytes : Exchange) (old : S) (fault : RunFault)
+    (new : S) : Type 0 where
   pub lines : List (List ℕ)
   pub left : Known
   pub text : List ℕ

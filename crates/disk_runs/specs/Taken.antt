@@ -1,5 +1,6 @@
 -- Which lines of a trace are taken, and after which of them the disk is flushed.
-use Rattle.std.specs.Prelude.{◌≡◌, ◌⊎◌, ℕ, ◌||◌, Bool, true, false, not, List, Option, Some, None, Result, Ok, Err, is_some}
+use Rattle.std.specs.Prelude.{◌≡◌, ◌⊎◌, ℕ, ◌||◌, Bool, true, false, not, List, Option, Some, None, Result, Ok, Err}
+use Rattle.std.specs.Prelude.{is_some}
 use Rattle.disk_files.specs.TraceLine.{is_skipped, trace_line}
 use Rattle.disk_files.specs.declared.trace_line.TraceLine.{TraceLine}
 use Rattle.disk_files.specs.declared.trace_line.TraceLine.TheVariants.{Read}
@@ -50,8 +51,9 @@ unsynced false = All
 
 -- ---- after which the disk is flushed
 
--- In a synced run the disk is flushed after each line but those that change nothing. Turns of cleaning and a remount leave
--- the array, but change the drive. They are flushed too: so a loss of power takes nothing back that was replied to.
+-- In a synced run the disk is flushed after each line but those that change nothing. Turns of cleaning and a remount
+-- leave the array, but change the drive. They are flushed too: so a loss of power takes nothing back that was replied
+-- to.
 abbrev pub is_flushed : Taking → List ℕ → Bool
 is_flushed All line = false
 is_flushed Reads line = false
@@ -77,7 +79,8 @@ FlushesIf false old result new = (result ≡ Ok tt) × (new ≡ old)
 -- ---- what is answered
 
 -- a line is answered, and then the disk is flushed, or that is refused
-pub record AnswersThenFlushes (old : DiskView) (line reply : List ℕ) (result : Result (Unit {0}) DiskFault) (new : DiskView) : Type 0 where
+pub record AnswersThenFlushes (old : DiskView) (line reply : List ℕ) (result : Result (Unit {0}) DiskFault)
+    (new : DiskView) : Type 0 where
   pub middle : DiskView
   pub answers : AnswersLine old line reply middle
   pub flushed : FlushesDisk middle result new
@@ -87,10 +90,12 @@ abbrev pub AnswersWith : Bool → DiskView → List ℕ → List ℕ → DiskVie
 AnswersWith false old line reply new = AnswersLine old line reply new
 AnswersWith true old line reply new = AnswersThenFlushes old line reply (Ok tt) new
 
--- A line is refused. Where a flush follows it, it may also be answered, and the flush be refused: then the line is done, and has no reply.
+-- A line is refused. Where a flush follows it, it may also be answered, and the flush be refused: then the line is
+-- done, and has no reply.
 abbrev pub RefusesWith : Bool → DiskView → List ℕ → RunFault → DiskView → Type 0
 RefusesWith false old line fault new = RefusesLine old line fault new
-RefusesWith true old line (Disk fault) new = RefusesLine old line (Disk fault) new ⊎ ((reply : List ℕ) × AnswersThenFlushes old line reply (Err fault) new)
+RefusesWith true old line (Disk fault) new =
+    RefusesLine old line (Disk fault) new ⊎ ((reply : List ℕ) × AnswersThenFlushes old line reply (Err fault) new)
 RefusesWith true old line fault new = RefusesLine old line fault new
 
 -- the lines of a trace that are taken, as a disk above a drive answers them
@@ -120,7 +125,8 @@ pub record AnswersThenFails (old : FlatDisk) (line : List ℕ) (fault : DiskFaul
 
 abbrev pub FlatRefusesWith : Bool → FlatDisk → List ℕ → RunFault → FlatDisk → Type 0
 FlatRefusesWith false old line fault new = RefusesRequest old (request_of old.block line) fault new
-FlatRefusesWith true old line (Disk fault) new = RefusesRequest old (request_of old.block line) (Disk fault) new ⊎ AnswersThenFails old line fault new
+FlatRefusesWith true old line (Disk fault) new =
+    RefusesRequest old (request_of old.block line) (Disk fault) new ⊎ AnswersThenFails old line fault new
 FlatRefusesWith true old line fault new = RefusesRequest old (request_of old.block line) fault new
 
 -- The same lines, as a flat disk answers them: a flush that is done changes nothing of it.

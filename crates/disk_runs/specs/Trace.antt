@@ -1,5 +1,6 @@
 -- What a run of a trace gives, and what it leaves of the drive.
-use Rattle.std.specs.Prelude.{◌≡◌, ◌⊎◌, ℕ, zero, suc, ◌<◌, ◌≤◌, Bool, true, false, List, length, Option, Some, None, if◌then◌else◌, Result, Ok, Err, IfErr, OnOk, ⊤}
+use Rattle.std.specs.Prelude.{◌≡◌, ◌⊎◌, ℕ, zero, suc, ◌<◌, ◌≤◌, Bool, true, false, List, length, Option, Some, None}
+use Rattle.std.specs.Prelude.{if◌then◌else◌, Result, Ok, Err, IfErr, OnOk, ⊤}
 use Rattle.std.specs.Io.KnownBytes.{Keeps}
 use Rattle.drive_port.specs.Drive.{DriveState}
 use Rattle.drive_array.specs.ZoneLogs.{encoded}
@@ -13,13 +14,15 @@ use Rattle.zone_cleaner.specs.Start.{TurnsFewer}
 use Rattle.disk_files.specs.TraceLine.{is_skipped, trace_line}
 use Rattle.disk_files.specs.declared.trace_line.TraceLine.{TraceLine}
 use Rattle.disk_files.specs.declared.trace_line.TraceLine.TheVariants.{Read, Fill, Write, Trim, Idle, Grow, Remount}
-use Rattle.zone_translator.specs.Answers.{CostsAtMost, KeepsClean, SaysSize, Stores, count_of_blocks, write_bytes, write_commands}
+use Rattle.zone_translator.specs.Answers.{CostsAtMost, KeepsClean, SaysSize, Stores, count_of_blocks, write_bytes}
+use Rattle.zone_translator.specs.Answers.{write_commands}
 use Rattle.zone_translator.specs.Calls.{IsTurn, is_known}
 use Rattle.zone_translator.specs.Changes.{IsCause, batch_commands}
 use Rattle.zone_translator.specs.Flat.{Call, FlatDisk, fill, grow, trim}
 use Rattle.zone_translator.specs.Keeping.{KeepsServed}
 use Rattle.zone_translator.specs.Mount.{GivesBack, MountsDisk}
-use Rattle.zone_translator.specs.View.{CompletesAtMost, DiskView, disk_size, disk_turns, flat_of, given_size, mounted_of, next_sequence}
+use Rattle.zone_translator.specs.View.{CompletesAtMost, DiskView, disk_size, disk_turns, flat_of, given_size}
+use Rattle.zone_translator.specs.View.{mounted_of, next_sequence}
 use Rattle.zone_translator.specs.declared.fault.DiskFault.{DiskFault}
 use Rattle.zone_translator.specs.declared.fault.DiskFault.TheVariants.{Unmounted}
 use Rattle.zone_translator.specs.declared.status.DiskStatus.{DiskStatus}
@@ -36,8 +39,8 @@ pub record MountsAgain (old new : DiskView) : Type 0 where
   pub disk : MountsDisk old.drive (given_size old) new
   pub kept : KeepsMountable (given_size old) old.drive new.drive
 
--- A turn of cleaning is done. It is the next step of the clean that runs, which has fewer turns left then. If none runs, it is the start of
--- one that is due, or nothing changes.
+-- A turn of cleaning is done. It is the next step of the clean that runs, which has fewer turns left then. If none
+-- runs, it is the start of one that is due, or nothing changes.
 pub record TakesOne (old new : DiskView) : Type 0 where
   pub served : KeepsServed old new
   pub turn : IsTurn old (Ok tt) new
@@ -70,7 +73,8 @@ pub record ReadsFew (n : ℕ) (old new : DiskView) : Type 0 where
   pub completed : CompletesAtMost old n new
 
 -- n blocks are written as one write, as data or by trims; a call whose answer is known beforehand changes nothing
-pub record WritesOnce (call : Call) (trim : Bool) (first n : ℕ) (result : Result (Unit {0}) DiskFault) (old new : DiskView) : Type 0 where
+pub record WritesOnce (call : Call) (trim : Bool) (first n : ℕ) (result : Result (Unit {0}) DiskFault)
+    (old new : DiskView) : Type 0 where
   pub served : KeepsServed old new
   pub untouched : is_known (flat_of old) call ≡ true → new ≡ old
   pub stores : is_known (flat_of old) call ≡ false → Stores trim old first n result new
@@ -85,18 +89,22 @@ pub record GrowsOnce (size : ℕ) (result : Result (Unit {0}) DiskFault) (old ne
   pub clean : KeepsClean old new
   pub completed : CompletesAtMost old (batch_commands old.drive.geometry) new
 
--- What a line does, by what it says and its data, and whether it was refused. A `fill` and a `write` leave data, a `trim` leaves trims. A line
--- that was refused costs no more than one that is done.
+-- What a line does, by what it says and its data, and whether it was refused. A `fill` and a `write` leave data, a
+-- `trim` leaves trims. A line that was refused costs no more than one that is done.
 abbrev pub Does : TraceLine → List ℕ → Result (Unit {0}) DiskFault → DiskView → DiskView → Type 0
 Does (Read first n) bytes result old new = KeepsServed old new × ReadsFew n old new
-Does (Fill first n byte) bytes result old new = WritesOnce (fill old.drive.geometry.block first n byte) false first n result old new
-Does (Write first) bytes result old new = WritesOnce (write_bytes old first bytes) false first (count_of_blocks old bytes) result old new
-Does (Trim first n) bytes result old new = WritesOnce (trim old.drive.geometry.block first n) true first n result old new
+Does (Fill first n byte) bytes result old new =
+    WritesOnce (fill old.drive.geometry.block first n byte) false first n result old new
+Does (Write first) bytes result old new =
+    WritesOnce (write_bytes old first bytes) false first (count_of_blocks old bytes) result old new
+Does (Trim first n) bytes result old new =
+    WritesOnce (trim old.drive.geometry.block first n) true first n result old new
 Does (Idle n) bytes result old new = KeepsServed old new × TurnsBy result n old new
 Does (Grow size) bytes result old new = GrowsOnce size result old new
 Does Remount bytes result old new = OnOk result (MountsAgain old new)
 
--- What a line did that has no reply: where memory ran out for it, blocks were read. Of a remount that is refused nothing more is said.
+-- What a line did that has no reply: where memory ran out for it, blocks were read. Of a remount that is refused
+-- nothing more is said.
 abbrev pub StopsBy : RunFault → TraceLine → List ℕ → DiskView → DiskView → Type 0
 StopsBy (Disk fault) line bytes old new = Does line bytes (Err fault) old new
 StopsBy Memory line bytes old new = ReadsFew (disk_size old) old new
@@ -128,7 +136,8 @@ abbrev pub KeepsFault : RunFault → DiskView → DiskView → Type 0
 KeepsFault (Mount fault) old new = IsMountable old.drive (given_size old) → KeepsDrive old new
 KeepsFault fault old new = KeepsServed old new
 
--- why a disk ends a run; a drive that could be mounted is not mounted again only where an allocation failed or the drive halted
+-- why a disk ends a run; a drive that could be mounted is not mounted again only where an allocation failed or the
+-- drive halted
 abbrev pub EndCause : DiskView → RunFault → Type 0
 EndCause disk (Disk Unmounted) = disk.status ≡ statuses.Unmounted
 EndCause disk (Disk fault) = IsCause disk.drive (next_sequence disk) fault
@@ -193,19 +202,22 @@ disk_on n drive size status = record {
 abbrev pub disk_at_first : ℕ → DriveState → FlatDisk
 disk_at_first n drive = disk_on n drive (length (encoded drive n)) statuses.Serving
 
--- A run over the disk that a drive keeps, as a flat disk answers its lines in this language. It ends with a disk of some size, which serves or does not.
+-- A run over the disk that a drive keeps, as a flat disk answers its lines in this language. It ends with a disk of
+-- some size, which serves or does not.
 abbrev pub RunsFlat : Language FlatDisk → ℕ → Exchange → DriveState → Result (Unit {0}) RunFault → DriveState → Type 0
 RunsFlat language n bytes old ended new =
     (size : ℕ) × (status : DiskStatus) × Runs language bytes (disk_at_first n old) ended (disk_on n new size status)
 
 -- The drive was not mounted, and is given back: nothing was written.
-pub record IsNotMounted (n : ℕ) (bytes : Exchange) (old : DriveState) (fault : MountFault) (new : DriveState) : Type 0 where
+pub record IsNotMounted (n : ℕ) (bytes : Exchange) (old : DriveState) (fault : MountFault)
+    (new : DriveState) : Type 0 where
   pub back : GivesBack old n fault new
   pub unwritten : Keeps bytes.written bytes.contents
 
 -- The lines are answered by the disk that the drive keeps. Where the drive is not mounted at first, nothing is written.
 abbrev pub RunGives : Language FlatDisk → ℕ → Exchange → DriveState → Result (Unit {0}) RunFault → DriveState → Type 0
-RunGives language n bytes old (Err (Mount fault)) new = IsNotMounted n bytes old fault new ⊎ RunsFlat language n bytes old (Err (Mount fault)) new
+RunGives language n bytes old (Err (Mount fault)) new =
+    IsNotMounted n bytes old fault new ⊎ RunsFlat language n bytes old (Err (Mount fault)) new
 RunGives language n bytes old ended new = RunsFlat language n bytes old ended new
 
 -- why a disk refused a call: it is none that was refused by a remount
@@ -213,9 +225,10 @@ abbrev pub CallCause : DiskView → RunFault → Type 0
 CallCause disk (Disk fault) = IsCause disk.drive (next_sequence disk) fault
 CallCause disk fault = ⊤
 
--- The drive could be mounted, and can be mounted again, of the same shape; no command was refused. It was mounted as a disk, and the lines that were
--- answered led from that disk to one whose drive is handed back.
-pub record RunKeeps (language : Language DiskView) (n : ℕ) (bytes : Exchange) (old : DriveState) (ended : Result (Unit {0}) RunFault)
+-- The drive could be mounted, and can be mounted again, of the same shape; no command was refused. It was mounted as a
+-- disk, and the lines that were answered led from that disk to one whose drive is handed back.
+pub record RunKeeps (language : Language DiskView) (n : ℕ) (bytes : Exchange) (old : DriveState)
+    (ended : Result (Unit {0}) RunFault)
     (new : DriveState) : Type 0 where
   pub can : IsToMount old n
   pub geometry : new.geometry ≡ old.geometry
@@ -231,6 +244,7 @@ pub record RunKeeps (language : Language DiskView) (n : ℕ) (bytes : Exchange) 
 
 -- A drive after a run.
 abbrev pub RunLeaves : Language DiskView → ℕ → Exchange → DriveState → Result (Unit {0}) RunFault → DriveState → Type 0
-RunLeaves language n bytes old (Err (Mount fault)) new = IsNotMounted n bytes old fault new ⊎ RunKeeps language n bytes old (Err (Mount fault)) new
+RunLeaves language n bytes old (Err (Mount fault)) new =
+    IsNotMounted n bytes old fault new ⊎ RunKeeps language n bytes old (Err (Mount fault)) new
 RunLeaves language n bytes old (Err (Geometry fault)) new = ⊥
 RunLeaves language n bytes old ended new = RunKeeps language n bytes old ended new

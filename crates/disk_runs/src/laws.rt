@@ -31,7 +31,8 @@ pub fn any_device_is_kept()
     ensures shape { RunKeepsShape }
     // The size stays through lines that neither grow the disk nor mount the drive again.
     ensures size { LinesKeepSize }
-    // Each answered line takes so many commands at most, with its flush if one is due. So does the line that ends a run.
+    // Each answered line takes so many commands at most, with its flush if one is due. So does the line that ends a
+    // run.
     ensures commands { CommandsAreFew any_lines }
     ensures last { LastIsFew any_lines }
 {}

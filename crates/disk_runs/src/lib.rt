@@ -53,9 +53,9 @@
 //!   command. `Mount` is the fault of the first mount, and then nothing is written; or of a line `remount`, which is
 //!   refused only where memory ran out, or the drive has stopped or failed at a command. Such a drive can be mounted as
 //!   well, with the same array.
-//! * Over any device, whatever its Reads return, a run of lines ends, each reply has its form, the drive keeps its shape,
-//!   and each line takes no more commands than it may (`answer_any_trace`, `laws::any_device_is_kept`). All else holds as
-//!   long as each Read returned what the drive holds (`any_lines`).
+//! * Over any device, whatever its Reads return, a run of lines ends, each reply has its form with whole blocks, the
+//!   drive keeps its shape, and each line takes no more commands than it may (`answer_any_trace`,
+//!   `laws::any_device_is_kept`). All else holds as long as each Read returned what the drive holds (`any_lines`).
 //! * A run of raw lines writes the completions, and the returned data, of the steps that the drive takes from the
 //!   state handed in: one for each line with an entry, each from a drive that had not stopped. The drive that is given
 //!   back is in the state to which they lead. Of the last line a part is written only if the writer failed; its step

@@ -54,11 +54,11 @@ fn show_blocks<D: Device + Drop>(
     // While it is clean, done or refused, a drive that could be mounted still can be, and what is durable is the same.
     ensures keeps { IsTrue disk.new.drive.clean → KeepsServed disk.old disk.new }
     ensures durable { IsTrue disk.new.drive.clean → disk.new.drive.durable ≡ disk.old.drive.durable }
-    // Whatever the Reads returned, shape and size stay, and a block takes one command at most. Done, the reply has a line
-    // for each block.
+    // Whatever the Reads returned, shape and size stay, and a block takes one command at most. Done, the reply has a
+    // line for each block, and each of them is whole.
     ensures alike { StaysAlike disk.old disk.new }
     ensures costs { ReadsFew blocks disk.old disk.new }
-    ensures form { OnOk result (PutsLines first blocks reply.old.items reply.new.items) }
+    ensures form { OnOk result (PutsLines disk.old.drive.geometry.block first blocks reply.old.items reply.new.items) }
 {
     for i in 0..blocks {
         if let Err(fault) = disk.read(first + i, 1, block) {
@@ -96,10 +96,11 @@ pub(crate) fn read_blocks<D: Device + Drop>(
     // While it is clean, done or refused, a drive that could be mounted still can be, and what is durable is the same.
     ensures keeps { IsTrue disk.new.drive.clean → KeepsServed disk.old disk.new }
     ensures durable { IsTrue disk.new.drive.clean → disk.new.drive.durable ≡ disk.old.drive.durable }
-    // Whatever the Reads returned, shape and size stay, and a block takes one command at most. Done, the reply has its form.
+    // Whatever the Reads returned, shape and size stay, and a block takes one command at most. Done, the reply has its
+    // form.
     ensures alike { StaysAlike disk.old disk.new }
     ensures costs { ReadsFew blocks disk.old disk.new }
-    ensures form { OnOk result (HasForm (Read first blocks) reply.new.items) }
+    ensures form { OnOk result (HasForm disk.old.drive.geometry.block (Read first blocks) reply.new.items) }
     ensures few { ReadsFew (disk_size disk.old) disk.old disk.new }
 {
     if is_past_end(disk.blocks(), first, blocks) {

@@ -89,8 +89,8 @@ fn mount_again<D: Device + Drop>(disk: &mut AnyDisk<D>, reply: &mut Vec<u8>) -> 
     ensures cause { IsTrue disk.new.drive.clean → IfErr result (HasCause (EndCause disk.new)) }
     ensures no_memory { IfErr result (λ fault. fault ≢ Memory) }
     ensures kind { IfErr result IsOfDisk }
-    // While it is clean: done, the drive was mounted again. Refused, a drive that could be mounted still can be. In both
-    // cases what is durable is the same.
+    // While it is clean: done, the drive was mounted again. Refused, a drive that could be mounted still can be. In
+    // both cases what is durable is the same.
     ensures keeps { IsTrue disk.new.drive.clean → OnOk result (MountsAgain disk.old disk.new) }
     ensures leaves { IsTrue disk.new.drive.clean → IfErr result (λ fault. KeepsFault fault disk.old disk.new) }
     ensures durable { IsTrue disk.new.drive.clean → disk.new.drive.durable ≡ disk.old.drive.durable }
@@ -133,14 +133,16 @@ pub(crate) fn answer_request<D: Device + Drop>(
     // While it is clean: done, the line did what it says. Refused, a drive that could be mounted still can be.
     ensures does { IsTrue disk.new.drive.clean → OnOk result (Does line bytes.now (Ok tt) disk.old disk.new) }
     ensures leaves { IsTrue disk.new.drive.clean → IfErr result (λ fault. KeepsFault fault disk.old disk.new) }
-    // A line that was refused takes no more commands then than one that is done, and the clean that ran is not thrown back.
-    ensures stops { IsTrue disk.new.drive.clean → IfErr result (λ fault. StopsBy fault line bytes.now disk.old disk.new) }
+    // A line that was refused takes no more commands then than one that is done, and the clean that ran is not thrown
+    // back.
+    ensures stops { IsTrue disk.new.drive.clean
+        → IfErr result (λ fault. StopsBy fault line bytes.now disk.old disk.new) }
     // While it is clean, done or refused, what is durable of the drive is the same.
     ensures durable { IsTrue disk.new.drive.clean → disk.new.drive.durable ≡ disk.old.drive.durable }
-    // Whatever the Reads returned, the drive keeps its shape, and the line takes no more commands than it may. Done, the
-    // reply has its form. For `Memory`, blocks were read at most.
+    // Whatever the Reads returned, the drive keeps its shape, and the line takes no more commands than it may. Done,
+    // the reply has its form. For `Memory`, blocks were read at most.
     ensures stays { StaysBy false (Some (line, bytes.now)) disk.old disk.new }
-    ensures form { OnOk result (HasForm line reply.new.items) }
+    ensures form { OnOk result (HasForm disk.old.drive.geometry.block line reply.new.items) }
     ensures memory { IfErr result (λ fault. fault ≡ Memory → StaysRead disk.old disk.new) }
 {
     match line {

@@ -83,9 +83,9 @@ impl<D: Device + Drop> Answerer for TraceAnswerer<D> {
 /// Answers each line of the reader by the calls of a disk over any device, as [`answer_trace`] does. The disk is given
 /// back.
 ///
-/// Whatever the device's Reads return, each line is answered or ends the run, each reply has its form, the drive keeps its
-/// shape, and each line takes no more commands than it may. As long as they returned what it holds, the answers are those
-/// of `answer_trace`: so are all replies before the first Read that lied.
+/// Whatever the device's Reads return, each line is answered or ends the run, each reply has its form, the drive keeps
+/// its shape, and each line takes no more commands than it may. As long as they returned what it holds, the answers are
+/// those of `answer_trace`: so are all replies before the first Read that lied.
 pub fn answer_any_trace<R: Read + Drop, W: Write, D: Device + Drop>(
     alloc: Global,
     taking: Taking,

@@ -1,5 +1,4 @@
 -- Where no medium is to fail, a session is one of the disk as it is.
-use Rattle.std.proofs.Common.{false}
 use Rattle.nbd_jobs.specs.Laws.{UnaskedIsForgotten, UnaskedIsServed}
 
 pub unasked-served : UnaskedIsServed

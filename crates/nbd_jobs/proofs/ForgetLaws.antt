@@ -1,8 +1,9 @@
 -- A session over a disk that forgets: what it leaves.
 use Rattle.std.proofs.Common.{◌≡◌, ℕ, zero, suc, ◌≤◌, List, [], ◌∷◌, ◌++◌, length, None, arith, get_or, Result, Ok, Err, true, false, refl, ap, sym, inl, inr, ◌∙◌}
-use Rattle.std.specs.Prelude.{◌&&◌, not, Bool, IfOk}
+use Rattle.std.specs.Prelude.{◌&&◌, ◌||◌, not, Bool, IfOk, IsTrue}
 use Rattle.nbd_wire.specs.declared.error_code.ErrorCode.{ErrorCode}
 use Rattle.nbd_wire.specs.declared.request.Request.{Request}
+use Rattle.zone_translator.proofs.DiskLaws.{alike-join}
 use Rattle.zone_translator.proofs.KeepingLaws.{keeps_again, keeps_same}
 use Rattle.std.proofs.lemmas.List.{length-append}
 use Rattle.zone_translator.specs.Flat.{FlatDisk, idle, known_range, with_nothing}
@@ -10,12 +11,13 @@ use Rattle.zone_translator.specs.Keeping.{KeepsServed}
 use Rattle.zone_translator.specs.View.{disk_array}
 use Rattle.nbd_session.specs.Failing.{failing}
 use Rattle.nbd_session.specs.Groups.{Asking, IsGroup, entries_of, named, span_entries}
+use Rattle.nbd_session.specs.Manners.{while_clean}
 use Rattle.nbd_session.specs.Pending.{Pending}
 use Rattle.nbd_session.specs.Requests.{AnswersAsked, asked_of_store, data_length}
 use Rattle.nbd_session.specs.Session.{AnswersBy, AnswersIn, Follows, ServesRequest, Session, session}
-use Rattle.nbd_session.specs.Store.{KeepsMode, RestsBy, StoreView, Syncs, most_listed, store_array, store_flat}
+use Rattle.nbd_session.specs.Store.{KeepsMode, RestsBy, Stays, StoreView, Syncs, most_listed, store_array, store_flat}
 use Rattle.nbd_session.specs.Streams.{Streams}
-use Rattle.nbd_session.specs.Turns.{ServesAtMost}
+use Rattle.nbd_session.specs.Turns.{ServesAtMostAs}
 use Rattle.nbd_session.specs.declared.asked.Asked.{Asked}
 use Rattle.nbd_session.specs.declared.ending.SessionEnd.{SessionEnd}
 use Rattle.nbd_session.specs.declared.ending.SessionEnd.TheVariants.{Disconnected, InputEnded, LimitReached}
@@ -25,13 +27,16 @@ use Rattle.nbd_session.specs.declared.fault.StoreFault.TheVariants.{Disk, Medium
 use Rattle.nbd_session.specs.declared.phase.Phase.{Phase}
 use Rattle.nbd_session.specs.declared.phase.Phase.TheVariants as phases
 use Rattle.nbd_session.proofs.FailingLaws.{mode-failing, syncs_failing}
-use Rattle.nbd_session.proofs.ModeLaws.{at_most-grows}
+use Rattle.nbd_session.proofs.WhileLaws.{at_most-while}
+use Rattle.volatile_cache.specs.Cache.{Cache, Cuts}
 use Rattle.volatile_cache.specs.Laws.{IsSettled, LeavesOut}
 use Rattle.volatile_cache.specs.Outcomes.{cached, deferring}
+use Rattle.volatile_cache.specs.Queue.{all_pending}
+use Rattle.volatile_cache.specs.declared.cut.Lost.{Lost}
 use Rattle.volatile_cache.proofs.CutLaws.{cut-settled, kill-outcome}
 use Rattle.volatile_cache.proofs.RequestLaws.{request-settled}
 use Rattle.volatile_cache.proofs.SettledLaws.{call-settled, kept-settled}
-use Rattle.nbd_jobs.specs.Forgetting.{Applies, Forgets, IsCut, LeavesBy}
+use Rattle.nbd_jobs.specs.Forgetting.{Applies, Forgets, ForgetsAs, IsCut, LeavesBy, LosesBy}
 use Rattle.nbd_jobs.specs.Laws.{LeavesBlock, LeavesRequest, MessageKeepsSettled, SettledIsLeft}
 use Rattle.nbd_jobs.specs.declared.forgetting.Forgotten.{Forgotten}
 use Rattle.nbd_jobs.specs.declared.job.Forget.{Forget}
@@ -57,22 +62,46 @@ mode-below below new mine left m = record { read_only = m.read_only; cleans = m.
 pub sync-applies : (below new : StoreView) (mine left : List Pending) → Syncs (cached below mine) (Ok tt) (cached new left) → Applies below mine (Ok 0) new
 sync-applies below new mine left s = (rw (none-above new.pending left s.1.done) at s, refl)
 
--- ---- what a session and its end keep
+-- ---- a cut of the cache
 
-mode-again : (a b c : StoreView) → KeepsMode (deferring a) (deferring b) → KeepsMode (deferring b) (deferring c) → KeepsMode (deferring a) (deferring c)
-mode-again a b c x y = record { read_only = y.read_only ∙ x.read_only; cleans = y.cleans ∙ x.cleans; flushes = y.flushes ∙ x.flushes; defers = refl; fails = y.fails ∙ x.fails }
+-- what a cut that is done tells
+pub cut-done : {S : Type 0} (view : S → StoreView) (forget : Forget) (old : Cache S) (lost : Lost) (new : Cache S) → Cuts view forget.seed forget.odds old (Ok lost) new
+    → IsCut forget (view old.store) (all_pending old.kept) (Ok lost.lost) (view new.store)
+cut-done view forget old lost new (falls, (durable, count, few, by, left)) = record { outcome = falls.outcome; done = (durable, omega (arith, count, few)); count = by; chosen = left; why = tt }
 
--- a store with an empty cache above it was served, and what was pending at the end was applied or lost
-pub forgets : (forget : Forget) (bytes : Streams) (old below new : StoreView) (mine : List Pending) (told : Forgotten) → ServesAtMost forget.cut_after bytes (session phases.Greeting (cached old [])) told.ended (cached below mine)
-    → KeepsServed old.disk below.disk → told.pending ≡ length mine → LeavesBy forget told.ended below mine told.lost new → KeepsServed below.disk new.disk → KeepsMode (deferring below) (deferring new) → Forgets forget bytes old told new
-forgets forget bytes old below new mine told serves kept count leaves kept' mode = record {
-  below = below;
-  mine = mine;
-  serves = serves;
-  count = count;
-  leaves = leaves;
-  kept = keeps_again old.disk below.disk new.disk kept kept';
-  mode = mode-again old below new (mode-below old below [] mine (at_most-grows forget.cut_after bytes (session phases.Greeting (cached old [])) told.ended (cached below mine) serves).1) mode;
+-- and one that fails
+pub cut-failed : {S : Type 0} (view : S → StoreView) (forget : Forget) (old : Cache S) (fault : StoreFault) (new : Cache S) → Cuts view forget.seed forget.odds old (Err fault) new
+    → IsCut forget (view old.store) (all_pending old.kept) (Err fault) (view new.store)
+cut-failed view forget old fault new (falls, why) = record { outcome = falls.outcome; done = tt; count = tt; chosen = tt; why = why }
+
+-- ---- whatever the Reads returned
+
+-- what stays of a store with a cache above it stays of the store below
+pub stays_below : (below new : StoreView) (mine left : List Pending) → Stays (cached below mine) (cached new left) → Stays (deferring below) (deferring new)
+stays_below below new mine left s = record { disk = s.disk; mode = mode-below below new mine left s.mode; syncs = s.syncs; none = λ prompt none. absurd (cc prompt) }
+
+pub stays_deferring : (old new : StoreView) → Stays old new → Stays (deferring old) (deferring new)
+stays_deferring old new s = record {
+  disk = s.disk;
+  mode = record { read_only = s.mode.read_only; cleans = s.mode.cleans; flushes = s.mode.flushes; defers = refl; fails = s.mode.fails };
+  syncs = s.syncs;
+  none = λ prompt none. absurd (cc prompt);
+}
+
+-- what stays through a session over a cache whose medium may fail, and through its end, stays of the store below
+stays-through : (may may' : Bool) (old below new : StoreView) (mine : List Pending) → Stays (failing may (cached old [])) (failing may' (cached below mine)) → Stays (deferring below) (deferring new)
+    → Stays (deferring (failing may old)) (deferring (failing may' new))
+stays-through may may' old below new mine x y = record {
+  disk = alike-join old.disk below.disk new.disk x.disk y.disk;
+  mode = record {
+    read_only = y.mode.read_only ∙ x.mode.read_only;
+    cleans = y.mode.cleans ∙ x.mode.cleans;
+    flushes = y.mode.flushes ∙ x.mode.flushes;
+    defers = refl;
+    fails = ap (λ (fails : Bool). may' || fails) y.mode.fails ∙ x.mode.fails;
+  };
+  syncs = omega (arith, x.syncs, y.syncs);
+  none = λ prompt none. absurd (cc prompt);
 }
 
 -- ---- a medium that fails in requests
@@ -90,12 +119,36 @@ leaves-failing may forget (Err fault) below new mine lost l = cut-failing may fo
 
 -- a store was served with an empty cache above it, and above that a medium that may fail
 pub forgets-failing : (may may' : Bool) (forget : Forget) (bytes : Streams) (old below new : StoreView) (mine : List Pending) (told : Forgotten)
-    → ServesAtMost forget.cut_after bytes (session phases.Greeting (failing may (cached old []))) told.ended (failing may' (cached below mine))
-    → KeepsServed old.disk below.disk → told.pending ≡ length mine → LeavesBy forget told.ended below mine told.lost new → KeepsServed below.disk new.disk → KeepsMode (deferring below) (deferring new)
-    → Forgets forget bytes (failing may old) told (failing may' new)
-forgets-failing may may' forget bytes old below new mine told serves kept count leaves kept' mode =
-    forgets forget bytes (failing may old) (failing may' below) (failing may' new) mine told serves kept count
-    (leaves-failing may' forget told.ended below new mine told.lost leaves) kept' (mode-failing may' (deferring below) (deferring new) mode)
+    → ServesAtMostAs while_clean forget.cut_after bytes (session phases.Greeting (failing may (cached old []))) told.ended (failing may' (cached below mine))
+    → (IsTrue below.disk.drive.clean → KeepsServed old.disk below.disk) → Stays (failing may (cached old [])) (failing may' (cached below mine)) → told.pending ≡ length mine
+    → (IsTrue new.disk.drive.clean → LeavesBy forget told.ended below mine told.lost new) → (IsTrue new.disk.drive.clean → KeepsServed below.disk new.disk)
+    → IfOk told.lost (LosesBy forget told.ended mine) → Stays (deferring below) (deferring new)
+    → ForgetsAs while_clean forget bytes (failing may old) told (failing may' new)
+forgets-failing may may' forget bytes old below new mine told serves kept stays count leaves kept' lost ends = record {
+  below = failing may' below;
+  mine = mine;
+  serves = serves;
+  count = count;
+  lost = lost;
+  leaves = λ clean. leaves-failing may' forget told.ended below new mine told.lost (leaves clean);
+  kept = λ clean. keeps_again old.disk below.disk new.disk (kept (ends.disk.shape.trusted clean)) (kept' clean);
+  stays = stays-through may may' old below new mine stays ends;
+  ends = record { disk = ends.disk; mode = mode-failing may' (deferring below) (deferring new) ends.mode; syncs = ends.syncs; none = λ prompt none. absurd (cc prompt) };
+}
+
+-- where the drive is clean at the end, such a session is one of an honest store
+pub forgets-clean : (forget : Forget) (bytes : Streams) (old new : StoreView) (told : Forgotten) → ForgetsAs while_clean forget bytes old told new → IsTrue new.disk.drive.clean → Forgets forget bytes old told new
+forgets-clean forget bytes old new told f clean = record {
+  below = f.below;
+  mine = f.mine;
+  serves = at_most-while forget.cut_after bytes (session phases.Greeting (cached old [])) told.ended (cached f.below f.mine) f.serves (f.ends.disk.shape.trusted clean);
+  count = f.count;
+  lost = f.lost;
+  leaves = f.leaves clean;
+  kept = f.kept clean;
+  stays = f.stays;
+  ends = f.ends;
+}
 
 -- ---- messages
 
@@ -183,5 +236,5 @@ array-left last none = rw none refl
 pub settled-left : SettledIsLeft
 settled-left forget read_only job bytes syncs old told new session place block settled =
     let f = session.forgets in
-    ap (λ (array : List (List ℕ)). get_or array place []) (sym (array-left session.last session.pending))
+    ap (λ (array : List (List ℕ)). get_or array place []) (sym (array-left session.last session.leaves.pending))
     ∙ left-settled forget told.ended f.below session.last f.mine told.lost place block f.leaves settled

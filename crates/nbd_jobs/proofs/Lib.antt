@@ -1,4 +1,4 @@
-mod SessionLaws
 mod ForgetLaws
+mod SessionLaws
 mod FailLaws
 pub mod LossLaws

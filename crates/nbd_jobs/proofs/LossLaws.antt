@@ -28,10 +28,10 @@ begun-safe true old blocks first is begun =
 
 pub loss-found : LossIsFound
 loss-found job read_only bytes syncs old ended new session flushes zones left =
-    let begun = begun-safe syncs.flushes old job.blocks session.first flushes session.disk in
+    let begun = begun-safe syncs.flushes old job.blocks session.first flushes session.begins in
     let safe = session-safe bytes _ ended session.last session.serves begun.0 begun.1 in
-    let there = rw session.drive at left in
+    let there = rw session.leaves.drive at left in
     record {
-      can = rw session.drive (safe zones there);
-      found = λ again mounts. rw (session.since, flushes) (left-found session.last.disk again zones there (rw session.drive at mounts));
+      can = rw session.leaves.drive (safe zones there);
+      found = λ again mounts. rw (session.leaves.since, flushes) (left-found session.last.disk again zones there (rw session.leaves.drive at mounts));
     }

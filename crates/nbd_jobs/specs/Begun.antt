@@ -1,5 +1,5 @@
 -- The disk with which a session begins, and why none does.
-use Rattle.std.specs.Prelude.{◌≡◌, ℕ, Bool, true, false, Option, Ok, Err}
+use Rattle.std.specs.Prelude.{◌≡◌, ℕ, Bool, true, false, Option, Ok, Err, ⊤}
 use Rattle.drive_port.specs.Drive.{DriveState}
 use Rattle.job_drives.specs.Mounted.{IsNotServed, IsServed}
 use Rattle.zone_translator.specs.Answers.{Answers}
@@ -27,6 +27,12 @@ pub record IsUnflushed (old : DriveState) (blocks : Option ℕ) (fault : DiskFau
   pub last : DiskView
   pub fails : Answers mounted flush (Err fault) last
   pub back_is : back ≡ last.drive
+
+-- a fault by which no session begins on a drive: of its mount, or of its Flush
+abbrev pub IsOfDrive : NbdFault → Type 0
+IsOfDrive (Mount fault) = ⊤
+IsOfDrive (Unflushed fault) = ⊤
+IsOfDrive fault = ⊥
 
 -- why no session begins on a drive, and how it is given back
 abbrev pub IsNotBegun : Bool → DriveState → Option ℕ → NbdFault → DriveState → Type 0

@@ -1,12 +1,14 @@
 -- What a loss of power leaves of a drive that is served and flushed, and what is left of a disk that forgets.
-use Rattle.std.specs.Prelude.{◌≡◌, ℕ, Bool, true, false, List, [], Contains, IfOk, Result, slice_index_or}
+use Rattle.std.specs.Prelude.{◌≡◌, ℕ, Bool, true, false, List, [], Contains, IfOk, IsTrue, Option, Result, slice_index_or}
 use Rattle.std.proofs.Common.{inl, inr}
 use Rattle.zone_states.specs.Zone.{Zone}
 use Rattle.drive_port.specs.Drive.{DriveState}
 use Rattle.drive_port.specs.Run.{restarted}
+use Rattle.drive_port.specs.Stop.{Stopping}
 use Rattle.remount.specs.Mount.{IsToMount}
 use Rattle.zone_translator.specs.Mount.{MountsDisk}
 use Rattle.zone_translator.specs.View.{DiskView, disk_array, given_size}
+use Rattle.nbd_session.specs.Manners.{while_clean}
 use Rattle.nbd_session.specs.Requests.{asked_of_store, data_length}
 use Rattle.nbd_session.specs.Session.{AnswersIn, AnswersMessage, ServesRequest, Session, session}
 use Rattle.nbd_session.specs.Store.{StoreView}
@@ -19,7 +21,8 @@ use Rattle.volatile_cache.specs.Laws.{IsSettled, LeavesOut}
 use Rattle.volatile_cache.specs.Outcomes.{cached}
 use Rattle.nbd_jobs.specs.Failing.{fails_in_requests}
 use Rattle.nbd_jobs.specs.Forgetting.{Forgets}
-use Rattle.nbd_jobs.specs.Serving.{ServesForgetting, ServesSession, SyncsDone, served_at}
+use Rattle.nbd_jobs.specs.Serving.{ServesForgetting, ServesSession, ServesStopping, ServesStoppingAs, SyncsDone, served_at}
+use Rattle.nbd_jobs.specs.declared.fault.NbdFault.{NbdFault}
 use Rattle.nbd_jobs.specs.declared.forgetting.Forgotten.{Forgotten}
 use Rattle.nbd_jobs.specs.declared.job.Forget.{Forget}
 use Rattle.nbd_jobs.specs.declared.job.NbdJob.{NbdJob}
@@ -81,3 +84,11 @@ UnaskedIsForgotten =
     (forget : Forget) (read_only : Bool) (job : NbdJob) (bytes : Streams) (syncs : SyncsDone) (old : DriveState) (told : Forgotten) (new : DriveState)
     (served : ServesForgetting forget read_only job bytes syncs old told new) → fails_in_requests job.fail ≡ false
     → Forgets forget bytes (served_at read_only job.idle syncs served.first) told served.last
+
+-- ---- over any device
+
+-- Over a device whose Reads may lie, a session after which the drive is clean is one over an honest device.
+abbrev pub JobWhileClean : Type 0
+JobWhileClean =
+    (read_only : Bool) (job : NbdJob) (bytes : Streams) (syncs : SyncsDone) (device : Stopping) (ended : Result (Unit {0}) NbdFault) (told : Option Forgotten) (new : DriveState)
+    → ServesStoppingAs while_clean read_only job bytes syncs device ended told new → IsTrue new.clean → ServesStopping read_only job bytes syncs device ended told new

@@ -1,22 +1,25 @@
 -- A drive in a file that is served: what its session does, and what it leaves in the file.
-use Rattle.std.specs.Prelude.{◌≡◌, ◌&&◌, not, Bool, true, false, ℕ, List, [], Option, None, Some, Result, Ok, Err, IfSome, IsSomeAnd, ⊤}
+use Rattle.std.specs.Prelude.{◌≡◌, ◌≤◌, ◌&&◌, not, Bool, true, false, ℕ, List, [], Option, None, Some, Result, Ok, Err, IfSome, IsSomeAnd, ⊤}
 use Rattle.std.specs.Io.KnownBytes.{Keeps}
+use Rattle.zone_choice.specs.Sane.{KeepsShape}
+use Rattle.zone_states.specs.declared.geometry.Geometry.{Geometry}
 use Rattle.drive_port.specs.Drive.{DriveState}
 use Rattle.drive_port.specs.Stop.{Stopping, drive_of}
 use Rattle.job_drives.specs.Kept.{IsRestarted}
 use Rattle.job_drives.specs.Left.{IsUnread}
 use Rattle.job_drives.specs.declared.kept_drive.Begun.{Begun}
-use Rattle.zone_translator.specs.View.{DiskView, KeepsDisk}
+use Rattle.zone_translator.specs.View.{DiskView, KeepsDisk, StaysAlike}
 use Rattle.job_drives.specs.DiskSize.{size_of}
 use Rattle.job_drives.specs.Mounted.{IsServed}
 use Rattle.job_drives.specs.Stop.{stopping}
 use Rattle.job_drives.specs.declared.disk_size.DiskSize.{DiskSize}
 use Rattle.nbd_session.specs.Failing.{failing}
 use Rattle.nbd_session.specs.Served.{since_of}
+use Rattle.nbd_session.specs.Manners.{Manner, always}
 use Rattle.nbd_session.specs.Session.{session}
 use Rattle.nbd_session.specs.Store.{StoreView}
 use Rattle.nbd_session.specs.Streams.{Streams}
-use Rattle.nbd_session.specs.Turns.{Serves}
+use Rattle.nbd_session.specs.Turns.{ServesAs}
 use Rattle.nbd_session.specs.declared.fault.SessionFault.{SessionFault}
 use Rattle.nbd_session.specs.declared.fault.SessionFault.TheVariants.{Unsent}
 use Rattle.nbd_session.specs.declared.phase.Phase.TheVariants.{Greeting}
@@ -25,9 +28,9 @@ use Rattle.nbd_jobs.specs.declared.fault.NbdFault.TheVariants.{File, Session}
 use Rattle.nbd_jobs.specs.declared.forgetting.Forgotten.{Forgotten}
 use Rattle.nbd_jobs.specs.declared.job.Forget.{Forget}
 use Rattle.nbd_jobs.specs.declared.job.NbdJob.{NbdJob}
-use Rattle.nbd_jobs.specs.Begun.{IsBegun, IsNotBegun}
+use Rattle.nbd_jobs.specs.Begun.{IsBegun, IsNotBegun, IsOfDrive}
 use Rattle.nbd_jobs.specs.Failing.{fails_in_requests}
-use Rattle.nbd_jobs.specs.Forgetting.{Forgets, ends_well}
+use Rattle.nbd_jobs.specs.Forgetting.{ForgetsAs, ends_well}
 
 -- ---- the session
 
@@ -53,41 +56,45 @@ served_at read_only idle syncs disk = record {
   fails = false;
 }
 
--- A session is served by the disk of a drive, or by that disk read only, and each sync is one of its medium. What it
--- leaves can be mounted again, with the array that was answered, and nothing is pending. A loss of power leaves one
--- of the arrays of `since`. If the job says so, the medium may fail in a request, and then nothing is done.
-pub record ServesSession (read_only : Bool) (job : NbdJob) (bytes : Streams) (syncs : SyncsDone) (old : DriveState)
+-- What a session leaves of the disk with which it began. That can be mounted again, with the array that was answered. Nothing is pending, and each sync
+-- was one of the medium. A loss of power leaves one of the arrays of `since`. Whatever the Reads returned, shape and size stay.
+pub record SessionLeaves (manner : Manner) (syncs : SyncsDone) (first : DiskView) (last : StoreView) (new : DriveState) : Type 0 where
+  pub keeps : manner.Holds last.disk.drive.clean (KeepsDisk first last.disk)
+  pub alike : StaysAlike first last.disk
+  pub pending : last.pending ≡ []
+  pub since : last.since ≡ since_of syncs.flushes last.disk
+  pub synced : syncs.after ≡ last.syncs
+  pub counted : syncs.before ≤ syncs.after
+  pub drive : new ≡ last.disk.drive
+
+-- A session is served by the disk of a drive, or by that disk read only, and each sync is one of its medium. If the job says so, the medium may fail in
+-- a request, and then nothing is done.
+pub record ServesSessionAs (manner : Manner) (read_only : Bool) (job : NbdJob) (bytes : Streams) (syncs : SyncsDone) (old : DriveState)
     (ended : Result (Unit {0}) SessionFault) (new : DriveState) : Type 0 where
   pub first : DiskView
-  pub disk : IsBegun syncs.flushes old job.blocks first
+  pub begins : manner.Holds first.drive.clean (IsBegun syncs.flushes old job.blocks first)
+  pub shape : KeepsShape old first.drive
   pub last : StoreView
-  pub serves : Serves bytes (session Greeting (failing (fails_in_requests job.fail) (served_at read_only job.idle syncs first))) ended last
-  pub pending : last.pending ≡ []
-  pub synced : syncs.after ≡ last.syncs
-  pub since : last.since ≡ since_of syncs.flushes last.disk
-  pub keeps : KeepsDisk first last.disk
-  pub drive : new ≡ last.disk.drive
+  pub serves : ServesAs manner bytes (session Greeting (failing (fails_in_requests job.fail) (served_at read_only job.idle syncs first))) ended last
+  pub leaves : SessionLeaves manner syncs first last new
 
 -- The same by a disk that forgets. Its client is answered by that disk with the blocks that are pending above it. At the
 -- end these are applied, or the power is cut, and this is told. What is left can be mounted again, with the array that
 -- is left, and nothing is pending. A request in which the medium failed has no pending blocks.
-pub record ServesForgetting (forget : Forget) (read_only : Bool) (job : NbdJob) (bytes : Streams) (syncs : SyncsDone) (old : DriveState)
+pub record ServesForgettingAs (manner : Manner) (forget : Forget) (read_only : Bool) (job : NbdJob) (bytes : Streams) (syncs : SyncsDone) (old : DriveState)
     (told : Forgotten) (new : DriveState) : Type 0 where
   pub first : DiskView
-  pub disk : IsBegun syncs.flushes old job.blocks first
+  pub begins : manner.Holds first.drive.clean (IsBegun syncs.flushes old job.blocks first)
+  pub shape : KeepsShape old first.drive
   pub last : StoreView
-  pub forgets : Forgets forget bytes (failing (fails_in_requests job.fail) (served_at read_only job.idle syncs first)) told last
-  pub pending : last.pending ≡ []
-  pub synced : syncs.after ≡ last.syncs
-  pub since : last.since ≡ since_of syncs.flushes last.disk
-  pub keeps : KeepsDisk first last.disk
-  pub drive : new ≡ last.disk.drive
+  pub forgets : ForgetsAs manner forget bytes (failing (fails_in_requests job.fail) (served_at read_only job.idle syncs first)) told last
+  pub leaves : SessionLeaves manner syncs first last new
 
 -- a session by the disk or, if that is asked for, by one that forgets; and what is told of what was pending
-abbrev pub ServesBy : Option Forget → Bool → NbdJob → Streams → SyncsDone → DriveState → Result (Unit {0}) SessionFault → Option Forgotten → DriveState → Type 0
-ServesBy None read_only job bytes syncs old ended told new = ServesSession read_only job bytes syncs old ended new × (told ≡ None)
-ServesBy (Some forget) read_only job bytes syncs old ended told new =
-    IsSomeAnd told (λ told. ServesForgetting forget read_only job bytes syncs old told new × (ended ≡ ends_well told.ended))
+abbrev pub ServesByAs : Manner → Option Forget → Bool → NbdJob → Streams → SyncsDone → DriveState → Result (Unit {0}) SessionFault → Option Forgotten → DriveState → Type 0
+ServesByAs manner None read_only job bytes syncs old ended told new = ServesSessionAs manner read_only job bytes syncs old ended new × (told ≡ None)
+ServesByAs manner (Some forget) read_only job bytes syncs old ended told new =
+    IsSomeAnd told (λ told. ServesForgettingAs manner forget read_only job bytes syncs old told new × (ended ≡ ends_well told.ended))
 
 -- the end of a session, as it is told
 abbrev pub session_end : Result (Unit {0}) SessionFault → Result (Unit {0}) NbdFault
@@ -100,21 +107,41 @@ pub record ServesNothing (bytes : Streams) (syncs : SyncsDone) : Type 0 where
   pub unwritten : Keeps bytes.written bytes.contents
   pub unsynced : syncs.after ≡ syncs.before
 
+-- Why no session begins on a drive: a fault of its own. It is given back with the same shape, and nothing is told of what was pending.
+pub record ServesNone (manner : Manner) (bytes : Streams) (syncs : SyncsDone) (old : DriveState) (blocks : Option ℕ) (fault : NbdFault)
+    (told : Option Forgotten) (new : DriveState) : Type 0 where
+  pub why : manner.Holds new.clean (IsNotBegun syncs.flushes old blocks fault new)
+  pub kind : IsOfDrive fault
+  pub shape : KeepsShape old new
+  pub nothing : ServesNothing bytes syncs
+  pub untold : told ≡ None
+
 -- what is served of a drive, what is told of what was pending, and what is left of the drive
-abbrev pub ServesDrive : Bool → NbdJob → Streams → SyncsDone → DriveState → Result (Unit {0}) NbdFault → Option Forgotten → DriveState → Type 0
-ServesDrive read_only job bytes syncs old (Ok done) told new = ServesBy job.forget read_only job bytes syncs old (Ok tt) told new
-ServesDrive read_only job bytes syncs old (Err (Session fault)) told new = ServesBy job.forget read_only job bytes syncs old (Err fault) told new
-ServesDrive read_only job bytes syncs old (Err fault) told new =
-    IsNotBegun syncs.flushes old job.blocks fault new × ServesNothing bytes syncs × (told ≡ None)
+abbrev pub ServesDriveAs : Manner → Bool → NbdJob → Streams → SyncsDone → DriveState → Result (Unit {0}) NbdFault → Option Forgotten → DriveState → Type 0
+ServesDriveAs manner read_only job bytes syncs old (Ok done) told new = ServesByAs manner job.forget read_only job bytes syncs old (Ok tt) told new
+ServesDriveAs manner read_only job bytes syncs old (Err (Session fault)) told new = ServesByAs manner job.forget read_only job bytes syncs old (Err fault) told new
+ServesDriveAs manner read_only job bytes syncs old (Err fault) told new = ServesNone manner bytes syncs old job.blocks fault told new
 
 -- the same over a device that stops, and leaves the zones of this drive, with what is durable of them
-pub record ServesStopping (read_only : Bool) (job : NbdJob) (bytes : Streams) (syncs : SyncsDone) (device : Stopping)
+pub record ServesStoppingAs (manner : Manner) (read_only : Bool) (job : NbdJob) (bytes : Streams) (syncs : SyncsDone) (device : Stopping)
     (ended : Result (Unit {0}) NbdFault) (told : Option Forgotten) (new : DriveState) : Type 0 where
   pub seen : DriveState
-  pub serves : ServesDrive read_only job bytes syncs (drive_of device) ended told seen
+  pub serves : ServesDriveAs manner read_only job bytes syncs (drive_of device) ended told seen
   pub geometry : new.geometry ≡ seen.geometry
   pub zones : new.zones ≡ seen.zones
   pub durable : new.durable ≡ seen.durable
+  pub clean : new.clean ≡ seen.clean
+
+-- ---- in any case
+
+abbrev pub ServesSession : Bool → NbdJob → Streams → SyncsDone → DriveState → Result (Unit {0}) SessionFault → DriveState → Type 0
+ServesSession read_only job bytes syncs old ended new = ServesSessionAs always read_only job bytes syncs old ended new
+
+abbrev pub ServesForgetting : Forget → Bool → NbdJob → Streams → SyncsDone → DriveState → Forgotten → DriveState → Type 0
+ServesForgetting forget read_only job bytes syncs old told new = ServesForgettingAs always forget read_only job bytes syncs old told new
+
+abbrev pub ServesStopping : Bool → NbdJob → Streams → SyncsDone → Stopping → Result (Unit {0}) NbdFault → Option Forgotten → DriveState → Type 0
+ServesStopping read_only job bytes syncs device ended told new = ServesStoppingAs always read_only job bytes syncs device ended told new
 
 -- ---- the file
 
@@ -127,6 +154,12 @@ IsUnserved (Err fault) = ⊤
 -- What is told of a session besides: the size of the disk that was served of this drive, if one was; and what was counted only if the job asks for it.
 pub record TellsSession (job : NbdJob) (old : DriveState) (ended : Result (Unit {0}) NbdFault) (counted : Bool) (told : Option DiskSize) : Type 0 where
   pub size : IfSome told (λ size. (disk : DiskView) × IsServed old job.blocks disk × (size ≡ size_of disk))
+  pub none : told ≡ None → IsUnserved ended
+  pub unasked : job.statistics ≡ false → counted ≡ false
+
+-- The same whatever the Reads returned: the shape of the drive, and what was counted only if the job asks for it.
+pub record TellsAnyway (job : NbdJob) (geometry : Geometry) (ended : Result (Unit {0}) NbdFault) (counted : Bool) (told : Option DiskSize) : Type 0 where
+  pub shape : IfSome told (λ size. size.geometry ≡ geometry)
   pub none : told ≡ None → IsUnserved ended
   pub unasked : job.statistics ≡ false → counted ≡ false
 

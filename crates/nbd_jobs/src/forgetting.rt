@@ -1,18 +1,21 @@
 // A session over a disk that forgets, or whose medium fails.
 
-ghost use Rattle.std.specs.Prelude.{◌≡◌};
-ghost use Rattle.nbd_session.specs.Store.{KeepsMode};
+ghost use Rattle.std.specs.Prelude.{◌≡◌, IfOk, IsTrue};
+ghost use Rattle.nbd_session.specs.Manners.{while_clean};
+ghost use Rattle.nbd_session.specs.Store.{Stays};
 ghost use Rattle.nbd_session.specs.Streams.{streams};
+ghost use Rattle.volatile_cache.specs.Fates.{chance_of, coin_of, lost_by};
 ghost use Rattle.volatile_cache.specs.Outcomes.{deferring};
 ghost use Rattle.volatile_cache.specs.Queue.{all_pending};
 ghost use Rattle.zone_translator.specs.Keeping.{KeepsServed};
 ghost use Rattle.nbd_jobs.specs.Failing.{DoneFailing};
-ghost use Rattle.nbd_jobs.specs.Forgetting.{Applies, Forgets, IsCut, LeavesBy, ServesStore, ends_well};
+ghost use Rattle.nbd_jobs.specs.Forgetting.{Applies, ForgetsAs, IsCut, LeavesBy, LosesBy, ServesStore};
+ghost use Rattle.nbd_jobs.specs.Forgetting.{ends_well};
 
 use crate::failing::{failing_store, failures_of};
 use crate::job::{Fail, Forget};
 use nbd_session::{
-    Client, HonestStore, SessionEnd, SessionFault, Store, StoreFault, serve, serve_at_most,
+    Client, SessionEnd, SessionFault, Store, StoreFault, serve_any, serve_any_at_most,
 };
 use std::alloc::Global;
 use std::io::Write;
@@ -66,44 +69,54 @@ fn ends_well(ended: Result<SessionEnd, SessionFault>) -> Result<(), SessionFault
 }
 
 /// Applies all that is pending, and syncs it. So many blocks are lost then: none.
-fn apply_pending<S: HonestStore + Drop>(cache: &mut VolatileCache<S>) -> Result<u64, StoreFault>
-    ensures applies { Applies (S.view cache.old.store) (all_pending cache.old.kept) result (S.view cache.new.store) }
-    ensures kept { KeepsServed (S.view cache.old.store).disk (S.view cache.new.store).disk }
-    ensures mode { KeepsMode (deferring (S.view cache.old.store)) (deferring (S.view cache.new.store)) }
+fn apply_pending<S: Store + Drop>(cache: &mut VolatileCache<S>) -> Result<u64, StoreFault>
+    ensures applies { IsTrue (S.view cache.new.store).disk.drive.clean
+        → Applies (S.view cache.old.store) (all_pending cache.old.kept) result (S.view cache.new.store) }
+    ensures kept { IsTrue (S.view cache.new.store).disk.drive.clean
+        → KeepsServed (S.view cache.old.store).disk (S.view cache.new.store).disk }
+    // Whatever the Reads returned.
+    ensures lost { IfOk result (λ lost. lost ≡ 0) }
+    ensures stays { Stays (deferring (S.view cache.old.store)) (deferring (S.view cache.new.store)) }
 {
-    let result = cache.sync();
-    cache.vouch();
-    match result {
+    match cache.sync() {
         Ok(()) => Ok(0),
         Err(fault) => Err(fault),
     }
 }
 
 /// Cuts the power: how many of the pending blocks are lost.
-fn cut_power<S: HonestStore + Drop>(
+fn cut_power<S: Store + Drop>(
     cache: &mut VolatileCache<S>,
     forget: Forget,
 ) -> Result<u64, StoreFault>
-    ensures cut { IsCut forget (S.view cache.old.store) (all_pending cache.old.kept) result (S.view cache.new.store) }
-    ensures kept { KeepsServed (S.view cache.old.store).disk (S.view cache.new.store).disk }
-    ensures mode { KeepsMode (deferring (S.view cache.old.store)) (deferring (S.view cache.new.store)) }
+    ensures cut { IsTrue (S.view cache.new.store).disk.drive.clean
+        → IsCut forget (S.view cache.old.store) (all_pending cache.old.kept) result (S.view cache.new.store) }
+    ensures kept { IsTrue (S.view cache.new.store).disk.drive.clean
+        → KeepsServed (S.view cache.old.store).disk (S.view cache.new.store).disk }
+    // Whatever the Reads returned.
+    ensures lost { IfOk result (λ lost.
+        lost ≡ lost_by (coin_of forget.odds) (chance_of forget.seed) (all_pending cache.old.kept)) }
+    ensures stays { Stays (deferring (S.view cache.old.store)) (deferring (S.view cache.new.store)) }
 {
-    match cache.cut(forget.seed, forget.odds) {
+    match cache.cut_any(forget.seed, forget.odds) {
         Ok(lost) => Ok(lost.lost),
         Err(fault) => Err(fault),
     }
 }
 
 /// Applies what is pending if the client has said that its session ends, and else cuts the power.
-fn end_pending<S: HonestStore + Drop>(
+fn end_pending<S: Store + Drop>(
     cache: &mut VolatileCache<S>,
     forget: Forget,
     ended: Result<SessionEnd, SessionFault>,
 ) -> Result<u64, StoreFault>
-    ensures leaves { LeavesBy forget ended (S.view cache.old.store) (all_pending cache.old.kept) result
-        (S.view cache.new.store) }
-    ensures kept { KeepsServed (S.view cache.old.store).disk (S.view cache.new.store).disk }
-    ensures mode { KeepsMode (deferring (S.view cache.old.store)) (deferring (S.view cache.new.store)) }
+    ensures leaves { IsTrue (S.view cache.new.store).disk.drive.clean
+        → LeavesBy forget ended (S.view cache.old.store) (all_pending cache.old.kept) result (S.view cache.new.store) }
+    ensures kept { IsTrue (S.view cache.new.store).disk.drive.clean
+        → KeepsServed (S.view cache.old.store).disk (S.view cache.new.store).disk }
+    // Whatever the Reads returned.
+    ensures lost { IfOk result (LosesBy forget ended (all_pending cache.old.kept)) }
+    ensures stays { Stays (deferring (S.view cache.old.store)) (deferring (S.view cache.new.store)) }
 {
     match ended {
         Ok(SessionEnd::Disconnected) => apply_pending(cache),
@@ -113,7 +126,7 @@ fn end_pending<S: HonestStore + Drop>(
 
 /// Serves a store to a client with a cache above it, and applies what is pending at the end, or cuts the power. The
 /// medium fails above the cache, which sees no request that failed.
-fn serve_forgetting<S: HonestStore + Drop, R: Client, W: Write>(
+fn serve_forgetting<S: Store + Drop, R: Client, W: Write>(
     alloc: Global,
     fail: Option<Fail>,
     forget: Forget,
@@ -121,13 +134,13 @@ fn serve_forgetting<S: HonestStore + Drop, R: Client, W: Write>(
     reader: &mut R,
     writer: &mut W,
 ) -> (S, Forgotten, Option<u64>)
-    ensures { DoneFailing fail (λ old new. Forgets forget
+    ensures { DoneFailing fail (λ old new. ForgetsAs while_clean forget
         (streams (R.remaining reader.old) (R.remaining reader.new) (W.contents writer.old) (W.contents writer.new))
         old result.1 new) (S.view store) (S.view result.0) }
 {
     let cache = VolatileCache::new(alloc, store, CACHE_BYTES);
     let mut served = failing_store(cache, fail);
-    let ended = serve_at_most(alloc, reader, writer, &mut served, forget.cut_after);
+    let ended = serve_any_at_most(alloc, reader, writer, &mut served, forget.cut_after);
     let failed = failures_of(&served, fail);
     let mut cache = served.into_store();
     let pending = cache.pending() as u64;
@@ -142,7 +155,7 @@ fn serve_forgetting<S: HonestStore + Drop, R: Client, W: Write>(
 
 /// Serves a store to a client: with a cache above it that forgets, if that is asked for. Its medium fails by chance, if
 /// that is asked for.
-pub(crate) fn serve_store<S: HonestStore + Drop, R: Client, W: Write>(
+pub(crate) fn serve_store<S: Store + Drop, R: Client, W: Write>(
     alloc: Global,
     fail: Option<Fail>,
     forget: Option<Forget>,
@@ -156,7 +169,7 @@ pub(crate) fn serve_store<S: HonestStore + Drop, R: Client, W: Write>(
 {
     let Some(forget) = forget else {
         let mut served = failing_store(store, fail);
-        let result = serve(alloc, reader, writer, &mut served);
+        let result = serve_any(alloc, reader, writer, &mut served);
         return AfterServing {
             failed: failures_of(&served, fail),
             store: served.into_store(),

@@ -36,6 +36,21 @@
 //!   a session is the drive that is left, also after a fault; replies that could not be sent are told as such
 //!   ([`sent_end`]).
 //!
+//! # Over any device
+//!
+//! [`serve_any_stopping`] serves the drive behind any device. What is said above holds there while the drive is clean:
+//! as long as each of its Reads returned what it holds. So do all replies before the first Read that lied. If the drive
+//! is clean at the end, the session is one over an honest device (`laws::clean_is_right`). Whatever the Reads returned:
+//!
+//! * Each message has a reply in its form, or the session ends by a fault (`while_clean` of `nbd_session`). Where no
+//!   session begins, the fault is one of the mount, or of the Flush before a session, and no message is read
+//!   (`ServesNone`).
+//! * The drive has the same shape, and the disk the size with which it began. Nothing is pending at the end. Each sync
+//!   that was completed is one of the medium, and none is forgotten (`SessionLeaves`).
+//! * Of a disk that forgets it is told how many blocks were pending. Where its end was done, it is also told how many
+//!   of them are lost, as seed and odds choose (`LosesBy`).
+//! * The shape of the drive is told, and what was counted only if the job asks for it (`TellsAnyway`).
+//!
 //! # What is not proved
 //!
 //! * [`do_nbd_job`]: no contract says what a file holds, or who has locked it. A served file is shared by its store
@@ -60,6 +75,7 @@ pub mod laws;
 mod mounted;
 mod saving;
 mod serving;
+mod told;
 
 pub use done::{SessionDone, SessionTold};
 pub use explanation::{explain, failed_note, forgotten_note};
@@ -69,5 +85,6 @@ pub use forgetting::{CACHE_BYTES, Forgotten};
 pub use job::{Fail, Forget, NbdJob};
 pub use saving::sent_end;
 pub use serving::{
-    AfterSession, Ended, Kept, ServedFile, serve_drive, serve_read_only, serve_stopping,
+    AfterSession, Ended, Kept, ServedFile, serve_any_stopping, serve_drive, serve_read_only,
+    serve_stopping,
 };

@@ -1,31 +1,31 @@
 // A session over the drive of a store.
 
-ghost use Rattle.std.specs.Prelude.{◌≡◌, IfNone, IfSome, Ok, false, is_some};
+ghost use Rattle.std.specs.Prelude.{◌≡◌, IfNone, IfSome, IsTrue, Ok, false, is_some};
+ghost use Rattle.nbd_session.specs.Manners.{while_clean};
 ghost use Rattle.nbd_session.specs.Streams.{streams};
 ghost use Rattle.drive_port.specs.Stop.{drive_of};
 ghost use Rattle.job_drives.specs.Kept.{HoldsFile};
 ghost use Rattle.job_drives.specs.Left.{LeavesFile};
 ghost use Rattle.job_drives.specs.Stop.{stopping};
-ghost use Rattle.nbd_jobs.specs.Serving.{HoldsNoDrive, ReadsFile, ServesDrive, ServesKept, ServesStopping};
-ghost use Rattle.nbd_jobs.specs.Serving.{TellsSession, session_end};
+ghost use Rattle.nbd_jobs.specs.Serving.{HoldsNoDrive, ReadsFile, ServesDriveAs, ServesKept, ServesStopping};
+ghost use Rattle.nbd_jobs.specs.Serving.{ServesStoppingAs, TellsAnyway, TellsSession, session_end};
 
 use crate::done::{SessionDone, SessionTold};
 use crate::fault::NbdFault;
 use crate::forgetting::{Forgotten, serve_store};
 use crate::job::NbdJob;
 use crate::mounted::mount_flushed;
+use crate::told::{shown_statistics, told_size};
 use drive_counter::Counter;
 use drive_journal::ChangeStore;
 use drive_port::{Device, Honest};
 use job_drives::{
-    DiskSize, DriveFile, KeepFault, Left, Saved, keep_restarted, leave, restarted_drive,
-    statistics_of, stopping,
+    DriveFile, KeepFault, Left, Saved, keep_restarted, leave, restarted_drive, stopping,
 };
 use nbd_session::{Client, Medium, ServeOptions, ServedDisk, SessionFault, WriteThrough};
 use std::alloc::Global;
 use std::io::{Read, Write};
 use zone_drive::Drive;
-use zone_translator::Disk;
 
 /// The file of a served drive: what it holds, the store of its changes, and what makes them durable.
 #[derive(Drop)]
@@ -53,20 +53,6 @@ pub struct AfterSession<S: ChangeStore<Drive> + Drop, M: Medium + Drop> {
     pub told: SessionTold,
 }
 
-/// What was written and moved, if the job asks for it and there is memory for the text.
-fn shown_statistics<D: Device + Honest + Drop>(
-    alloc: Global,
-    job: &NbdJob,
-    disk: &Disk<Counter<D>>,
-) -> Option<String>
-    ensures { job.now.statistics ≡ false → is_some result ≡ false }
-{
-    if !job.statistics {
-        return None;
-    }
-    statistics_of(alloc, disk).ok()
-}
-
 /// How a session ended, as it is told.
 fn session_end(ended: Result<(), SessionFault>) -> Result<(), NbdFault>
     ensures { result ≡ session_end ended }
@@ -85,15 +71,15 @@ pub struct Kept<D: Device + Drop, M: Medium + Drop> {
     pub read_only: bool,
 }
 
-/// Mounts a drive, and serves it to a client. Its commands are counted.
-fn serve_counted<D: Device + Honest + Drop, M: Medium + Drop, R: Client, W: Write>(
+/// Mounts a drive behind any device, and serves it to a client. Its commands are counted.
+fn serve_counted<D: Device + Drop, M: Medium + Drop, R: Client, W: Write>(
     alloc: Global,
     job: &NbdJob,
     kept: Kept<D, M>,
     reader: &mut R,
     writer: &mut W,
 ) -> Ended<D, M>
-    ensures serves { ServesDrive kept.read_only job.now
+    ensures serves { ServesDriveAs while_clean kept.read_only job.now
         (streams (R.remaining reader.old) (R.remaining reader.new) (W.contents writer.old) (W.contents writer.new))
         (record {
           before = M.syncs kept.medium;
@@ -101,7 +87,10 @@ fn serve_counted<D: Device + Honest + Drop, M: Medium + Drop, R: Client, W: Writ
           flushes = M.flushes kept.medium;
         })
         (D.drive kept.device) result.told.result result.told.forgotten (D.drive result.device) }
-    ensures tells { TellsSession job.now (D.drive kept.device) result.told.result
+    ensures tells { IsTrue (D.drive result.device).clean → TellsSession job.now (D.drive kept.device) result.told.result
+        (is_some result.told.statistics) result.told.disk }
+    // Whatever the Reads returned.
+    ensures told { TellsAnyway job.now (D.drive kept.device).geometry result.told.result
         (is_some result.told.statistics) result.told.disk }
 {
     let flushes = kept.medium.flushes();
@@ -115,14 +104,14 @@ fn serve_counted<D: Device + Honest + Drop, M: Medium + Drop, R: Client, W: Writ
             };
         }
     };
-    let size = DiskSize::of(&disk);
+    let size = told_size(&disk);
     let options = ServeOptions {
         read_only: kept.read_only,
         cleans: job.idle,
     };
-    let store = ServedDisk::new(disk, kept.medium, options);
+    let store = ServedDisk::over(disk, kept.medium, options);
     let after = serve_store(alloc, job.fail, job.forget, store, reader, writer);
-    let (disk, medium) = after.store.into_parts();
+    let (disk, medium) = after.store.into_any_parts();
     let statistics = shown_statistics(alloc, job, &disk);
     Ended {
         device: disk.into_device().into_inner(),
@@ -134,6 +123,47 @@ fn serve_counted<D: Device + Honest + Drop, M: Medium + Drop, R: Client, W: Writ
             forgotten: after.forgotten,
             failed: after.failed,
         },
+    }
+}
+
+/// Mounts a drive behind any device, and serves it to a client, as [`serve_stopping`] does.
+///
+/// Whatever the device's Reads return, each message has a reply, or the session ends by a fault. As long as they
+/// returned what it holds, the replies are those of `serve_stopping`: so are all before the first Read that lied.
+pub fn serve_any_stopping<D: Device + Drop, M: Medium + Drop, R: Client, W: Write>(
+    alloc: Global,
+    job: &NbdJob,
+    kept: Kept<D, M>,
+    reader: &mut R,
+    writer: &mut W,
+) -> Ended<D, M>
+    // Each message is answered, and each sync is one of the medium: while the drive is clean by the disk of the drive.
+    ensures serves { ServesStoppingAs while_clean kept.read_only job.now
+        (streams (R.remaining reader.old) (R.remaining reader.new) (W.contents writer.old) (W.contents writer.new))
+        (record {
+          before = M.syncs kept.medium;
+          after = M.syncs result.medium;
+          flushes = M.flushes kept.medium;
+        })
+        (stopping job.now.stop (D.drive kept.device)) result.told.result result.told.forgotten (D.drive result.device) }
+    // While it is clean, the disk is told that was served.
+    ensures tells { IsTrue (D.drive result.device).clean
+        → TellsSession job.now (drive_of (stopping job.now.stop (D.drive kept.device))) result.told.result
+        (is_some result.told.statistics) result.told.disk }
+    // Whatever the Reads returned.
+    ensures told { TellsAnyway job.now (D.drive kept.device).geometry result.told.result
+        (is_some result.told.statistics) result.told.disk }
+{
+    let stopping = Kept {
+        device: stopping(kept.device, job.stop),
+        medium: kept.medium,
+        read_only: kept.read_only,
+    };
+    let ended = serve_counted(alloc, job, stopping, reader, writer);
+    Ended {
+        device: ended.device.into_inner(),
+        medium: ended.medium,
+        told: ended.told,
     }
 }
 
@@ -156,17 +186,9 @@ pub fn serve_stopping<D: Device + Honest + Drop, M: Medium + Drop, R: Client, W:
     ensures tells { TellsSession job.now (drive_of (stopping job.now.stop (D.drive kept.device))) result.told.result
         (is_some result.told.statistics) result.told.disk }
 {
-    let stopping = Kept {
-        device: stopping(kept.device, job.stop),
-        medium: kept.medium,
-        read_only: kept.read_only,
-    };
-    let ended = serve_counted(alloc, job, stopping, reader, writer);
-    Ended {
-        device: ended.device.into_inner(),
-        medium: ended.medium,
-        told: ended.told,
-    }
+    let ended = serve_any_stopping(alloc, job, kept, reader, writer);
+    ended.device.vouch();
+    ended
 }
 
 /// Serves the drive of a file to one client, which sends to `reader` and gets what `writer` takes. The changes of the

@@ -82,8 +82,9 @@ fn show_end(ended: Result<(), NbdFault>, out: &mut String) -> Result<(), RowsFau
     Ok(())
 }
 
-/// Serves the drive in a file. Shows what the server sent, what was counted if the job asks for it, what was forgotten if
-/// the disk forgets, how many requests failed if some were to, and how the session ended. The file has all changes then.
+/// Serves the drive in a file. Shows what the server sent, what was counted if the job asks for it, what was forgotten
+/// if the disk forgets, how many requests failed if some were to, and how the session ended. The file has all changes
+/// then.
 pub fn show_kept(
     alloc: Global,
     job: &NbdJob,

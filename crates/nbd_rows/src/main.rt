@@ -14,8 +14,8 @@
 //!   moved and cleaned.
 //! - `forgets N SEED ODDS` runs the session over the same file, with N logical blocks and a disk that forgets. With one
 //!   number more the power is cut after so many requests.
-//! - `fails SEED ODDS` does what `again` does, with a medium that fails in ODDS of 100 requests. With two numbers more, a
-//!   seed and odds, the disk forgets, too. `fails_reading SEED ODDS` does the same read only.
+//! - `fails SEED ODDS` does what `again` does, with a medium that fails in ODDS of 100 requests. With two numbers more,
+//!   a seed and odds, the disk forgets, too. `fails_reading SEED ODDS` does the same read only.
 //! - `fresh` makes a new file. `old N` makes one whose drive has a header of version 1, which says no size: block N
 //!   was written.
 //! - An empty line, and one that begins with `#`, says nothing.

@@ -39,15 +39,15 @@ forces-unsynced true wanted count before old (Ok done) result new same f is = ab
 forces-unsynced false wanted count before old (Ok done) result new same f is = ap (λ (s : StoreView). s.syncs) f.1 ∙ same
 
 -- only a READ shows bytes, and it is not made durable
-forces-shows : (forced : Bool) (wanted : Asked) (request : Request) (count : ℕ) (shown : List ℕ) (old : StoreView) (done result : Result (Unit {0}) StoreFault) (new : StoreView) → is_forced wanted request ≡ forced → ForcesAnyway forced wanted count old done result new
-    → MayShow wanted done shown → MayShow wanted result shown
-forces-shows forced wanted request count shown old (Err fault) result new is f shows = rw f.0 shows
-forces-shows false wanted request count shown old (Ok done) result new is f shows = rw f.0 shows
-forces-shows true (Read first n) request count shown old (Ok done) result new is f shows = absurd (cc is)
-forces-shows true (Write first) request count shown old (Ok done) result new is f shows = shows
-forces-shows true (Trim first n) request count shown old (Ok done) result new is f shows = shows
-forces-shows true (WriteZeroes first n hole) request count shown old (Ok done) result new is f shows = shows
-forces-shows true Flush request count shown old (Ok done) result new is f shows = shows
+forces-shows : (block : ℕ) (forced : Bool) (wanted : Asked) (request : Request) (count : ℕ) (shown : List ℕ) (old : StoreView) (done result : Result (Unit {0}) StoreFault) (new : StoreView) → is_forced wanted request ≡ forced → ForcesAnyway forced wanted count old done result new
+    → MayShow block wanted done shown → MayShow block wanted result shown
+forces-shows block forced wanted request count shown old (Err fault) result new is f shows = rw f.0 shows
+forces-shows block false wanted request count shown old (Ok done) result new is f shows = rw f.0 shows
+forces-shows block true (Read first n) request count shown old (Ok done) result new is f shows = absurd (cc is)
+forces-shows block true (Write first) request count shown old (Ok done) result new is f shows = shows
+forces-shows block true (Trim first n) request count shown old (Ok done) result new is f shows = shows
+forces-shows block true (WriteZeroes first n hole) request count shown old (Ok done) result new is f shows = shows
+forces-shows block true Flush request count shown old (Ok done) result new is f shows = shows
 
 -- ---- the reply
 
@@ -70,7 +70,7 @@ replied left left' old middle new request wanted forced count shown done result 
       result = result;
       shown = shown;
       reply_is = refl;
-      shows = forces-shows forced wanted request count shown middle done result new is f d.shows;
+      shows = forces-shows old.disk.drive.geometry.block forced wanted request count shown middle done result new is f d.shows;
       synced = λ must. forces-synced forced wanted count old.syncs middle done result new d.stays.syncs f (sym is ∙ must);
       unsynced = λ free. forces-unsynced forced wanted count old.syncs middle done result new d.stays.syncs f (sym is ∙ free);
       stays = stays_join old middle new d.stays.stays stays;

@@ -1,5 +1,6 @@
 -- Requests that have come together, and are done by one call of the store.
-use Rattle.std.specs.Prelude.{◌≡◌, ◌⊎◌, ℕ, zero, suc, ◌+◌, ◌-◌, ◌/◌, ◌<◌, ◌≤◌, Bool, true, false, List, [], ◌∷◌, ◌++◌, length, map, take, nat_eq, Option, Some, None, IfOk, Result, Ok, Err, alloc_error}
+use Rattle.std.specs.Prelude.{◌≡◌, ◌⊎◌, ℕ, zero, suc, ◌+◌, ◌-◌, ◌/◌, ◌<◌, ◌≤◌, Bool, true, false, List, [], ◌∷◌, ◌++◌}
+use Rattle.std.specs.Prelude.{length, map, take, nat_eq, Option, Some, None, IfOk, Result, Ok, Err, alloc_error}
 use Rattle.std.specs.List.{AllByRecursion, IsDistinct, flat_map}
 use Rattle.std.specs.Io.KnownBytes.{Appends, Consumes}
 use Rattle.batch_log.specs.declared.header.Entry.{Entry}
@@ -110,7 +111,8 @@ pub record IsGathered (store : StoreView) (bytes : List ℕ) (group : Group) : T
 -- a group takes one request more, that many bytes, or none
 abbrev pub TakesNext : {E : Type 0} → StoreView → List ℕ → Group → Result ℕ E → Group → Type 0
 TakesNext store bytes old result new =
-    (front : List ℕ) → IsGathered store front old → IfOk result (λ n. (n ≤ length bytes) × IsGathered store (front ++ take n bytes) new)
+    (front : List ℕ) → IsGathered store front old
+    → IfOk result (λ n. (n ≤ length bytes) × IsGathered store (front ++ take n bytes) new)
 
 -- it holds the requests that that many bytes are
 abbrev pub Gathers : {E : Type 0} → StoreView → List ℕ → Result ℕ E → Group → Type 0
@@ -151,7 +153,8 @@ FollowsAll manner true n old new = RestsTimes manner n old new
 FollowsAll manner false n old new = new ≡ old
 
 -- The requests of a group are done and answered over any device, and what follows is done.
-pub record AnswersGroup (passes : Bool) (written contents : Option (List ℕ)) (old : StoreView) (group : Group) (new : StoreView) : Type 0 where
+pub record AnswersGroup (passes : Bool) (written contents : Option (List ℕ)) (old : StoreView) (group : Group)
+    (new : StoreView) : Type 0 where
   pub done : Result (Unit {0}) DiskFault
   pub answered : StoreView
   pub writes : while_clean.Lists old group.entries.items group.bytes.items done answered
@@ -159,13 +162,15 @@ pub record AnswersGroup (passes : Bool) (written contents : Option (List ℕ)) (
   pub follows : FollowsAll while_clean passes (length group.members.items) answered new
 
 -- they are done, and of the replies a beginning is written
-pub record AnswersGroupInPart (written contents : Option (List ℕ)) (old : StoreView) (group : Group) (new : StoreView) : Type 0 where
+pub record AnswersGroupInPart (written contents : Option (List ℕ)) (old : StoreView) (group : Group)
+    (new : StoreView) : Type 0 where
   pub done : Result (Unit {0}) DiskFault
   pub writes : while_clean.Lists old group.entries.items group.bytes.items done new
   pub sent : AppendsFront written contents (replies_to done group.members.items)
 
 -- what comes of a group
-abbrev pub GroupGives : Option (List ℕ) → Option (List ℕ) → StoreView → Group → Result (Unit {0}) SessionFault → StoreView → Type 0
+abbrev pub GroupGives : Option (List ℕ) → Option (List ℕ) → StoreView → Group → Result (Unit {0}) SessionFault
+    → StoreView → Type 0
 GroupGives written contents old group (Ok done) new = AnswersGroup true written contents old group new
 GroupGives written contents old group (Err Output) new = AnswersGroupInPart written contents old group new
 GroupGives written contents old group (Err Unsent) new = AnswersGroup false written contents old group new

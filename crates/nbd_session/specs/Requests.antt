@@ -1,6 +1,7 @@
 -- What a request asks of a disk, and the reply to it.
-use Rattle.std.specs.Prelude.{◌≡◌, ◌⊎◌, ℕ, ◌<◌, ◌*◌, ◌/◌, ◌%◌, ◌==◌, ◌&&◌, ◌||◌, nat_lt, not, if◌then◌else◌, Bool, true, false}
-use Rattle.std.specs.Prelude.{List, [], ◌++◌, length, Option, Some, Result, Ok, Err, IsTrue, OnOk, ⊤}
+use Rattle.std.specs.Prelude.{◌≡◌, ◌⊎◌, ℕ, ◌<◌, ◌*◌, ◌/◌, ◌%◌, ◌==◌, ◌&&◌, ◌||◌, nat_lt, not, if◌then◌else◌, Bool, true}
+use Rattle.std.specs.Prelude.{false}
+use Rattle.std.specs.Prelude.{List, [], ◌++◌, length, Option, Some, Result, Ok, Err, IsTrue, OnOk}
 use Rattle.std.specs.List.{concat}
 use Rattle.std.specs.Io.KnownBytes.{Consumes}
 use Rattle.disk_files.specs.Input.{DropsFewer}
@@ -21,7 +22,8 @@ use Rattle.nbd_session.specs.declared.fault.SessionFault.{SessionFault}
 use Rattle.nbd_session.specs.declared.fault.SessionFault.TheVariants.{Input}
 use Rattle.nbd_session.specs.declared.fault.StoreFault.{StoreFault}
 use Rattle.nbd_session.specs.declared.fault.StoreFault.TheVariants.{Disk, Medium}
-use Rattle.nbd_session.specs.Store.{ForcesBlocks, ReadsBlocks, Spares, Stays, StaysByCall, StaysBySync, StoreView, Syncs, Trims, WritesBytes, WritesZeros}
+use Rattle.nbd_session.specs.Store.{ForcesBlocks, ReadsBlocks, Spares, Stays, StaysByCall, StaysBySync, StoreView}
+use Rattle.nbd_session.specs.Store.{Syncs, Trims, WritesBytes, WritesZeros}
 
 -- ---- what is asked
 
@@ -49,13 +51,18 @@ most_flags command = 1
 abbrev pub is_unaligned : ℕ → Request → Bool
 is_unaligned block r = not (r.offset % block == 0) || not (r.length % block == 0)
 
--- what a request of whole blocks asks for, by its command; a READ and a WRITE have a greatest length, and a FLUSH names no block
+-- what a request of whole blocks asks for, by its command; a READ and a WRITE have a greatest length, and a FLUSH names
+-- no block
 abbrev pub asked_with : ℕ → Option Command → Request → Result Asked ErrorCode
-asked_with block (Some commands.Read) r = if nat_lt MOST_BYTES r.length then Err errors.Invalid else Ok (Read (r.offset / block) (r.length / block))
-asked_with block (Some commands.Write) r = if nat_lt MOST_BYTES r.length then Err errors.Invalid else Ok (Write (r.offset / block))
+asked_with block (Some commands.Read) r =
+    if nat_lt MOST_BYTES r.length then Err errors.Invalid else Ok (Read (r.offset / block) (r.length / block))
+asked_with block (Some commands.Write) r =
+    if nat_lt MOST_BYTES r.length then Err errors.Invalid else Ok (Write (r.offset / block))
 asked_with block (Some commands.Trim) r = Ok (Trim (r.offset / block) (r.length / block))
-asked_with block (Some commands.WriteZeroes) r = Ok (WriteZeroes (r.offset / block) (r.length / block) (nat_lt r.flags 2))
-asked_with block (Some commands.Flush) r = if not (r.offset == 0) || not (r.length == 0) then Err errors.Invalid else Ok Flush
+asked_with block (Some commands.WriteZeroes) r =
+    Ok (WriteZeroes (r.offset / block) (r.length / block) (nat_lt r.flags 2))
+asked_with block (Some commands.Flush) r =
+    if not (r.offset == 0) || not (r.length == 0) then Err errors.Invalid else Ok Flush
 asked_with block command r = Err errors.Invalid
 
 -- what a request asks of a disk whose blocks have this many bytes, or the error that it is refused by
@@ -98,8 +105,8 @@ is_forced (WriteZeroes first n hole) r = r.flags % 2 == 1
 is_forced Flush r = true
 
 -- What is asked is done by one call of the disk. A TRIM leaves records without data, and so does a WRITE_ZEROES that
--- may leave a hole; one that may not, and a WRITE, leave records with data. Of a WRITE nothing is done where there is no
--- memory for its data.
+-- may leave a hole; one that may not, and a WRITE, leave records with data. Of a WRITE nothing is done where there is
+-- no memory for its data.
 abbrev pub Does : StoreView → Asked → List ℕ → Answer → StoreView → Type 0
 Does old (Write first) bytes answer new =
     WritesBytes old first bytes answer new ⊎ ((answer ≡ with_nothing (Err disk.OutOfMemory)) × (new ≡ old))
@@ -120,7 +127,8 @@ SparesAsked old Flush bytes new = ⊥
 -- What is asked is done or refused or, if the medium failed, nothing is done and nothing shown.
 abbrev pub DoesOrFails : StoreView → Asked → List ℕ → Result (Unit {0}) StoreFault → List (List ℕ) → StoreView → Type 0
 DoesOrFails old wanted bytes (Ok done) shown new = Does old wanted bytes (record { result = Ok tt; shown = shown }) new
-DoesOrFails old wanted bytes (Err (Disk fault)) shown new = Does old wanted bytes (record { result = Err fault; shown = shown }) new
+DoesOrFails old wanted bytes (Err (Disk fault)) shown new =
+    Does old wanted bytes (record { result = Err fault; shown = shown }) new
 DoesOrFails old wanted bytes (Err Medium) shown new = (shown ≡ []) × SparesAsked old wanted bytes new
 
 -- What is to be durable is synced: after a FLUSH the whole array, and after another request the blocks that it named.
@@ -133,32 +141,38 @@ Secures (Trim first n) count old result new = ForcesBlocks first n old result ne
 Secures (WriteZeroes first n hole) count old result new = ForcesBlocks first n old result new
 
 -- the same over any device: while its drive is clean
-pub record SecuresAnyway (wanted : Asked) (count : ℕ) (old : StoreView) (result : Result (Unit {0}) StoreFault) (new : StoreView) : Type 0 where
+pub record SecuresAnyway (wanted : Asked) (count : ℕ) (old : StoreView) (result : Result (Unit {0}) StoreFault)
+    (new : StoreView) : Type 0 where
   pub secures : IsTrue new.disk.drive.clean → Secures wanted count old result new
   pub stays : StaysBySync old result new
 
 -- What was done is made durable in this way where it has to be. A refusal stays, and so does a fault of the medium.
-abbrev pub ForcesBy : (Result (Unit {0}) StoreFault → StoreView → Type 0) → Bool → StoreView → Result (Unit {0}) StoreFault → Result (Unit {0}) StoreFault → StoreView → Type 0
+abbrev pub ForcesBy : (Result (Unit {0}) StoreFault → StoreView → Type 0) → Bool → StoreView
+    → Result (Unit {0}) StoreFault → Result (Unit {0}) StoreFault → StoreView → Type 0
 ForcesBy Secured forced old (Err fault) result new = (result ≡ Err fault) × (new ≡ old)
 ForcesBy Secured true old (Ok done) result new = Secured result new
 ForcesBy Secured false old (Ok done) result new = (result ≡ Ok tt) × (new ≡ old)
 
-abbrev pub Forces : Bool → Asked → ℕ → StoreView → Result (Unit {0}) StoreFault → Result (Unit {0}) StoreFault → StoreView → Type 0
+abbrev pub Forces : Bool → Asked → ℕ → StoreView → Result (Unit {0}) StoreFault → Result (Unit {0}) StoreFault
+    → StoreView → Type 0
 Forces forced wanted count old done result new = ForcesBy (Secures wanted count old) forced old done result new
 
-abbrev pub ForcesAnyway : Bool → Asked → ℕ → StoreView → Result (Unit {0}) StoreFault → Result (Unit {0}) StoreFault → StoreView → Type 0
-ForcesAnyway forced wanted count old done result new = ForcesBy (SecuresAnyway wanted count old) forced old done result new
+abbrev pub ForcesAnyway : Bool → Asked → ℕ → StoreView → Result (Unit {0}) StoreFault → Result (Unit {0}) StoreFault
+    → StoreView → Type 0
+ForcesAnyway forced wanted count old done result new =
+    ForcesBy (SecuresAnyway wanted count old) forced old done result new
 
 -- what is asked is done, and these bytes are shown
-pub record DoesShowing (old : StoreView) (wanted : Asked) (bytes shown : List ℕ) (result : Result (Unit {0}) StoreFault) (new : StoreView) : Type 0 where
+pub record DoesShowing (old : StoreView) (wanted : Asked) (bytes shown : List ℕ) (result : Result (Unit {0}) StoreFault)
+    (new : StoreView) : Type 0 where
   pub blocks : List (List ℕ)
   pub does : DoesOrFails old wanted bytes result blocks new
   pub shown_is : shown ≡ concat blocks
 
--- bytes are shown only by a READ that is done
-abbrev pub MayShow : Asked → Result (Unit {0}) StoreFault → List ℕ → Type 0
-MayShow (Read first n) (Ok done) shown = ⊤
-MayShow wanted result shown = shown ≡ []
+-- Bytes are shown only by a READ that is done: as many as its blocks have, each of this many bytes.
+abbrev pub MayShow : ℕ → Asked → Result (Unit {0}) StoreFault → List ℕ → Type 0
+MayShow block (Read first n) (Ok done) shown = length shown ≡ n * block
+MayShow block wanted result shown = shown ≡ []
 
 -- what is asked is done with the data that came with it, and these bytes are shown: while the drive is clean
 pub record DoesWith (left left' : Option (List ℕ)) (old : StoreView) (wanted : Asked) (count : ℕ) (shown : List ℕ)
@@ -167,14 +181,15 @@ pub record DoesWith (left left' : Option (List ℕ)) (old : StoreView) (wanted :
   pub count_is : length bytes ≡ count
   pub read : Consumes left left' bytes
   pub does : IsTrue new.disk.drive.clean → DoesShowing old wanted bytes shown result new
-  pub shows : MayShow wanted result shown
+  pub shows : MayShow old.disk.drive.geometry.block wanted result shown
   pub stays : StaysByCall old new
 
 -- that, or the data are cut and nothing is done
 abbrev pub DoesOrNot : Option (List ℕ) → Option (List ℕ) → StoreView → Asked → ℕ → List ℕ
     → Result (Result (Unit {0}) StoreFault) SessionFault → StoreView → Type 0
 DoesOrNot left left' old wanted count shown (Ok result) new = DoesWith left left' old wanted count shown result new
-DoesOrNot left left' old wanted count shown (Err fault) new = (fault ≡ Input) × DropsFewer left left' count × (new ≡ old)
+DoesOrNot left left' old wanted count shown (Err fault) new =
+    (fault ≡ Input) × DropsFewer left left' count × (new ≡ old)
 
 -- ---- the reply
 
@@ -184,8 +199,8 @@ error_past_end (Write first) = errors.NoSpace
 error_past_end (WriteZeroes first n hole) = errors.NoSpace
 error_past_end wanted = errors.Invalid
 
--- the error of a refusal; a disk that has stopped, or is not mounted, answers ESHUTDOWN to each request that needs it; so
--- does one whose drive does not fit what it returned
+-- the error of a refusal; a disk that has stopped, or is not mounted, answers ESHUTDOWN to each request that needs it;
+-- so does one whose drive does not fit what it returned
 abbrev pub error_of : Asked → DiskFault → ErrorCode
 error_of wanted disk.OutOfRange = error_past_end wanted
 error_of wanted disk.OutOfMemory = errors.NoMemory
@@ -204,7 +219,8 @@ code_of wanted (Err (Disk fault)) = error_of wanted fault
 code_of wanted (Err Medium) = errors.Io
 
 -- what is asked is done, and synced where it has to be, and this is the reply
-pub record DoesAndReplies (old : StoreView) (request : Request) (wanted : Asked) (bytes reply : List ℕ) (new : StoreView) : Type 0 where
+pub record DoesAndReplies (old : StoreView) (request : Request) (wanted : Asked) (bytes reply : List ℕ)
+    (new : StoreView) : Type 0 where
   pub done : Result (Unit {0}) StoreFault
   pub shown : List (List ℕ)
   pub middle : StoreView
@@ -218,14 +234,16 @@ abbrev pub AnswersAsked : StoreView → Request → Result Asked ErrorCode → L
 AnswersAsked old request (Err error) bytes reply new = (reply ≡ simple_reply_bytes error request.cookie) × (new ≡ old)
 AnswersAsked old request (Ok wanted) bytes reply new = DoesAndReplies old request wanted bytes reply new
 
--- The same over any device: while the drive is clean. Whatever its Reads returned, the reply has the cookie of the request, and
--- bytes follow only where a READ is done. What had to be durable is told as done only once a sync was completed.
-pub record RepliesAnyway (old : StoreView) (request : Request) (wanted : Asked) (bytes reply : List ℕ) (new : StoreView) : Type 0 where
+-- The same over any device: while the drive is clean. Whatever its Reads returned, the reply has the cookie of the
+-- request. Bytes follow only where a READ is done: as many as its blocks have. What had to be durable is told as done
+-- only once a sync was completed.
+pub record RepliesAnyway (old : StoreView) (request : Request) (wanted : Asked) (bytes reply : List ℕ)
+    (new : StoreView) : Type 0 where
   pub does : IsTrue new.disk.drive.clean → DoesAndReplies old request wanted bytes reply new
   pub result : Result (Unit {0}) StoreFault
   pub shown : List ℕ
   pub reply_is : reply ≡ simple_reply_bytes (code_of wanted result) request.cookie ++ shown
-  pub shows : MayShow wanted result shown
+  pub shows : MayShow old.disk.drive.geometry.block wanted result shown
   pub synced : is_forced wanted request ≡ true → OnOk result (old.syncs < new.syncs)
   pub unsynced : is_forced wanted request ≡ false → new.syncs ≡ old.syncs
   pub stays : Stays old new

@@ -15,8 +15,8 @@ pub record ServedView (Medium : Type 0) : Type 0 where
 abbrev pub array_with : DiskView → List Zone → List (List ℕ)
 array_with disk zones = encoded (record disk.drive { zones = zones }) (given_size disk)
 
--- The arrays that a loss of power may leave: of a disk that is flushed, those of the zones that are durable. A disk whose
--- medium keeps each command has no other array than the one that it serves.
+-- The arrays that a loss of power may leave: of a disk that is flushed, those of the zones that are durable. A disk
+-- whose medium keeps each command has no other array than the one that it serves.
 abbrev pub since_of : Bool → DiskView → List (List (List ℕ))
 since_of true disk = map (array_with disk) disk.drive.durable
 since_of false disk = disk_array disk ∷ []

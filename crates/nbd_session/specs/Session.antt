@@ -1,8 +1,10 @@
 -- A session: the greeting, options, and the transmission of requests. Each message that is read is answered.
-use Rattle.std.specs.Prelude.{◌≡◌, ◌⊎◌, ℕ, ◌*◌, ◌≤◌, ◌==◌, max, map, if◌then◌else◌, Bool, true, false, List, [], ◌∷◌, ◌++◌, length, Option, Some, None, Result}
+use Rattle.std.specs.Prelude.{◌≡◌, ◌⊎◌, ℕ, ◌*◌, ◌≤◌, ◌==◌, max, map, if◌then◌else◌, Bool, true, false, List, [], ◌∷◌}
+use Rattle.std.specs.Prelude.{◌++◌, length, Option, Some, None, Result}
 use Rattle.std.specs.List.{flat_map}
 use Rattle.std.specs.Io.KnownBytes.{Appends, Consumes}
-use Rattle.nbd_wire.specs.Handshake.{FitsHead, client_flags_bytes, greeting, info_replies, list_reply, name_reply, option_head_bytes, option_of, option_reply}
+use Rattle.nbd_wire.specs.Handshake.{FitsHead, client_flags_bytes, greeting, info_replies, list_reply, name_reply}
+use Rattle.nbd_wire.specs.Handshake.{option_head_bytes, option_of, option_reply}
 use Rattle.nbd_wire.specs.Transmission.{FitsRequest, request_bytes}
 use Rattle.nbd_wire.specs.declared.client_flags.ClientFlags.{ClientFlags}
 use Rattle.nbd_wire.specs.declared.export.Export.{Export}
@@ -20,7 +22,8 @@ use Rattle.nbd_session.specs.declared.phase.Phase.{Phase}
 use Rattle.nbd_session.specs.declared.phase.Phase.TheVariants as phases
 use Rattle.nbd_session.specs.Manners.{Manner, always}
 use Rattle.nbd_session.specs.Requests.{asked_of_store, data_length, is_disconnect}
-use Rattle.nbd_session.specs.Groups.{Asking, FollowsAll, IsGroup, asking_bytes, data_of, entries_of, member_of, replies_to}
+use Rattle.nbd_session.specs.Groups.{Asking, FollowsAll, IsGroup, asking_bytes, data_of, entries_of, member_of}
+use Rattle.nbd_session.specs.Groups.{replies_to}
 use Rattle.nbd_session.specs.Store.{StoreView}
 use Rattle.nbd_session.specs.Streams.{Streams}
 
@@ -73,7 +76,8 @@ pub record ServesOption (old : StoreView) (no_zeroes : Bool) (message reply : Li
   pub bytes : List ℕ
   pub message_is : message ≡ option_head_bytes head ++ bytes
   pub length_is : length bytes ≡ head.length
-  pub reply_is : reply ≡ answer_bytes (export_of old) no_zeroes head.option (option_answer (option_of head.option) head.length)
+  pub reply_is : reply ≡ answer_bytes (export_of old) no_zeroes head.option
+      (option_answer (option_of head.option) head.length)
   pub new_is : new ≡ session (phase_after no_zeroes (option_of head.option)) old
 
 -- ---- requests
@@ -84,14 +88,16 @@ FollowsAs manner true old new = manner.Rests old new
 FollowsAs manner false old new = new ≡ old
 
 -- a request is answered, and what follows is done
-pub record AnswersAndRests (manner : Manner) (passes : Bool) (old : StoreView) (request : Request) (bytes reply : List ℕ) (new : StoreView) : Type 0 where
+pub record AnswersAndRests (manner : Manner) (passes : Bool) (old : StoreView) (request : Request)
+    (bytes reply : List ℕ) (new : StoreView) : Type 0 where
   pub answered : StoreView
   pub answers : manner.Asks old request (asked_of_store old request) bytes reply answered
   pub follows : FollowsAs manner passes answered new
 
 -- Requests that came together are done by one call, and each is answered by its result. The replies are in the order of
 -- the requests. Then the store rests once for each.
-pub record ServesGroup (manner : Manner) (passes : Bool) (old : StoreView) (message reply : List ℕ) (new : Session) : Type 0 where
+pub record ServesGroup (manner : Manner) (passes : Bool) (old : StoreView) (message reply : List ℕ)
+    (new : Session) : Type 0 where
   pub askings : List Asking
   pub several : 2 ≤ length askings
   pub group : IsGroup old askings
@@ -110,7 +116,8 @@ AnswersByAs manner passes old false request bytes reply new =
     (new.phase ≡ phases.Transmission) × AnswersAndRests manner passes old request bytes reply new.store
 
 -- a message is the head of a request and its data
-pub record ServesRequestAs (manner : Manner) (passes : Bool) (old : StoreView) (message reply : List ℕ) (new : Session) : Type 0 where
+pub record ServesRequestAs (manner : Manner) (passes : Bool) (old : StoreView) (message reply : List ℕ)
+    (new : Session) : Type 0 where
   pub request : Request
   pub fits : FitsRequest request
   pub bytes : List ℕ
@@ -129,19 +136,24 @@ pub record TakesFlags (old : StoreView) (message reply : List ℕ) (new : Sessio
 
 -- a message of the transmission is a request or, where those that came together may be answered so, a group of them
 abbrev pub ServesRequests : Manner → Bool → Bool → StoreView → List ℕ → List ℕ → Session → Type 0
-ServesRequests manner true passes old message reply new = ServesRequestAs manner passes old message reply new ⊎ ServesGroup manner passes old message reply new
+ServesRequests manner true passes old message reply new =
+    ServesRequestAs manner passes old message reply new ⊎ ServesGroup manner passes old message reply new
 ServesRequests manner false passes old message reply new = ServesRequestAs manner passes old message reply new
 
 -- A message is answered, and its reply is passed on or not. The greeting answers to none.
 abbrev pub AnswersInAs : Manner → Bool → Bool → Phase → StoreView → List ℕ → List ℕ → Session → Type 0
-AnswersInAs manner together passes phases.Greeting old message reply new = (message ≡ []) × (reply ≡ greeting) × (new ≡ session phases.Flags old)
+AnswersInAs manner together passes phases.Greeting old message reply new =
+    (message ≡ []) × (reply ≡ greeting) × (new ≡ session phases.Flags old)
 AnswersInAs manner together passes phases.Flags old message reply new = TakesFlags old message reply new
-AnswersInAs manner together passes (phases.Options no_zeroes) old message reply new = ServesOption old no_zeroes message reply new
-AnswersInAs manner together passes phases.Transmission old message reply new = ServesRequests manner together passes old message reply new
+AnswersInAs manner together passes (phases.Options no_zeroes) old message reply new =
+    ServesOption old no_zeroes message reply new
+AnswersInAs manner together passes phases.Transmission old message reply new =
+    ServesRequests manner together passes old message reply new
 AnswersInAs manner together passes phases.Ended old message reply new = ⊥
 
 abbrev pub AnswersMessageAs : Manner → Bool → Bool → Session → List ℕ → List ℕ → Session → Type 0
-AnswersMessageAs manner together passes old message reply new = AnswersInAs manner together passes old.phase old.store message reply new
+AnswersMessageAs manner together passes old message reply new =
+    AnswersInAs manner together passes old.phase old.store message reply new
 
 -- ---- many messages
 
@@ -153,7 +165,9 @@ pub record Dialogue : Type 0 where
 -- messages are answered, one after the other, and each reply is passed on
 abbrev pub AnswersEach : Manner → Bool → Session → List Dialogue → Session → Type 0
 AnswersEach manner together old [] new = new ≡ old
-AnswersEach manner together old (d ∷ ds) new = (middle : Session) × AnswersMessageAs manner together true old d.message d.reply middle × AnswersEach manner together middle ds new
+AnswersEach manner together old (d ∷ ds) new =
+    (middle : Session) × AnswersMessageAs manner together true old d.message d.reply middle
+    × AnswersEach manner together middle ds new
 
 -- the bytes that were read are messages, and those that were written are the replies to them
 pub record Served (manner : Manner) (together : Bool) (bytes : Streams) (old new : Session) : Type 0 where

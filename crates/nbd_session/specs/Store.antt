@@ -1,13 +1,19 @@
 -- A disk that is served, what of it a loss of power leaves, and how often it was synced.
-use Rattle.std.specs.Prelude.{◌≡◌, ◌⊎◌, ℕ, ◌+◌, ◌<◌, ◌≤◌, ◌&&◌, ◌||◌, if◌then◌else◌, Bool, true, false, not, List, [], ◌∷◌, length, map, slice_index_or, Contains, Some, None, Result, Ok, Err, IfErr, IsTrue, OnOk}
+use Rattle.std.specs.Prelude.{◌≡◌, ◌⊎◌, ℕ, ◌+◌, ◌<◌, ◌≤◌, ◌&&◌, ◌||◌, if◌then◌else◌, Bool, true, false, not, List, []}
+use Rattle.std.specs.Prelude.{◌∷◌, length, map, slice_index_or, Contains, Some, None, Result, Ok, Err, IfErr, IsTrue}
+use Rattle.std.specs.Prelude.{OnOk}
 use Rattle.std.specs.List.{concat}
 use Rattle.batch_log.specs.declared.header.Entry.{Entry}
 use Rattle.drive_port.specs.Durable.{MayBeDurable}
 use Rattle.drive_array.specs.Reserve.{batch_most}
-use Rattle.zone_translator.specs.Answers.{CostsAtMost, Stores, StoresList, TakesTurn, count_of_blocks, list_commands, write_bytes, write_commands, write_entries}
-use Rattle.zone_translator.specs.Flat.{Answer, Call, FlatCall, FlatDisk, IsFront, IsListFront, Put, answer_while, flush, idle, known_range, may_refuse, put_all, read, replaced, status_after, trim, with_nothing, write, write_list}
+use Rattle.zone_translator.specs.Answers.{CostsAtMost, Stores, StoresList, TakesTurn, count_of_blocks, list_commands}
+use Rattle.zone_translator.specs.Answers.{write_bytes, write_commands, write_entries}
+use Rattle.zone_translator.specs.Flat.{Answer, Call, FlatCall, FlatDisk, IsFront, IsListFront, Put, answer_while, flush}
+use Rattle.zone_translator.specs.Flat.{idle, known_range, may_refuse, put_all, read, replaced, status_after, trim}
+use Rattle.zone_translator.specs.Flat.{with_nothing, write, write_list}
 use Rattle.zone_translator.specs.Keeping.{KeepsServed}
-use Rattle.zone_translator.specs.View.{CompletesAtMost, DiskCause, DiskView, KeepsDisk, StaysAlike, disk_array, disk_turns, flat_of}
+use Rattle.zone_translator.specs.View.{CompletesAtMost, DiskCause, DiskView, KeepsDisk, StaysAlike, disk_array}
+use Rattle.zone_translator.specs.View.{disk_turns, flat_of}
 use Rattle.zone_translator.specs.declared.fault.DiskFault.{DiskFault}
 use Rattle.nbd_session.specs.Pending.{AreApart, HoldsSome, Pending, overlay, pieces}
 use Rattle.nbd_session.specs.declared.fault.StoreFault.{StoreFault}
@@ -99,7 +105,8 @@ pub record ComesFrom (since : List (List (List ℕ))) (call : Call) (array : Lis
 -- array that it could have left before, or one of the call's moments.
 pub record CallsDisk (old : StoreView) (call : Call) (new : StoreView) : Type 0 where
   pub kept : KeepsDisk old.disk new.disk
-  pub since : (array : List (List ℕ)) → Contains new.since array → Contains old.since array ⊎ IsMoment (flat_of old.disk) call array
+  pub since : (array : List (List ℕ)) → Contains new.since array
+      → Contains old.since array ⊎ IsMoment (flat_of old.disk) call array
 
 -- What a call gives. The store answers as a flat array, and refuses nothing without a cause. If its drive could be
 -- mounted, it can be mounted again. A loss of power leaves an array that it could have left before, with a part of the
@@ -123,13 +130,15 @@ commands_due store = store.disk.drive.completed + write_commands false store.dis
 
 -- What a write gives besides that goes through to the disk. Done, the newest records of its n blocks have data or, of a
 -- trim, have none. It completes at most so many commands.
-pub record WritesDisk (is_trim : Bool) (old : DiskView) (first n : ℕ) (result : Result (Unit {0}) DiskFault) (new : DiskView) : Type 0 where
+pub record WritesDisk (is_trim : Bool) (old : DiskView) (first n : ℕ) (result : Result (Unit {0}) DiskFault)
+    (new : DiskView) : Type 0 where
   pub stores : Stores is_trim old first n result new
   pub costs : CostsAtMost old (write_commands is_trim old n) result new
 
 -- A call that writes n blocks from a given one on. Done, it adds no turns of a clean. Each of its blocks, and each that
 -- is pending no more, pays for the commands of one write.
-pub record Writes (is_trim : Bool) (old : StoreView) (call : Call) (first n : ℕ) (answer : Answer) (new : StoreView) : Type 0 where
+pub record Writes (is_trim : Bool) (old : StoreView) (call : Call) (first n : ℕ) (answer : Answer)
+    (new : StoreView) : Type 0 where
   pub calls : Calls old call answer new
   pub turns : OnOk answer.result (disk_turns new.disk ≤ disk_turns old.disk)
   pub due : commands_due new ≤ commands_due old + write_commands false old.disk n
@@ -137,7 +146,8 @@ pub record Writes (is_trim : Bool) (old : StoreView) (call : Call) (first n : �
 
 -- these bytes are written
 abbrev pub WritesBytes : StoreView → ℕ → List ℕ → Answer → StoreView → Type 0
-WritesBytes old first bytes answer new = Writes false old (write_bytes old.disk first bytes) first (count_of_blocks old.disk bytes) answer new
+WritesBytes old first bytes answer new =
+    Writes false old (write_bytes old.disk first bytes) first (count_of_blocks old.disk bytes) answer new
 
 -- zeros are written, by records that have data
 abbrev pub WritesZeros : StoreView → ℕ → ℕ → Answer → StoreView → Type 0
@@ -147,18 +157,21 @@ WritesZeros old first n answer new = Writes false old (trim old.disk.drive.geome
 abbrev pub Trims : StoreView → ℕ → ℕ → Answer → StoreView → Type 0
 Trims old first n answer new = Writes true old (trim old.disk.drive.geometry.block first n) first n answer new
 
--- how many blocks a list may name: as many as one batch; none where writes may be pending, or the medium may fail in any call
+-- how many blocks a list may name: as many as one batch; none where writes may be pending, or the medium may fail in
+-- any call
 abbrev pub most_listed : StoreView → ℕ
 most_listed store = if store.defers || store.fails then 0 else batch_most store.disk.drive.geometry
 
 -- what a list gives besides that goes through to the disk: done, the newest record of each of its blocks is its entry's
-pub record ListsDisk (old : DiskView) (entries : List Entry) (result : Result (Unit {0}) DiskFault) (new : DiskView) : Type 0 where
+pub record ListsDisk (old : DiskView) (entries : List Entry) (result : Result (Unit {0}) DiskFault)
+    (new : DiskView) : Type 0 where
   pub stores : StoresList old entries result new
   pub costs : CostsAtMost old (list_commands old (length entries)) result new
 
--- The blocks of a list are written and trimmed. Done, that adds no turns of a clean. Each block pays for the commands of
--- one write.
-pub record WritesList (old : StoreView) (entries : List Entry) (bytes : List ℕ) (answer : Answer) (new : StoreView) : Type 0 where
+-- The blocks of a list are written and trimmed. Done, that adds no turns of a clean. Each block pays for the commands
+-- of one write.
+pub record WritesList (old : StoreView) (entries : List Entry) (bytes : List ℕ) (answer : Answer)
+    (new : StoreView) : Type 0 where
   pub calls : Calls old (write_entries old.disk entries bytes) answer new
   pub turns : OnOk answer.result (disk_turns new.disk ≤ disk_turns old.disk)
   pub due : commands_due new ≤ commands_due old + list_commands old.disk (length entries)
@@ -223,7 +236,8 @@ pub record KeepsBySync (old new : StoreView) : Type 0 where
   pub turns : old.pending ≡ [] → disk_turns new.disk ≡ disk_turns old.disk
   pub completed : CompletesAtMost old.disk (write_commands false old.disk (length old.pending) + 1) new.disk
   pub pending : (w : Pending) → Contains new.pending w → Contains old.pending w
-  pub since : (array : List (List ℕ)) → Contains new.since array → Contains old.since array ⊎ HoldsSome new.pending (disk_array new.disk) array
+  pub since : (array : List (List ℕ)) → Contains new.since array
+      → Contains old.since array ⊎ HoldsSome new.pending (disk_array new.disk) array
   pub syncs : old.syncs ≤ new.syncs
   pub mode : KeepsMode old new
   pub silent : old.flushes ≡ false → old.pending ≡ [] → SendsNothing old new
@@ -257,7 +271,8 @@ SyncsBy IsDone old (Ok done) new = (answer_while old.disk.status ≡ None) × Ha
 SyncsBy IsDone old (Err (Disk fault)) new =
     ((answer_while old.disk.status ≡ Some (Err fault)) × (new ≡ old))
     ⊎ ((answer_while old.disk.status ≡ None) × FailsSync old fault new)
-SyncsBy IsDone old (Err Medium) new = (answer_while old.disk.status ≡ None) × KeepsBySync old new × (store_flat new ≡ store_flat old)
+SyncsBy IsDone old (Err Medium) new =
+    (answer_while old.disk.status ≡ None) × KeepsBySync old new × (store_flat new ≡ store_flat old)
 
 -- the whole array is made durable
 abbrev pub Syncs : StoreView → Result (Unit {0}) StoreFault → StoreView → Type 0
@@ -288,8 +303,8 @@ Rests old new = RestsBy (old.cleans && not old.read_only) old new
 
 -- ---- whatever the Reads of the drive returned
 
--- The disk has the same shape and size, and its drive is clean only where it was. The store is read only, cleans, flushes, defers
--- and fails as before. No sync is forgotten, and nothing is pending that is not deferred.
+-- The disk has the same shape and size, and its drive is clean only where it was. The store is read only, cleans,
+-- flushes, defers and fails as before. No sync is forgotten, and nothing is pending that is not deferred.
 pub record Stays (old new : StoreView) : Type 0 where
   pub disk : StaysAlike old.disk new.disk
   pub mode : KeepsMode old new

@@ -5,7 +5,8 @@ use Rattle.disk_files.specs.Input.{DropsFewer}
 use Rattle.nbd_session.specs.declared.fault.SessionFault.{SessionFault}
 use Rattle.nbd_session.specs.declared.fault.SessionFault.TheVariants.{Input}
 
--- the bytes that a reader has left before and after, and those that a writer holds before and after, where they are known
+-- the bytes that a reader has left before and after, and those that a writer holds before and after, where they are
+-- known
 pub record Streams : Type 0 where
   pub input : Option (List ℕ)
   pub rest : Option (List ℕ)

@@ -1,5 +1,6 @@
 -- What comes of one message, and how a session ends.
-use Rattle.std.specs.Prelude.{◌≡◌, ◌≢◌, ◌⊎◌, ℕ, ◌+◌, ◌-◌, ◌<◌, ◌≤◌, ◌^◌, Bool, true, false, List, [], ◌∷◌, ◌++◌, length, Option, Some, None, IfSome, IsSomeAnd, is_none, Result, Ok, Err}
+use Rattle.std.specs.Prelude.{◌≡◌, ◌≢◌, ◌⊎◌, ℕ, ◌+◌, ◌-◌, ◌<◌, ◌≤◌, ◌^◌, Bool, true, false, List, [], ◌∷◌, ◌++◌, length}
+use Rattle.std.specs.Prelude.{Option, Some, None, IfSome, IsSomeAnd, is_none, Result, Ok, Err}
 use Rattle.std.specs.Io.KnownBytes.{Appends, Consumes, IsAtEnd, Keeps}
 use Rattle.disk_files.specs.Input.{DropsFewer}
 use Rattle.disk_files.specs.Output.{AppendsFront}
@@ -68,8 +69,10 @@ IsCutMessage phase bytes = ⊥
 -- a whole head, with which no message of this phase begins
 abbrev pub IsForeign : Phase → List ℕ → Type 0
 IsForeign phases.Flags head = (length head ≡ 4) × ((flags : ClientFlags) → head ≢ client_flags_bytes flags)
-IsForeign (phases.Options no_zeroes) head = (length head ≡ 16) × ((option : OptionHead) → FitsHead option → head ≢ option_head_bytes option)
-IsForeign phases.Transmission head = (length head ≡ 28) × ((request : Request) → FitsRequest request → head ≢ request_bytes request)
+IsForeign (phases.Options no_zeroes) head =
+    (length head ≡ 16) × ((option : OptionHead) → FitsHead option → head ≢ option_head_bytes option)
+IsForeign phases.Transmission head =
+    (length head ≡ 28) × ((request : Request) → FitsRequest request → head ≢ request_bytes request)
 IsForeign phase head = ⊥
 
 -- bytes for which this holds are read, and nothing is written or done
@@ -90,12 +93,13 @@ pub record Breaks (manner : Manner) (together : Bool) (bytes : Streams) (old : S
   pub answers : AnswersMessageAs manner together false old message reply (session phase new)
 
 -- a message is answered, and its reply is written, and not passed on; nothing else is done
-pub record AnswersUnsent (manner : Manner) (together : Bool) (bytes : Streams) (old : Session) (new : StoreView) : Type 0 where
+pub record AnswersUnsent (manner : Manner) (together : Bool) (bytes : Streams) (old : Session)
+    (new : StoreView) : Type 0 where
   pub phase : Phase
   pub answers : AnswersOne manner together false bytes old (session phase new)
 
--- Why a session stops at a message: the reader failed or ended before all of it was read, its head is foreign, or the writer failed in the reply
--- or did not pass it on.
+-- Why a session stops at a message: the reader failed or ended before all of it was read, its head is foreign, or the
+-- writer failed in the reply or did not pass it on.
 abbrev pub StopsSession : Manner → Bool → SessionFault → Streams → Session → StoreView → Type 0
 StopsSession manner together Input bytes old new = ReadsOnly bytes (IsCutMessage old.phase) old new
 StopsSession manner together Magic bytes old new = ReadsOnly bytes (IsForeign old.phase) old new
@@ -132,7 +136,8 @@ pub record RepliesInPart (bytes : Streams) (count : ℕ) (Answer : List ℕ → 
 
 -- why what follows a head is not answered: it is cut, and nothing is written or done, or the writer failed
 abbrev pub ReplyStops : SessionFault → Streams → ℕ → (List ℕ → List ℕ → Type 0) → Type 0 → Type 0
-ReplyStops Input bytes count Answer Nothing = DropsFewer bytes.input bytes.rest count × Keeps bytes.written bytes.contents × Nothing
+ReplyStops Input bytes count Answer Nothing =
+    DropsFewer bytes.input bytes.rest count × Keeps bytes.written bytes.contents × Nothing
 ReplyStops Magic bytes count Answer Nothing = ⊥
 ReplyStops Output bytes count Answer Nothing = RepliesInPart bytes count Answer
 ReplyStops Unsent bytes count Answer Nothing = ⊥
@@ -152,12 +157,14 @@ StopsAfter manner together count TooMany bytes old new = (count ≡ 2 ^ 64 - 1) 
 StopsAfter manner together count fault bytes old new = StopsSession manner together fault bytes old new
 
 -- some messages are answered, and the session stops
-pub record StopsEarly (manner : Manner) (together : Bool) (bytes : Streams) (old : Session) (fault : SessionFault) (new : StoreView) : Type 0 where
+pub record StopsEarly (manner : Manner) (together : Bool) (bytes : Streams) (old : Session) (fault : SessionFault)
+    (new : StoreView) : Type 0 where
   pub middle : Session
   pub rest : Option (List ℕ)
   pub contents : Option (List ℕ)
   pub served : Served manner together (streams bytes.input rest bytes.written contents) old middle
-  pub stops : StopsAfter manner together (length served.dialogues) fault (streams rest bytes.rest contents bytes.contents) middle new
+  pub stops : StopsAfter manner together (length served.dialogues) fault
+      (streams rest bytes.rest contents bytes.contents) middle new
 
 -- how a session ends
 abbrev pub ServesAs : Manner → Streams → Session → Result (Unit {0}) SessionFault → StoreView → Type 0
@@ -175,18 +182,22 @@ requests_at phases.Transmission = 1
 requests_at phase = 0
 
 -- how many of the messages that were answered are requests, where each is answered by itself
-abbrev pub requests_in : (manner : Manner) → (together : Bool) → (old : Session) → (dialogues : List Dialogue) → (new : Session) → AnswersEach manner together old dialogues new → ℕ
+abbrev pub requests_in : (manner : Manner) → (together : Bool) → (old : Session) → (dialogues : List Dialogue)
+    → (new : Session) → AnswersEach manner together old dialogues new → ℕ
 requests_in manner together old [] new answered = 0
-requests_in manner together old (d ∷ ds) new answered = requests_at old.phase + requests_in manner together answered.0 ds new answered.2
+requests_in manner together old (d ∷ ds) new answered =
+    requests_at old.phase + requests_in manner together answered.0 ds new answered.2
 
 -- Messages are answered, up to a session that would read one more. With that one there are at most so many requests,
 -- and each is answered by itself.
 pub record RunsWithin (manner : Manner) (most : Option ℕ) (bytes : Streams) (old new : Session) : Type 0 where
   pub served : Served manner (is_none most) bytes old new
-  pub within : IfSome most (λ n. requests_in manner (is_none most) old served.dialogues new served.answered + requests_at new.phase ≤ n)
+  pub within : IfSome most
+      (λ n. requests_in manner (is_none most) old served.dialogues new served.answered + requests_at new.phase ≤ n)
 
 -- the client has gone between two messages, and has not said that it ends
-pub record RunsOut (manner : Manner) (most : Option ℕ) (bytes : Streams) (old : Session) (new : StoreView) : Type 0 where
+pub record RunsOut (manner : Manner) (most : Option ℕ) (bytes : Streams) (old : Session)
+    (new : StoreView) : Type 0 where
   pub phase : Phase
   pub unsaid : phase ≢ phases.Ended
   pub runs : RunsWithin manner most bytes old (session phase new)
@@ -197,16 +208,19 @@ pub record RunsToLimit (manner : Manner) (most : ℕ) (bytes : Streams) (old : S
   pub served : Served manner false bytes old (session phases.Transmission new)
   pub count_is : requests_in manner false old served.dialogues (session phases.Transmission new) served.answered ≡ most
 
--- how many requests are read by the message at which a session stops: none, if it only has answered as many as it counts
+-- how many requests are read by the message at which a session stops: none, if it only has answered as many as it
+-- counts
 abbrev pub requests_stopped : SessionFault → Phase → ℕ
 requests_stopped TooMany phase = 0
 requests_stopped fault phase = requests_at phase
 
 -- a session stops, and has read at most so many requests
-pub record StopsWithin (manner : Manner) (most : Option ℕ) (bytes : Streams) (old : Session) (fault : SessionFault) (new : StoreView) : Type 0 where
+pub record StopsWithin (manner : Manner) (most : Option ℕ) (bytes : Streams) (old : Session) (fault : SessionFault)
+    (new : StoreView) : Type 0 where
   pub stops : StopsEarly manner (is_none most) bytes old fault new
   pub within : IfSome most (λ n.
-      requests_in manner (is_none most) old stops.served.dialogues stops.middle stops.served.answered + requests_stopped fault stops.middle.phase ≤ n)
+      requests_in manner (is_none most) old stops.served.dialogues stops.middle stops.served.answered
+      + requests_stopped fault stops.middle.phase ≤ n)
 
 -- how a session ends in a phase, where no message follows
 abbrev pub end_in : Phase → SessionEnd
@@ -217,7 +231,8 @@ end_in phase = InputEnded
 abbrev pub ServesAtMostAs : Manner → Option ℕ → Streams → Session → Result SessionEnd SessionFault → StoreView → Type 0
 ServesAtMostAs manner most bytes old (Ok Disconnected) new = RunsWithin manner most bytes old (session phases.Ended new)
 ServesAtMostAs manner most bytes old (Ok InputEnded) new = RunsOut manner most bytes old new
-ServesAtMostAs manner most bytes old (Ok LimitReached) new = IsSomeAnd most (λ most. RunsToLimit manner most bytes old new)
+ServesAtMostAs manner most bytes old (Ok LimitReached) new =
+    IsSomeAnd most (λ most. RunsToLimit manner most bytes old new)
 ServesAtMostAs manner most bytes old (Err fault) new = StopsWithin manner most bytes old fault new
 
 abbrev pub ServesAtMost : Option ℕ → Streams → Session → Result SessionEnd SessionFault → StoreView → Type 0

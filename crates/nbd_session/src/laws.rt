@@ -16,8 +16,8 @@ pub fn group_is_its_writes()
     ensures { GroupIsItsWrites }
 {}
 
-/// A request that is answered by EIO, and had not to be durable, shows nothing. It was not done, or its disk refused it,
-/// since the drive failed at a command. What is asked of a store that does not fail is answered by its disk.
+/// A request that is answered by EIO, and had not to be durable, shows nothing. It was not done, or its disk refused
+/// it, since the drive failed at a command. What is asked of a store that does not fail is answered by its disk.
 pub fn failed_is_undone()
     ensures undone { FailedIsUndone }
     ensures answered { AnsweredByDisk }
@@ -34,8 +34,8 @@ pub fn session_keeps_mode()
     ensures { SessionKeepsMode }
 {}
 
-/// What a loss of power leaves of the drive of a flushed disk is found again. A flush that is done makes it so, a session
-/// keeps it so, and a mount finds one of the arrays that the store says may be left.
+/// What a loss of power leaves of the drive of a flushed disk is found again. A flush that is done makes it so, a
+/// session keeps it so, and a mount finds one of the arrays that the store says may be left.
 pub fn loss_is_found()
     ensures flush { FlushIsSafe }
     ensures session { SessionKeepsSafe }

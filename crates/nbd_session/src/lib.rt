@@ -20,11 +20,12 @@
 //! * A request is done by one call of the disk, as a flat array does it, and then answered: by its error if it was
 //!   refused, with the blocks of a READ only if it was done. Or it is refused beforehand, and nothing is done: if it
 //!   is not aligned or past the end.
-//! * Requests that have come together may be done by one call: WRITEs and TRIMs that name no block twice, are permitted,
-//!   within the disk, and not to be durable (`ServesGroup`, `IsGroup`). Each is answered by its result, in their order.
-//!   Done, they leave what their blocks leave one by one (`laws::group_is_its_writes`).
+//! * Requests that have come together may be done by one call: WRITEs and TRIMs that name no block twice, are
+//!   permitted, within the disk, and not to be durable (`ServesGroup`, `IsGroup`). Each is answered by its result, in
+//!   their order. Done, they leave what their blocks leave one by one (`laws::group_is_its_writes`).
 //! * A refused call has its cause in the drive. After the drive has stopped each request that needs it is answered by
-//!   `ESHUTDOWN`. Where the drive failed at one command only what needed it is answered by `EIO`. The session continues.
+//!   `ESHUTDOWN`. Where the drive failed at one command only what needed it is answered by `EIO`. The session
+//!   continues.
 //! * A TRIM leaves records without data, and so does a WRITE_ZEROES that may leave a hole. One that may not, and a
 //!   WRITE, leave records with data. Each takes so many commands at most.
 //! * A FLUSH, and a write with FUA, is answered by success only after a completed sync: of the whole array, or of the
@@ -39,9 +40,9 @@
 //! * With the medium [`DriveFlush`] a sync is a Flush of the drive, and a loss of power leaves the array of the last
 //!   one: what it leaves can be mounted, and the mount finds it, however the session ends (`laws::loss_is_found`). Any
 //!   other medium's word stands for it.
-//! * After each request a store that cleans ([`ServeOptions::cleans`]) takes one turn of cleaning, and after a group one
-//!   for each of its requests. That changes no block, and adds no array that a loss of power may leave. Any other store
-//!   does nothing then.
+//! * After each request a store that cleans ([`ServeOptions::cleans`]) takes one turn of cleaning, and after a group
+//!   one for each of its requests. That changes no block, and adds no array that a loss of power may leave. Any other
+//!   store does nothing then.
 //! * Where the medium fails the request is answered by `EIO`, too. Nothing is done then, and nothing shown, unless the
 //!   request was to be durable: then its sync may have failed (`laws::failed_is_undone`). The medium of a
 //!   [`ServedDisk`] fails only in a sync. [`FailingStore`] is a store whose medium fails by chance, for tests.
@@ -64,18 +65,18 @@
 //! all replies before the first Read that lied. If the drive is clean at the end, the session is one of an honest store
 //! (`laws::clean_is_right`). Whatever the Reads returned:
 //!
-//! * What is read is a list of messages, and what is written are the replies to them, in order, or the session ends by a
-//!   fault. A reply has the cookie of its request, and bytes follow only where a READ is done (`RepliesAnyway`).
-//! * What is refused beforehand stays so: a request that is not aligned, and a change of a store that is read only. Requests
-//!   are done together by the same rules (`IsGroup`), and each is answered by the result of all.
-//! * What had to be durable is told as done only after a completed sync. No other call is counted as one, and no count is
-//!   forgotten.
-//! * The disk has the same shape and size. The store is read only, cleans, flushes, defers and fails as before, and nothing
-//!   is pending that is not deferred (`Stays`). A store that takes no turn does nothing between requests.
+//! * What is read is a list of messages, and what is written are the replies to them, in order, or the session ends by
+//!   a fault. A reply has the cookie of its request. Bytes follow only where a READ is done: as many as its blocks have
+//!   (`RepliesAnyway`).
+//! * What is refused beforehand stays so: a request that is not aligned, and a change of a store that is read only.
+//!   Requests are done together by the same rules (`IsGroup`), and each is answered by the result of all.
+//! * What had to be durable is told as done only after a completed sync. No other call is counted as one, and no count
+//!   is forgotten.
+//! * The disk has the same shape and size. The store is read only, cleans, flushes, defers and fails as before, and
+//!   nothing is pending that is not deferred (`Stays`). A store that takes no turn does nothing between requests.
 //!
 //! # What is not proved
 //!
-//! * How many bytes follow a READ that is done, once a Read lied. `AnyDisk` says it of its own reads.
 //! * That `Input` and `Output` come only if the reader or the writer failed, or `ENOMEM` only if an allocation failed.
 //! * What a medium keeps. With one that keeps each command, what a loss of power leaves says nothing of the medium.
 //! * In how many calls a [`FailingStore`] fails, that it counts them, and that it can spare syncs: `call_tests`.

@@ -1,7 +1,8 @@
 ghost use Rattle.std.specs.Prelude.{◌≡◌, [], IfErr, IfOk, OnOk, Ok, false, ⊤};
 ghost use Rattle.std.specs.Io.KnownBytes.{Keeps};
 ghost use Rattle.nbd_wire.specs.Transmission.{simple_reply_bytes};
-ghost use Rattle.nbd_session.specs.Requests.{AnswersAnyway, Carries, DoesOrNot, ForcesAnyway, SecuresAnyway, asked_of_store};
+ghost use Rattle.nbd_session.specs.Requests.{AnswersAnyway, Carries, DoesOrNot, ForcesAnyway, SecuresAnyway};
+ghost use Rattle.nbd_session.specs.Requests.{asked_of_store};
 ghost use Rattle.nbd_session.specs.Requests.{data_length};
 ghost use Rattle.nbd_session.specs.Session.{session};
 ghost use Rattle.nbd_session.specs.Store.{RestsAnyway};

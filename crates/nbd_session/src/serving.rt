@@ -90,8 +90,8 @@ fn with_next(most: Option<u64>, requests: u64, phase: Phase) -> Option<u64>
 
 /// Serves a disk over any device to one client, as [`serve_at_most`] does.
 ///
-/// Whatever the device's Reads return, each message has a reply, or the session ends by a fault. As long as they returned
-/// what it holds, the replies are those of `serve_at_most`: so are all before the first Read that lied.
+/// Whatever the device's Reads return, each message has a reply, or the session ends by a fault. As long as they
+/// returned what it holds, the replies are those of `serve_at_most`: so are all before the first Read that lied.
 pub fn serve_any_at_most<R: Client, W: Write, S: Store>(
     alloc: Global,
     reader: &mut R,
@@ -99,8 +99,8 @@ pub fn serve_any_at_most<R: Client, W: Write, S: Store>(
     store: &mut S,
     most: Option<u64>,
 ) -> Result<SessionEnd, SessionFault>
-    // The bytes that are read are messages, and those that are written are the replies to them: while the drive is clean
-    // those of this disk.
+    // The bytes that are read are messages, and those that are written are the replies to them: while the drive is
+    // clean those of this disk.
     ensures serves { ServesAtMostAs while_clean most
         (streams (R.remaining reader.old) (R.remaining reader.new) (W.contents writer.old) (W.contents writer.new))
         (session Phase.Greeting (S.view store.old)) result (S.view store.new) }
@@ -151,16 +151,16 @@ pub fn serve_at_most<R: Client, W: Write, S: HonestStore>(
 
 /// Serves a disk over any device to one client, as [`serve`] does.
 ///
-/// Whatever the device's Reads return, each message has a reply, or the session ends by a fault. As long as they returned
-/// what it holds, the replies are those of `serve`: so are all before the first Read that lied.
+/// Whatever the device's Reads return, each message has a reply, or the session ends by a fault. As long as they
+/// returned what it holds, the replies are those of `serve`: so are all before the first Read that lied.
 pub fn serve_any<R: Client, W: Write, S: Store>(
     alloc: Global,
     reader: &mut R,
     writer: &mut W,
     store: &mut S,
 ) -> Result<(), SessionFault>
-    // The bytes that are read are messages, and those that are written are the replies to them: while the drive is clean
-    // those of this disk.
+    // The bytes that are read are messages, and those that are written are the replies to them: while the drive is
+    // clean those of this disk.
     ensures serves { ServesAs while_clean
         (streams (R.remaining reader.old) (R.remaining reader.new) (W.contents writer.old) (W.contents writer.new))
         (session Phase.Greeting (S.view store.old)) result (S.view store.new) }

@@ -1,4 +1,5 @@
-ghost use Rattle.std.specs.Prelude.{◌≡◌, ◌*◌, ◌<◌, ◌≤◌, ◌^◌, [], IsTrue, OnErr, is_some, length, nat_eq};
+ghost use Rattle.std.specs.Prelude.{◌≡◌, ◌*◌, ◌<◌, ◌≤◌, ◌^◌, [], IsTrue, OnErr, OnOk, is_some, length};
+ghost use Rattle.std.specs.Prelude.{nat_eq};
 ghost use Rattle.std.specs.List.{IsDistinct};
 ghost use Rattle.batch_log.specs.Log.{data_count};
 ghost use Rattle.zone_translator.specs.Answers.{AreBlocksOf, count_of_blocks};
@@ -42,11 +43,13 @@ pub trait Store {
     fn is_read_only(&self) -> bool
         ensures { result ≡ (view self.now).read_only };
 
-    /// Shows `blocks` blocks from `first` on. `into` is empty after a fault.
+    /// Shows `blocks` blocks from `first` on. `into` has the bytes of as many blocks then, whatever the Reads returned.
+    /// It is empty after a fault.
     fn read(&mut self, first: u64, blocks: u64, into: &mut Vec<u8>) -> Result<(), StoreFault>
         ensures shows { IsTrue (view self.new).disk.drive.clean → OrFails
             (λ answer. Shows (view self.old) first blocks answer into.new.items (view self.new))
             ((into.new.items ≡ []) × Spares (view self.old) first blocks (view self.new)) result }
+        ensures whole { OnOk result (length into.new.items ≡ blocks * (view self.old).disk.drive.geometry.block) }
         ensures none { OnErr result (into.new.items ≡ []) }
         ensures stays { StaysByCall (view self.old) (view self.new) };
 
@@ -58,8 +61,8 @@ pub trait Store {
             (Spares (view self.old) first (count_of_blocks (view self.old).disk bytes.now) (view self.new)) result }
         ensures stays { StaysByCall (view self.old) (view self.new) };
 
-    /// How many blocks a list may name: as many as one batch. A store that defers, or whose medium may fail in any call,
-    /// takes no list.
+    /// How many blocks a list may name: as many as one batch. A store that defers, or whose medium may fail in any
+    /// call, takes no list.
     fn most_listed(&self) -> u64
         ensures { result ≡ most_listed (view self.now) };
 
@@ -95,7 +98,8 @@ pub trait Store {
     /// Makes `blocks` blocks from `first` on durable: after a loss of power they are found again. So a write with FUA
     /// does. Other blocks may stay pending.
     fn force(&mut self, first: u64, blocks: u64) -> Result<(), StoreFault>
-        ensures forces { IsTrue (view self.new).disk.drive.clean → ForcesBlocks first blocks (view self.old) result (view self.new) }
+        ensures forces { IsTrue (view self.new).disk.drive.clean
+            → ForcesBlocks first blocks (view self.old) result (view self.new) }
         ensures stays { StaysBySync (view self.old) result (view self.new) };
 
     /// What a store does once a request is answered, while its client does not wait: a turn of cleaning, if it cleans

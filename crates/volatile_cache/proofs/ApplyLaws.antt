@@ -19,10 +19,10 @@ use Rattle.nbd_session.specs.declared.fault.StoreFault.{StoreFault}
 use Rattle.nbd_session.specs.declared.fault.StoreFault.TheVariants.{Disk, Medium}
 use Rattle.volatile_cache.specs.Cache.{Applies, AreOf, Cache, FailsAfter, HasOutcomesOf, Keeps, Puts, PutsOrFails, Refuses, RefusesAfter, view_of}
 use Rattle.volatile_cache.specs.Outcomes.{Settles, cached, outcomes}
-use Rattle.volatile_cache.specs.Queue.{all_pending, bytes_of, is_trim, oldest_of, pending_of, without_oldest}
+use Rattle.volatile_cache.specs.Queue.{all_pending, bytes_of, is_trim, newest_of, oldest_of, pending_of, without_oldest}
 use Rattle.volatile_cache.specs.declared.kept.Kept.{Kept}
 use Rattle.volatile_cache.proofs.CacheLaws.{WroteBlock, applied_settles, either_front, force_some, kept_writes, may_more, not_none, over_some, refused_calls, settles_again, settles_same, sync_all}
-use Rattle.volatile_cache.proofs.KeptLaws.{oldest-place, oldest-splits, pending-around}
+use Rattle.volatile_cache.proofs.KeptLaws.{newest-splits, oldest-place, oldest-splits, pending-around}
 use Rattle.volatile_cache.proofs.OutcomeLaws.{outcome_some, pulled_some, replaced_one, some_outcome}
 use Rattle.volatile_cache.proofs.KeepLaws.{length_map}
 use Rattle.volatile_cache.proofs.SpareLaws.{settled_spares, spares_keeps, spares_longer, spares_over}
@@ -154,6 +154,10 @@ IsOf below k = (k.place < disk_size below.disk) × (length (bytes_of k.content) 
 -- so is the oldest of a place
 pub oldest_is_of : (below : StoreView) (place : ℕ) (kept : List Kept) (k : Kept) → oldest_of place kept ≡ Some k → AreOf below kept → IsOf below k
 oldest_is_of below place kept k found are = let s = oldest-splits place kept k found in (all-middle (IsOf below) s.older s.newer k (rw s.kept_are at are)).0
+
+-- so is the newest
+pub newest_is_of : (below : StoreView) (place : ℕ) (kept : List Kept) (k : Kept) → newest_of place kept ≡ Some k → AreOf below kept → IsOf below k
+newest_is_of below place kept k found are = let s = newest-splits place kept k found in (all-middle (IsOf below) s.older s.newer k (rw s.kept_are at are)).0
 
 -- and the others
 pub others_are_of : (below : StoreView) (place : ℕ) (kept : List Kept) (k : Kept) → oldest_of place kept ≡ Some k → AreOf below kept → AreOf below (without_oldest place kept)

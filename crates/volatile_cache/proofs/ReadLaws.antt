@@ -3,6 +3,7 @@ use Rattle.std.proofs.Common.{◌≡◌, ◌≢◌, ◌∙◌, ℕ, zero, suc, �
 use Rattle.std.specs.Prelude.{◌⊎◌, IfErr, IsErrAnd, IsSome, MatchOption, Option, Result}
 use Rattle.std.specs.Option.{unwrap_or}
 use Rattle.std.specs.List.{concat}
+use Rattle.std.proofs.lemmas.List.{length-append}
 use Rattle.std.proofs.lemmas.List.Folds.{concat-append}
 use Rattle.zone_translator.proofs.DiskLaws.{kept-join}
 use Rattle.zone_translator.proofs.KeepingLaws.{keeps_again, keeps_same}
@@ -479,3 +480,27 @@ pub shows_failed : (a b c : StoreView) (first at end : ℕ) (into shown shown' :
     → ShowsUpTo a first at into b → ReadsPiece b at end (Err fault) shown shown' c → ReadGives a first (end - first) [] (Err fault) c
 shows_failed a b c first at end into shown shown' (Disk fault) known from less some x f = shows_none a b c first at end into fault known from less x f
 shows_failed a b c first at end into shown shown' Medium known from less some x f = (refl, spares_after a b c first at end into known from less some x f)
+
+-- ---- whatever the Reads returned
+
+-- a piece has the bytes of its blocks
+pub piece_whole : (n block : ℕ) (old piece new : List ℕ) → length piece ≡ n * block → new ≡ old ++ piece → length new ≡ length old + n * block
+piece_whole n block old piece new whole is = rw is (length-append old piece ∙ ap (λ (k : ℕ). length old + k) whole)
+
+-- so has a block that is pending
+pub pending_whole : (at block : ℕ) (old bytes new : List ℕ) → length bytes ≡ block → new ≡ old ++ bytes → length new ≡ length old + (at + 1 - at) * block
+pending_whole at block old bytes new whole is =
+    let one : at + 1 - at ≡ 1 = omega arith in
+    rw one (piece_whole 1 block old bytes new (omega (arith, whole)) is)
+
+-- and so have the pieces up to a block, and one more
+pub pieces_whole : (first at next block block' : ℕ) (old new : List ℕ) → first ≤ at → at < next → block' ≡ block → length old ≡ (at - first) * block → length new ≡ length old + (next - at) * block' → length new ≡ (next - first) * block
+pieces_whole first at next block block' old new from less same was more =
+    let sum : next - first ≡ (at - first) + (next - at) = omega (arith, from, less) in
+    rw (sum, add-mul (at - first) (next - at) block) (rw (same, was) at more)
+
+-- before the first one nothing is shown
+pub none_shown : (first block : ℕ) (shown : List ℕ) → shown ≡ [] → length shown ≡ (first - first) * block
+none_shown first block shown none =
+    let zero : first - first ≡ 0 = omega arith in
+    rw (none, zero) (omega arith)

@@ -62,7 +62,8 @@ impl<S: Store + Drop> VolatileCache<S> {
 
     /// Makes blocks durable. The pending blocks of other places stay so.
     fn force_blocks(&mut self, first: u64, blocks: u64) -> Result<(), StoreFault>
-        ensures forces { IsTrue (S.view self.new.store).disk.drive.clean → ForcesBlocks first blocks (view_of S.view self.old) result (view_of S.view self.new) }
+        ensures forces { IsTrue (S.view self.new.store).disk.drive.clean
+            → ForcesBlocks first blocks (view_of S.view self.old) result (view_of S.view self.new) }
         ensures others { LeavesOthers first blocks self.old self.new }
         ensures stays { StaysBySync (S.view self.old.store) result (S.view self.new.store) }
     {

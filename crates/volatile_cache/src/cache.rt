@@ -1,4 +1,5 @@
-ghost use Rattle.std.specs.Prelude.{◌≡◌, ◌<◌, ◌≤◌, ◌+◌, ◌*◌, ◌∷◌, ◌++◌, [], IsTrue, OnErr, OnOk, drop, false, is_some, length, replicate};
+ghost use Rattle.std.specs.Prelude.{◌≡◌, ◌<◌, ◌≤◌, ◌+◌, ◌*◌, ◌∷◌, ◌++◌, [], IsTrue, OnErr, OnOk, drop, false, is_some};
+ghost use Rattle.std.specs.Prelude.{length, replicate};
 ghost use Rattle.std.specs.Prelude.{slice_get};
 ghost use Rattle.batch_log.specs.Log.{zero_block};
 ghost use Rattle.drive_port.specs.Calls.{data_blocks};

@@ -18,7 +18,8 @@ pub struct Lost {
 impl<S: Store + Drop> VolatileCache<S> {
     /// The power fails, as [`cut`](VolatileCache::cut) says, over any device.
     pub fn cut_any(&mut self, seed: u64, odds: u32) -> Result<Lost, StoreFault>
-        ensures cuts { IsTrue (S.view self.new.store).disk.drive.clean → Cuts S.view seed odds self.old result self.new }
+        ensures cuts { IsTrue (S.view self.new.store).disk.drive.clean
+            → Cuts S.view seed odds self.old result self.new }
         ensures anyway { CutsAnyway S.view seed odds self.old result self.new }
     {
         let mut coins = SplitMix64::seed_from_u64(seed);

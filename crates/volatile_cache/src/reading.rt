@@ -1,4 +1,4 @@
-ghost use Rattle.std.specs.Prelude.{◌≡◌, ◌<◌, ◌≤◌, ◌-◌, [], IfOk, IsTrue, None, OnErr, false, length};
+ghost use Rattle.std.specs.Prelude.{◌≡◌, ◌<◌, ◌≤◌, ◌+◌, ◌-◌, ◌*◌, [], IfOk, IsTrue, None, OnErr, OnOk, false, length};
 ghost use Rattle.zone_translator.specs.Flat.{known_range};
 ghost use Rattle.nbd_session.specs.Pending.{AreApart};
 ghost use Rattle.nbd_session.specs.Store.{OrFails, Shows, Spares, StaysByCall, store_flat};
@@ -31,6 +31,8 @@ impl<S: Store + Drop> VolatileCache<S> {
         ensures reads { IsTrue (S.view self.new.store).disk.drive.clean
             → ReadsPiece (view_of S.view self.old) at end result into.old.items into.new.items (view_of S.view self.new) }
         ensures some { IfOk result (λ next. (at < next) × (next ≤ end)) }
+        ensures whole { IfOk result (λ next. length into.new.items
+            ≡ length into.old.items + (next - at) * (S.view self.old.store).disk.drive.geometry.block) }
         ensures kept { self.new.kept ≡ self.old.kept }
         ensures stays { StaysByCall (S.view self.old.store) (S.view self.new.store) }
     {
@@ -65,6 +67,7 @@ impl<S: Store + Drop> VolatileCache<S> {
         ensures shows { IsTrue (S.view self.new.store).disk.drive.clean → OrFails
             (λ answer. Shows (view_of S.view self.old) first (end - first) answer into.new.items (view_of S.view self.new))
             ((into.new.items ≡ []) × Spares (view_of S.view self.old) first (end - first) (view_of S.view self.new)) result }
+        ensures whole { OnOk result (length into.new.items ≡ (end - first) * (S.view self.old.store).disk.drive.geometry.block) }
         ensures none { OnErr result (into.new.items ≡ []) }
         ensures stays { StaysByCall (S.view self.old.store) (S.view self.new.store) }
     {

@@ -25,9 +25,9 @@ show_blocks-requires-clause-in_range g c =
 pub returns-then-is_past_end-clause-form : goal.returns-then-is_past_end-clause-form
 returns-then-is_past_end-clause-form g c =
     let told : c.out_of_range_reply.new.out.items ≡ c.args.reply.now.items ++ out_of_range_text = search rules in
-    past_form c.args.first c.args.blocks c.args.reply.now.items c.out_of_range_reply.new.out.items c.requires.empty told
+    past_form c.args.disk.now.drive.geometry.block c.args.first c.args.blocks c.args.reply.now.items c.out_of_range_reply.new.out.items c.requires.empty told
 
 pub returns-clause-form : goal.returns-clause-form
 returns-clause-form g c =
     let told : c.ok_reply.new.out.items ≡ c.show_blocks.new.reply.items ++ ok_text = search rules in
-    read_form c.args.first c.args.blocks c.args.reply.now.items c.show_blocks.new.reply.items c.ok_reply.new.out.items c.requires.empty c.in_ok-show_blocks.ensures.form told
+    read_form c.args.disk.now.drive.geometry.block c.args.first c.args.blocks c.args.reply.now.items c.show_blocks.new.reply.items c.ok_reply.new.out.items c.requires.empty c.in_ok-show_blocks.ensures.form told

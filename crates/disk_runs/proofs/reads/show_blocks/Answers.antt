@@ -1,8 +1,9 @@
-use Rattle.std.proofs.Common.{ℕ, ◌+◌, ◌∙◌, [], append-nil, refl, subst, sym, arith}
+use Rattle.std.proofs.Common.{ℕ, ◌+◌, ◌∙◌, [], ap, append-nil, refl, subst, sym, arith}
 use Rattle.std.specs.Prelude.{IsTrue}
+use Rattle.zone_states.specs.declared.geometry.Geometry.{Geometry}
 use Rattle.zone_translator.proofs.KeepingLaws.{keeps_again, keeps_call, keeps_same}
 use Rattle.zone_translator.specs.View.{disk_array, disk_size, flat_of}
-use Rattle.disk_runs.proofs.CallLaws.{ShowsBlock, block_refused, block_shown, cause_of, line_more, puts_more, reads_more, reads_within}
+use Rattle.disk_runs.proofs.CallLaws.{ShowsBlock, block_refused, block_shown, cause_of, line_more, one_whole, puts_more, reads_more, reads_within}
 use Rattle.disk_runs.specs.AnyDevice.{PutsLines}
 use Rattle.disk_runs.specs.KeepingLaws.{reads_none}
 use Rattle.disk_runs.proofs.ShapeLaws.{alike_join, alike_same}
@@ -35,7 +36,8 @@ loop-i-preserved g c =
           (sym (c.requires.array (first (was clean)) (shows clean).serves)) (omega (arith, c.loop-i-test.true)) c.requires.in_range (c.deref.ensures.value ∙ (shows clean).bytes_are) (c.loop-i.invariant.4 (was clean)) c.in_ok-block_line.ensures.ok,
       λ clean. (c.read.ensures.answers clean).durable ∙ c.loop-i.invariant.5 (was clean),
       alike_join c.args.disk.now c.loop-i.disk c.read.new.self c.loop-i.invariant.6 c.read.ensures.alike,
-      puts_more c.args.first c.loop-i.i c.args.reply.now.items c.loop-i.reply.items c.block_line.new.out.items c.deref.result.now c.loop-i.invariant.7 c.in_ok-block_line.ensures.ok,
+      puts_more c.args.disk.now.drive.geometry.block c.args.first c.loop-i.i c.args.reply.now.items c.loop-i.reply.items c.block_line.new.out.items c.deref.result.now c.loop-i.invariant.7
+          (one_whole _ _ c.read.new.into.items c.deref.result.now c.in_default.ensures.whole (ap (λ (geometry : Geometry). geometry.block) c.loop-i.invariant.6.shape.geometry) c.deref.ensures.value) c.in_ok-block_line.ensures.ok,
     )
 
 pub returns-in-Err-clause-costs : goal.returns-in-Err-clause-costs
@@ -66,9 +68,9 @@ loop-i-init g c = (
   λ clean. sym (append-nil c.args.reply.now.items),
   λ clean. refl,
   alike_same c.args.disk.now,
-  record { shown = []; long = refl; after_is = sym (append-nil c.args.reply.now.items) },
+  record { shown = []; long = refl; whole = tt; after_is = sym (append-nil c.args.reply.now.items) },
 )
 
 pub returns-clause-form : goal.returns-clause-form
 returns-clause-form g c =
-    subst (λ (n : ℕ). PutsLines c.args.first n c.args.reply.now.items c.loop-i.reply.items) (omega (arith, c.loop-i.auto.i-end, c.loop-i-test.false)) c.loop-i.invariant.7
+    subst (λ (n : ℕ). PutsLines c.args.disk.now.drive.geometry.block c.args.first n c.args.reply.now.items c.loop-i.reply.items) (omega (arith, c.loop-i.auto.i-end, c.loop-i-test.false)) c.loop-i.invariant.7

@@ -15,4 +15,4 @@ invariant-loop-i g l =
     × (IsTrue l.disk.drive.clean → KeepsServed l.fn.disk l.disk) × ReadsFew l.i l.fn.disk l.disk
     × (IsTrue l.disk.drive.clean → l.reply.items ≡ l.fn.reply.items ++ block_lines l.first (blocks_from (disk_array l.fn.disk) l.first l.i))
     × (IsTrue l.disk.drive.clean → l.disk.drive.durable ≡ l.fn.disk.drive.durable) × StaysAlike l.fn.disk l.disk
-    × PutsLines l.first l.i l.fn.reply.items l.reply.items
+    × PutsLines l.fn.disk.drive.geometry.block l.first l.i l.fn.reply.items l.reply.items

@@ -2,8 +2,9 @@ use Rattle.std.proofs.Common.{false, refl, true}
 use Rattle.disk_files.specs.declared.trace_line.TraceLine.TheVariants.{Fill, Grow, Idle, Trim, Write}
 use Rattle.zone_translator.specs.View.{flat_of}
 use Rattle.disk_runs.specs.FlatLines.{turns}
-use Rattle.disk_runs.proofs.AnyLaws.{grown, remount_form, told_form}
-use Rattle.disk_runs.proofs.RequestLaws.{growth_done, grows_once, never_memory, not_memory, of_disk, on-ok, read_stops, remount_stops, stops_by, told, turns_told, whenever, write_done, writes_once}
+use Rattle.disk_runs.proofs.AnyLaws.{grown, remount_form, stays_alike, told_form}
+use Rattle.disk_runs.proofs.RequestLaws.{growth_done, grows_once, never_memory, not_memory, of_disk}
+use Rattle.disk_runs.proofs.RequestLaws.{on-ok, read_stops, remount_stops, stops_by, told, turns_told, whenever, write_done, writes_once}
 use Rattle.disk_runs.proofs.requests.answer_request.Goals as goal
 
 pub returns-in-Idle-clause-ok : goal.returns-in-Idle-clause-ok
@@ -102,28 +103,28 @@ returns-in-Grow-clause-kind g c = of_disk c.grow.result c.tell-in-Grow.result c.
 
 pub returns-in-Idle-clause-stays : goal.returns-in-Idle-clause-stays
 returns-in-Idle-clause-stays g c =
-    rw c.in-Idle.is (record { shape = c.clean.ensures.alike.shape; size = c.clean.ensures.alike.size; completed = λ none. c.clean.ensures.completed })
+    rw c.in-Idle.is (stays_alike _ _ _ c.clean.ensures.alike (λ same. same) c.clean.ensures.completed)
 
 pub returns-in-Idle-clause-memory : goal.returns-in-Idle-clause-memory
 returns-in-Idle-clause-memory g c = not_memory c.clean.result c.tell-in-Idle.result _ c.tell-in-Idle.ensures.err
 
 pub returns-in-Fill-clause-stays : goal.returns-in-Fill-clause-stays
 returns-in-Fill-clause-stays g c =
-    rw c.in-Fill.is (record { shape = c.fill.ensures.alike.shape; size = c.fill.ensures.alike.size; completed = λ none. c.fill.ensures.completed })
+    rw c.in-Fill.is (stays_alike _ _ _ c.fill.ensures.alike (λ same. same) c.fill.ensures.completed)
 
 pub returns-in-Fill-clause-memory : goal.returns-in-Fill-clause-memory
 returns-in-Fill-clause-memory g c = not_memory c.fill.result c.tell.result _ c.tell.ensures.err
 
 pub returns-in-Trim-clause-stays : goal.returns-in-Trim-clause-stays
 returns-in-Trim-clause-stays g c =
-    rw c.in-Trim.is (record { shape = c.trim.ensures.alike.shape; size = c.trim.ensures.alike.size; completed = λ none. c.trim.ensures.completed })
+    rw c.in-Trim.is (stays_alike _ _ _ c.trim.ensures.alike (λ same. same) c.trim.ensures.completed)
 
 pub returns-in-Trim-clause-memory : goal.returns-in-Trim-clause-memory
 returns-in-Trim-clause-memory g c = not_memory c.trim.result c.tell-in-Trim.result _ c.tell-in-Trim.ensures.err
 
 pub returns-in-Write-clause-stays : goal.returns-in-Write-clause-stays
 returns-in-Write-clause-stays g c =
-    rw c.in-Write.is (record { shape = c.write.ensures.alike.shape; size = c.write.ensures.alike.size; completed = λ none. c.write.ensures.completed })
+    rw c.in-Write.is (stays_alike _ _ _ c.write.ensures.alike (λ same. same) c.write.ensures.completed)
 
 pub returns-in-Write-clause-memory : goal.returns-in-Write-clause-memory
 returns-in-Write-clause-memory g c = not_memory c.write.result c.tell-in-Write.result _ c.tell-in-Write.ensures.err
@@ -143,7 +144,7 @@ returns-in-Grow-clause-memory g c = not_memory c.grow.result c.tell-in-Grow.resu
 pub returns-in-Read-clause-stays : goal.returns-in-Read-clause-stays
 returns-in-Read-clause-stays g c =
     let read = c.read_blocks.ensures in
-    rw c.in-Read.is (record { shape = read.alike.shape; size = read.alike.size; completed = λ none. read.costs.completed })
+    rw c.in-Read.is (stays_alike _ _ _ read.alike (λ same. same) read.costs.completed)
 
 pub returns-in-Read-clause-memory : goal.returns-in-Read-clause-memory
 returns-in-Read-clause-memory g c = whenever c.read_blocks.result _ (record { alike = c.read_blocks.ensures.alike; reads = c.read_blocks.ensures.few })
@@ -155,22 +156,22 @@ pub returns-in-Remount-clause-memory : goal.returns-in-Remount-clause-memory
 returns-in-Remount-clause-memory g c = never_memory c.mount_again.result _ c.mount_again.ensures.no_memory
 
 pub returns-in-Idle-clause-form : goal.returns-in-Idle-clause-form
-returns-in-Idle-clause-form g c = rw c.in-Idle.is (told_form (Idle c.in-Idle.turns) c.clean.result c.tell-in-Idle.result _ refl c.tell-in-Idle.ensures.ok)
+returns-in-Idle-clause-form g c = rw c.in-Idle.is (told_form c.args.disk.now.drive.geometry.block (Idle c.in-Idle.turns) c.clean.result c.tell-in-Idle.result _ refl c.tell-in-Idle.ensures.ok)
 
 pub returns-in-Fill-clause-form : goal.returns-in-Fill-clause-form
-returns-in-Fill-clause-form g c = rw c.in-Fill.is (told_form (Fill c.in-Fill.first c.in-Fill.blocks c.in-Fill.byte) c.fill.result c.tell.result _ refl c.tell.ensures.ok)
+returns-in-Fill-clause-form g c = rw c.in-Fill.is (told_form c.args.disk.now.drive.geometry.block (Fill c.in-Fill.first c.in-Fill.blocks c.in-Fill.byte) c.fill.result c.tell.result _ refl c.tell.ensures.ok)
 
 pub returns-in-Trim-clause-form : goal.returns-in-Trim-clause-form
-returns-in-Trim-clause-form g c = rw c.in-Trim.is (told_form (Trim c.in-Trim.first c.in-Trim.blocks) c.trim.result c.tell-in-Trim.result _ refl c.tell-in-Trim.ensures.ok)
+returns-in-Trim-clause-form g c = rw c.in-Trim.is (told_form c.args.disk.now.drive.geometry.block (Trim c.in-Trim.first c.in-Trim.blocks) c.trim.result c.tell-in-Trim.result _ refl c.tell-in-Trim.ensures.ok)
 
 pub returns-in-Write-clause-form : goal.returns-in-Write-clause-form
-returns-in-Write-clause-form g c = rw c.in-Write.is (told_form (Write c.in-Write.first) c.write.result c.tell-in-Write.result _ refl c.tell-in-Write.ensures.ok)
+returns-in-Write-clause-form g c = rw c.in-Write.is (told_form c.args.disk.now.drive.geometry.block (Write c.in-Write.first) c.write.result c.tell-in-Write.result _ refl c.tell-in-Write.ensures.ok)
 
 pub returns-in-Grow-clause-form : goal.returns-in-Grow-clause-form
-returns-in-Grow-clause-form g c = rw c.in-Grow.is (told_form (Grow c.in-Grow.blocks) c.grow.result c.tell-in-Grow.result _ refl c.tell-in-Grow.ensures.ok)
+returns-in-Grow-clause-form g c = rw c.in-Grow.is (told_form c.args.disk.now.drive.geometry.block (Grow c.in-Grow.blocks) c.grow.result c.tell-in-Grow.result _ refl c.tell-in-Grow.ensures.ok)
 
 pub returns-in-Read-clause-form : goal.returns-in-Read-clause-form
 returns-in-Read-clause-form g c = rw c.in-Read.is c.read_blocks.ensures.form
 
 pub returns-in-Remount-clause-form : goal.returns-in-Remount-clause-form
-returns-in-Remount-clause-form g c = rw c.in-Remount.is (remount_form c.mount_again.result _ c.mount_again.ensures.form)
+returns-in-Remount-clause-form g c = rw c.in-Remount.is (remount_form c.args.disk.now.drive.geometry.block c.mount_again.result _ c.mount_again.ensures.form)

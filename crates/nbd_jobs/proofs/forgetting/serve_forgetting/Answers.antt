@@ -9,14 +9,17 @@ use Rattle.nbd_jobs.proofs.forgetting.serve_forgetting.Goals as goal
 pub returns : goal.returns
 returns g c =
     let view = g.S.Store.view in
-    let served = c.serve_at_most-ended.new.store in
+    let served = c.serve_any_at_most-ended.new.store in
     let cache = c.into_store-cache.result in
     let last = c.end_pending-lost.new.cache in
+    let made = c.failing_store-served.ensures in
+    let ends = c.end_pending-lost.ensures in
     rw c.into_store.ensures (
       nat_lt 0 served.odds,
       forgets-failing (fails_in_requests c.args.fail) (nat_lt 0 served.odds) c.args.forget _ (view c.args.store) (view cache.store) (view last.store) (all_pending cache.kept) _
-          (rw (c.failing_store-served.ensures.store, c.failing_store-served.ensures.odds, c.new-cache.ensures.store, c.new-cache.ensures.kept, ← c.into_store-cache.ensures) at c.serve_at_most-ended.ensures.serves)
-          (rw (c.failing_store-served.ensures.store, c.new-cache.ensures.store, ← c.into_store-cache.ensures) at c.serve_at_most-ended.ensures.keeps)
+          (rw (made.store, made.odds, c.new-cache.ensures.store, c.new-cache.ensures.kept, ← c.into_store-cache.ensures) at c.serve_any_at_most-ended.ensures.serves)
+          (rw (made.store, c.new-cache.ensures.store, ← c.into_store-cache.ensures) at c.serve_any_at_most-ended.ensures.keeps)
+          (rw (made.store, made.odds, c.new-cache.ensures.store, c.new-cache.ensures.kept, ← c.into_store-cache.ensures) at c.serve_any_at_most-ended.ensures.stays)
           (c.pending-pending.ensures.count ∙ sym (length_map cache.kept))
-          c.end_pending-lost.ensures.leaves c.end_pending-lost.ensures.kept c.end_pending-lost.ensures.mode,
+          ends.leaves ends.kept ends.lost ends.stays,
     )

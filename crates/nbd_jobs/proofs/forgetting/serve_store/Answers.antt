@@ -5,11 +5,15 @@ use Rattle.nbd_jobs.proofs.forgetting.serve_store.Goals as goal
 pub returns-in_default : goal.returns-in_default
 returns-in_default g c =
     let made = c.failing_store-served.ensures in
+    let served = c.serve_any-result.ensures in
     rw (c.in_default.is, c.into_store.ensures) (
-      nat_lt 0 c.serve-result.new.store.odds,
+      nat_lt 0 c.serve_any-result.new.store.odds,
       (
-        rw (made.store, made.odds) at c.serve-result.ensures.serves,
-        rw made.store at c.serve-result.ensures.keeps,
+        record {
+          serves = rw (made.store, made.odds) at served.serves;
+          kept = rw made.store at served.keeps;
+          stays = rw (made.store, made.odds) at served.stays;
+        },
         refl,
       ),
     )

@@ -1,16 +1,9 @@
-use Rattle.std.proofs.Common.{ap}
-use Rattle.drive_port.specs.Drive.{DriveState}
-use Rattle.drive_port.specs.Stop.{drive_of}
+use Rattle.nbd_jobs.proofs.SessionLaws.{job-while_clean}
 use Rattle.nbd_jobs.proofs.serving.serve_stopping.Goals as goal
 
 pub returns-clause-serves : goal.returns-clause-serves
-returns-clause-serves g c = record {
-  seen = drive_of c.serve_counted-ended.result.device;
-  serves = rw c.stopping.ensures at c.serve_counted-ended.ensures.serves;
-  geometry = ap (λ (d : DriveState). d.geometry) c.into_inner.ensures;
-  zones = ap (λ (d : DriveState). d.zones) c.into_inner.ensures;
-  durable = ap (λ (d : DriveState). d.durable) c.into_inner.ensures;
-}
+returns-clause-serves g c =
+    job-while_clean c.args.kept.read_only c.args.job.now _ _ _ c.serve_any_stopping-ended.result.told.result c.serve_any_stopping-ended.result.told.forgotten _ c.serve_any_stopping-ended.ensures.serves c.vouch.ensures
 
 pub returns-clause-tells : goal.returns-clause-tells
-returns-clause-tells g c = rw c.stopping.ensures at c.serve_counted-ended.ensures.tells
+returns-clause-tells g c = c.serve_any_stopping-ended.ensures.tells c.vouch.ensures

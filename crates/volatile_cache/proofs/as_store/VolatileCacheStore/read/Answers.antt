@@ -1,4 +1,4 @@
-use Rattle.std.proofs.Common.{◌≡◌, ◌∙◌, refl, rules, sym, None}
+use Rattle.std.proofs.Common.{◌≡◌, ◌∙◌, ◌+◌, ◌-◌, arith, refl, rules, sym, None}
 use Rattle.nbd_session.specs.Pending.{AreApart}
 use Rattle.nbd_session.specs.Store.{store_flat}
 use Rattle.zone_translator.specs.Flat.{known_range}
@@ -39,3 +39,11 @@ returns-clause-stays g c =
     let old = c.args.self.now in
     let new = c.read_pieces.new.self in
     calls_cached (g.S.Store.view old.store) (g.S.Store.view new.store) (all_pending old.kept) (all_pending new.kept) c.read_pieces.ensures.stays
+
+pub returns-then-is_known-clause-whole : goal.returns-then-is_known-clause-whole
+returns-then-is_known-clause-whole g c = rw (← c.self.view_is) c.read.ensures.whole
+
+pub returns-clause-whole : goal.returns-clause-whole
+returns-clause-whole g c =
+    let count : c.args.first + c.args.blocks - c.args.first ≡ c.args.blocks = omega arith in
+    rw count at c.read_pieces.ensures.whole

@@ -4,7 +4,8 @@ use Rattle.nbd_session.specs.Store.{store_flat}
 use Rattle.zone_translator.specs.Flat.{known_range}
 use Rattle.volatile_cache.specs.Outcomes.{cached}
 use Rattle.volatile_cache.specs.Queue.{all_pending, bytes_of, newest_of}
-use Rattle.volatile_cache.proofs.ReadLaws.{clear_failed, clear_shown, clear_to, clear_unshown, failed_piece, pending_shown, pending_unshown, piece_pending}
+use Rattle.volatile_cache.proofs.ApplyLaws.{newest_is_of}
+use Rattle.volatile_cache.proofs.ReadLaws.{clear_failed, clear_shown, clear_to, clear_unshown, failed_piece, pending_shown, pending_unshown, pending_whole, piece_pending, piece_whole}
 use Rattle.volatile_cache.proofs.StayLaws.{stays_are_of}
 use Rattle.volatile_cache.proofs.cache.VolatileCache.read_piece.Goals.{in-Ok, in-Err}
 use Rattle.volatile_cache.proofs.cache.VolatileCache.read_piece.Goals as goal
@@ -87,3 +88,21 @@ returns-in-Ok-extend_from_slice-clause-some g c =
     let none : newest_of c.args.at kept ≡ None = sym c.newest_of.ensures ∙ ap option_copied c.in_default.is in
     let clear = clear_to kept c.args.at c.args.end c.min-next.result c.place_from.result c.place_from.ensures none c.requires.some (rw c.unwrap_or.ensures at c.min-next.ensures) in
     (clear.some, clear.within)
+
+-- a block that is pending is a whole one
+pub returns-in-Some-clause-whole : goal.returns-in-Some-clause-whole
+returns-in-Some-clause-whole g c =
+    let below = g.S.Store.view c.self.inside.store in
+    let kept = c.self.inside.queue in
+    let found : newest_of c.args.at kept ≡ Some c.in-Some.kept.now = sym c.newest_of.ensures ∙ ap option_copied c.in-Some.is in
+    let is = newest_is_of below c.args.at kept c.in-Some.kept.now found c.self.invariant.0 in
+    rw (← c.self.view_is) (elim c.match-show.branch [
+      | in-Ok w ↦ rw w.result-is (pending_whole c.args.at below.disk.drive.geometry.block c.args.into.now.items (bytes_of c.in-Some.kept.now.content) c.show.new.into.items is.1 (rw w.in-Ok.is at c.show.ensures))
+      | in-Err w ↦ rw w.result-is tt
+    ])
+
+pub returns-in-Ok-extend_from_slice-clause-whole : goal.returns-in-Ok-extend_from_slice-clause-whole
+returns-in-Ok-extend_from_slice-clause-whole g c =
+    rw (← c.self.view_is)
+    (piece_whole (c.min-next.result - c.args.at) _ c.args.into.now.items c.read.new.into.items c.extend_from_slice.new.self.items c.in_ok-read.ensures.whole
+    (rw (c.in-Ok-extend_from_slice.is, c.deref.ensures.value) at c.extend_from_slice.ensures.items))
