@@ -69,8 +69,8 @@ unusable-before old new zone kept is =
 
 -- ---- faults
 
-written-before : (old middle : DriveState) (written : Written) → KeepsZones old middle → IsWritten middle written → IsWritten old written
-written-before old middle written kept so = record {
+written-before : (old middle new : DriveState) (written : Written) → KeepsZones old middle → IsWritten middle new written → IsWritten old new written
+written-before old middle new written kept so = record {
   count = so.count ∙ ap count (kept-contents old middle kept);
   some = so.some;
   seen = so.seen;
@@ -83,7 +83,7 @@ written-before old middle written kept so = record {
 
 -- why a drive is not formatted that was looked at before
 pub unformatted-before : (force : Bool) (old middle new : DriveState) (fault : FormatFault) → KeepsZones old middle → IsUnformatted force middle new fault → IsUnformatted force old new fault
-unformatted-before force old middle new (faults.Written written) kept so = (so.0, written-before old middle written kept so.1)
+unformatted-before force old middle new (faults.Written written) kept so = (so.0, written-before old middle new written kept so.1)
 unformatted-before force old middle new (faults.Unusable zone) kept so = (unusable-before old middle zone kept so.0, keeps-both old middle new kept so.1)
 unformatted-before force old middle new faults.Untold kept so = (so.0, keeps-both old middle new kept so.1)
 unformatted-before force old middle new (faults.Reset zone cause) kept so = so

@@ -6,8 +6,8 @@ use Rattle.tool_jobs.specs.declared.showing.ZonesForm.TheVariants.{Lines, Brief,
 use Rattle.device_jobs.specs.Shown.{IsLiveFor}
 
 -- where no picture is drawn, no live blocks are looked for
-pub no-live : (form : ZonesForm) (drive : DriveState) (live : List ℕ) → form ≢ Svg → live ≡ [] → IsLiveFor form drive live
-no-live (Lines state) drive live other none = none
-no-live Brief drive live other none = none
-no-live (Json state) drive live other none = none
-no-live Svg drive live other none = absurd (other refl)
+pub no-live : (form : ZonesForm) (drive last : DriveState) (live : List ℕ) → form ≢ Svg → live ≡ [] → IsLiveFor form drive last live
+no-live (Lines state) drive last live other none = none
+no-live Brief drive last live other none = none
+no-live (Json state) drive last live other none = none
+no-live Svg drive last live other none = absurd (other refl)

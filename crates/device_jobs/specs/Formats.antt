@@ -90,7 +90,7 @@ IsUnsaid fault = ⊥
 
 -- Without force it holds something. A zone is reset with force alone, and only after it was told what is lost.
 abbrev pub IsUnformatted : Bool → DriveState → DriveState → FormatFault → Type 0
-IsUnformatted force old new (faults.Written written) = (force ≡ false) × IsWritten old written
+IsUnformatted force old new (faults.Written written) = (force ≡ false) × IsWritten old new written
 IsUnformatted force old new (faults.Unusable zone) = IsUnusableAt old zone × KeepsZones old new
 IsUnformatted force old new faults.Untold = (force ≡ true) × KeepsZones old new
 IsUnformatted force old new (faults.Reset zone cause) = (force ≡ true) × AreEmptyBelow zone new

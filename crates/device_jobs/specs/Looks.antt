@@ -8,8 +8,8 @@ use Rattle.tool_jobs.specs.declared.fault.ToolFault.{ToolFault}
 use Rattle.tool_jobs.specs.declared.fault.ToolFault.TheVariants.{Memory, Failed, Stopped}
 
 -- these are all faults of the drive, and this is whether a mount of it would be done
-abbrev pub AreFindingsOf : DriveState → ℕ → Bool → Findings → Type 0
-AreFindingsOf drive blocks mountable findings = AreFindings drive blocks findings × (mountable ≡ is_none findings.refusal)
+abbrev pub AreFindingsOf : DriveState → DriveState → ℕ → Bool → Findings → Type 0
+AreFindingsOf drive last blocks mountable findings = AreFindings drive last blocks findings × (mountable ≡ is_none findings.refusal)
 
 -- why a drive was not asked to its end: memory ran out, or it has stopped, or failed at a command
 abbrev pub IsUnasked : DriveState → ToolFault → Type 0

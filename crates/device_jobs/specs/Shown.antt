@@ -19,16 +19,16 @@ abbrev pub zone_like : ReportedZone → Zone
 zone_like reported = record { state = reported.state; blocks = replicate reported.blocks [] }
 
 -- a picture shows the live blocks of a drive, and no other form does
-abbrev pub IsLiveFor : ZonesForm → DriveState → List ℕ → Type 0
-IsLiveFor Svg drive live = FindsLive drive live
-IsLiveFor form drive live = live ≡ []
+abbrev pub IsLiveFor : ZonesForm → DriveState → DriveState → List ℕ → Type 0
+IsLiveFor Svg drive last live = FindsLive drive last live
+IsLiveFor form drive last live = live ≡ []
 
 -- The zones of a drive were reported at a moment, and their live blocks were looked for after that.
-pub record IsShownDrive (form : ZonesForm) (old : DriveState) (shown : ShownDrive) : Type 0 where
+pub record IsShownDrive (form : ZonesForm) (old new : DriveState) (shown : ShownDrive) : Type 0 where
   pub middle : DriveState
   pub geometry : shown.geometry ≡ old.geometry
   pub reported : ReportsZones old shown.zones.items middle
-  pub live : IsLiveFor form middle shown.live.items
+  pub live : IsLiveFor form middle new shown.live.items
 
 -- the text of a form, for the zones as they were reported
 abbrev pub ShowsDrive : ZonesForm → ShownDrive → List ℕ → Type 0

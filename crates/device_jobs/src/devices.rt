@@ -82,8 +82,9 @@ pub trait Devices {
     /// Whether the program has a way to any device.
     ghost has_way: { Self → Bool };
 
-    /// Opens the device of this path, and makes its drive ready. The habit says which zones the drive closes by itself.
-    /// A real drive has its own, so a way to such drives ignores it.
+    /// Opens the device of this path, and makes its drive ready to be changed. A drive that says that it is write
+    /// protected is refused. The habit says which zones the drive closes by itself. A real drive has its own, so a way
+    /// to such drives ignores it.
     fn open(
         &self,
         alloc: Global,
@@ -93,7 +94,8 @@ pub trait Devices {
         ensures { has_way self.now ≡ false → HasNoWay result };
 
     /// Opens the device of this path to read it. A drive that stays in its file is left as it is there: what a mount
-    /// repairs is kept in memory, and is forgotten afterwards. A real drive is opened as [`Devices::open`] does it.
+    /// repairs is kept in memory, and is forgotten afterwards. A real drive is opened as [`Devices::open`] does it,
+    /// unless it is write protected: such a drive stays as it is, and a mount that has to change it fails.
     fn open_reader(
         &self,
         alloc: Global,
@@ -111,8 +113,8 @@ pub trait Devices {
         self.open_reader(alloc, path, Habit::Lazy)
     }
 
-    /// Opens the device of this path as a source of a rescue. It is only read, and a block that cannot be read is told as
-    /// such where the way can tell it.
+    /// Opens the device of this path as a source of a rescue. It is only read, and a block that cannot be read is told
+    /// as such where the way can tell it.
     fn open_source(&self, alloc: Global, path: &str) -> Result<Self::Source, DeviceFault>
         ensures { has_way self.now ≡ false → HasNoWay result };
 

@@ -78,6 +78,10 @@ pub enum DeviceFault {
     /// More of its zones are active or open than may be.
     #[error("is refused: more zones are active or open than may be")]
     Limits,
+    /// It is a copy of a drive in its file, made while a program had that, or after a kill or a loss of power.
+    #[error("is a copy of a drive that was in use, and may have parts of different moments: copy the drive at rest, or \
+        export it. After a kill or a loss of power use the drive once before. If it is gone, rescue reads this copy")]
+    Copied,
     /// It is a folder, a device or a pipe.
     #[error("is not a regular file")]
     NotRegular,

@@ -57,7 +57,7 @@ fn unlooked(fault: ToolFault) -> FormatFault
 
 /// What is in the zones of a drive.
 fn find_holding<D: Device + Honest>(alloc: Global, device: &mut D) -> Result<Holding, FormatFault>
-    ensures ok { IfOk result (IsHolding (D.drive device.old)) }
+    ensures ok { IfOk result (IsHolding (D.drive device.old) (D.drive device.new)) }
     ensures err { IfErr result (IsUnlooked (D.drive device.new)) }
     ensures kept { KeepsZones (D.drive device.old) (D.drive device.new) }
 {

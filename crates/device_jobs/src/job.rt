@@ -24,8 +24,8 @@ pub struct DeviceRun {
     pub stop: Stop,
     /// Which zones the drive closes by itself. A real drive has its own habit.
     pub habit: Habit,
-    /// Which lines are taken, and whether the drive is flushed after each that changes it. Of a real drive all are taken,
-    /// and it is flushed at the end.
+    /// Which lines are taken, and whether the drive is flushed after each that changes it. Of a real drive all are
+    /// taken, and it is flushed at the end.
     pub takes: Taking,
     /// Whether people are told how many lines were read.
     pub progress: bool,

@@ -1,4 +1,5 @@
-// What the drive behind a device holds, and what it can hold. No zone is changed, but that the controller may close some.
+// What the drive behind a device holds, and what it can hold. No zone is changed, but that the controller may close
+// some.
 
 ghost use Rattle.std.specs.Prelude.{◌≡◌, IfErr, IfOk, OnOk};
 ghost use Rattle.drive_inspection.specs.Findings.{AreFindings};
@@ -22,7 +23,7 @@ fn find_faults<D: Device + Honest>(
     blocks: u64,
     device: &mut D,
 ) -> Result<Findings, ToolFault>
-    ensures ok { IfOk result (AreFindings (D.drive device.old) blocks) }
+    ensures ok { IfOk result (AreFindings (D.drive device.old) (D.drive device.new) blocks) }
     ensures err { IfErr result (IsUnasked (D.drive device.new)) }
     ensures kept { KeepsZones (D.drive device.old) (D.drive device.new) }
 {
@@ -43,10 +44,11 @@ pub fn check_device<D: Device + Honest, F: Form<Findings>, W: Write>(
     form: &F,
     output: &mut W,
 ) -> Result<bool, ToolFault>
-    ensures ok { IfOk result (λ mountable. TellsFound (AreFindingsOf (D.drive device.old) blocks mountable)
+    ensures ok { IfOk result (λ mountable. TellsFound
+        (AreFindingsOf (D.drive device.old) (D.drive device.new) blocks mountable)
         (F.shows form.now) (W.contents output.old) (W.contents output.new)) }
     ensures err { IfErr result (λ fault. TellsNothing (IsUnasked (D.drive device.new))
-        (AreFindings (D.drive device.old) blocks) (F.shows form.now) fault
+        (AreFindings (D.drive device.old) (D.drive device.new) blocks) (F.shows form.now) fault
         (W.contents output.old) (W.contents output.new)) }
     ensures kept { KeepsZones (D.drive device.old) (D.drive device.new) }
 {
@@ -60,7 +62,7 @@ pub(crate) fn look<D: Device + Honest>(
     alloc: Global,
     device: &mut D,
 ) -> Result<DriveInfo, ToolFault>
-    ensures ok { IfOk result (HoldsInfo (D.drive device.old)) }
+    ensures ok { IfOk result (HoldsInfo (D.drive device.old) (D.drive device.new)) }
     ensures err { IfErr result (IsUnasked (D.drive device.new)) }
     ensures kept { KeepsZones (D.drive device.old) (D.drive device.new) }
 {
@@ -81,10 +83,10 @@ pub fn inform_device<D: Device + Honest, F: Form<DriveInfo>, W: Write>(
     form: &F,
     output: &mut W,
 ) -> Result<(), ToolFault>
-    ensures ok { OnOk result (TellsFound (HoldsInfo (D.drive device.old)) (F.shows form.now)
-        (W.contents output.old) (W.contents output.new)) }
+    ensures ok { OnOk result (TellsFound (HoldsInfo (D.drive device.old) (D.drive device.new))
+        (F.shows form.now) (W.contents output.old) (W.contents output.new)) }
     ensures err { IfErr result (λ fault. TellsNothing (IsUnasked (D.drive device.new))
-        (HoldsInfo (D.drive device.old)) (F.shows form.now) fault
+        (HoldsInfo (D.drive device.old) (D.drive device.new)) (F.shows form.now) fault
         (W.contents output.old) (W.contents output.new)) }
     ensures kept { KeepsZones (D.drive device.old) (D.drive device.new) }
 {

@@ -40,8 +40,8 @@ pub struct ShownDrive {
     pub geometry: Geometry,
     /// As a report showed them. A Full zone counts as written in full, since a report does not say more of it.
     pub zones: Vec<ReportedZone>,
-    /// How many blocks of each zone are live, and have data. Empty if they were not asked for, or if the drive cannot be
-    /// mounted.
+    /// How many blocks of each zone are live, and have data. Empty if they were not asked for, or if the drive cannot
+    /// be mounted.
     pub live: Vec<u32>,
 }
 
@@ -51,7 +51,7 @@ fn live_for<D: Device + Honest>(
     form: ZonesForm,
     device: &mut D,
 ) -> Result<Vec<u32>, ToolFault>
-    ensures ok { IfOk result (λ live. IsLiveFor form (D.drive device.old) live.items) }
+    ensures ok { IfOk result (λ live. IsLiveFor form (D.drive device.old) (D.drive device.new) live.items) }
     ensures err { IfErr result (LooksNone (D.drive device.new)) }
     ensures kept { KeepsZones (D.drive device.old) (D.drive device.new) }
 {
@@ -68,7 +68,7 @@ fn find_shown<D: Device + Honest>(
     form: ZonesForm,
     device: &mut D,
 ) -> Result<ShownDrive, ToolFault>
-    ensures ok { IfOk result (IsShownDrive form (D.drive device.old)) }
+    ensures ok { IfOk result (IsShownDrive form (D.drive device.old) (D.drive device.new)) }
     ensures err { IfErr result (IsUnshown (D.drive device.old) (D.drive device.new)) }
     ensures kept { KeepsZones (D.drive device.old) (D.drive device.new) }
 {
@@ -105,18 +105,18 @@ impl Form<ShownDrive> for ZonesForm {
     }
 }
 
-/// Shows the zones of a drive, in another form than the lines of its report. No zone is changed, but that the controller
-/// may close some.
+/// Shows the zones of a drive, in another form than the lines of its report. No zone is changed, but that the
+/// controller may close some.
 pub fn show_zones<D: Device + Honest, W: Write>(
     alloc: Global,
     form: ZonesForm,
     device: &mut D,
     output: &mut W,
 ) -> Result<(), ToolFault>
-    ensures ok { OnOk result (TellsFound (IsShownDrive form (D.drive device.old)) (ShowsDrive form)
-        (W.contents output.old) (W.contents output.new)) }
+    ensures ok { OnOk result (TellsFound (IsShownDrive form (D.drive device.old) (D.drive device.new))
+        (ShowsDrive form) (W.contents output.old) (W.contents output.new)) }
     ensures err { IfErr result (λ fault. TellsNothing (IsUnshown (D.drive device.old) (D.drive device.new))
-        (IsShownDrive form (D.drive device.old)) (ShowsDrive form) fault
+        (IsShownDrive form (D.drive device.old) (D.drive device.new)) (ShowsDrive form) fault
         (W.contents output.old) (W.contents output.new)) }
     ensures kept { KeepsZones (D.drive device.old) (D.drive device.new) }
 {

@@ -42,7 +42,8 @@ MayReplace false held = HoldsNothing held
 pub record HoldsDrive (bytes : Known) (written : Written) : Type 0 where
   pub drive : DriveState
   pub is_read : IsReadIn bytes drive
-  pub is_written : IsWritten (restarted drive) written
+  pub last : DriveState
+  pub is_written : IsWritten (restarted drive) last written
 
 -- Why a file is not replaced without force: its drive has zones that are not Empty, or no drive is read in it. It may be that it was not looked at.
 abbrev pub IsHeld : Known → ProgramFault → Type 0

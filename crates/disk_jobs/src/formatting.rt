@@ -66,6 +66,7 @@ fn save_fresh<B: Backing>(drive: &Drive, file: &mut B) -> Result<Saved, FileFaul
 
 /// Replaces what a file holds by a fresh drive, and then says `ok`. `bytes` are those of the file. Without `force` the
 /// file has to hold nothing that is written: no byte, or a drive all of whose zones are Empty.
+#[tactic(auto, using(crate::proofs::FormattingLaws::ends_held))]
 pub fn format_file<I: Read, B: Backing, W: Write>(
     alloc: Global,
     force: bool,

@@ -1,6 +1,6 @@
 -- Which faults tell something of what a drive holds.
-use Rattle.std.proofs.Common.{◌≡◌, inl, inr, ℕ, Bool, true, false, List, [], ◌∷◌, Option, Some, None, subst}
-use Rattle.std.specs.Prelude.{◌^◌, nat_le, if◌then◌else◌}
+use Rattle.std.proofs.Common.{◌≡◌, inl, inr, ℕ, Bool, true, false, List, [], ◌∷◌, Option, Some, None, subst, sym}
+use Rattle.std.specs.Prelude.{◌^◌, nat_le, if◌then◌else◌, IsFalse}
 use Rattle.std.specs.List.{list_any}
 use Rattle.std.specs.Ordering.{nat_cmp}
 use Rattle.std.specs.BTreeSet.{insert_key}
@@ -11,10 +11,11 @@ use Rattle.drive_port.specs.Drive.{DriveState}
 use Rattle.batch_log.specs.Ending.{Ending, ended, failed, torn}
 use Rattle.batch_log.specs.Log.{Batch}
 use Rattle.drive_survey.specs.declared.fault.MountFault.{MountFault}
-use Rattle.drive_survey.specs.declared.fault.MountFault.TheVariants.{Log, SequenceRepeated, Spent}
+use Rattle.drive_survey.specs.declared.fault.MountFault.TheVariants.{Log, SequenceRepeated, Spent, Reserve, Limits, ZoneUnusable, BlockOutOfRange, TooManyPartial, NoSpare, Halted, OutOfMemory, Failed, Damaged, TornZone}
 use Rattle.drive_survey.specs.Scan.{FailsBy, FailsIn, IsInterruption, ending_fault, fault_or, heading_fault, log_fault}
 use Rattle.remount.specs.Mount.{MountFails}
-use Rattle.drive_inspection.specs.Found.{IsNoFinding, IsRefusal}
+use Rattle.drive_inspection.specs.Findings.{Refuses}
+use Rattle.drive_inspection.specs.Found.{IsEnd, IsNoFinding, IsRefusal, IsTellable}
 
 -- ---- of a zone by itself
 
@@ -65,7 +66,27 @@ scan-interrupted drive geometry content zone seen fault none (inl memory) = inl 
 scan-interrupted drive geometry content zone seen fault none (inr (inl halted)) = inr (inl halted)
 scan-interrupted drive geometry content zone seen fault none (inr (inr fails)) = absurd (tells fault none (of-zone geometry content zone seen fault fails))
 
+-- if the drive is told to have failed in a zone, it has
+pub scan-failed : (drive : DriveState) (geometry : Geometry) (content : Content) (zone : ℕ) (seen : List ℕ) → FailsBy (FailsIn geometry content zone seen) drive Failed → IsFalse drive.unfailing
+scan-failed drive geometry content zone seen (inl memory) = absurd (cc)
+scan-failed drive geometry content zone seen (inr (inl (inl halted))) = absurd (cc (halted.0))
+scan-failed drive geometry content zone seen (inr (inl (inr failing))) = failing.1
+scan-failed drive geometry content zone seen (inr (inr fails)) = absurd (of-zone geometry content zone seen Failed fails)
+
+-- a fault that tells something is the first one of the zone
+pub scan-fails : (drive : DriveState) (geometry : Geometry) (content : Content) (zone : ℕ) (seen : List ℕ) (fault : MountFault) → FailsBy (FailsIn geometry content zone seen) drive fault → IsRefusal fault → FailsIn geometry content zone seen fault
+scan-fails drive geometry content zone seen fault (inl memory) is = absurd (is.0 memory)
+scan-fails drive geometry content zone seen fault (inr (inl (inl halted))) is = absurd (is.1 halted.0)
+scan-fails drive geometry content zone seen fault (inr (inl (inr failing))) is = absurd (is.2 failing.0)
+scan-fails drive geometry content zone seen fault (inr (inr fails)) is = fails
+
 -- ---- of a mount
+
+-- what ends a check tells nothing
+pub end-tells : (fault : MountFault) → IsEnd fault → IsNoFinding fault
+end-tells fault (inl memory) = inl memory
+end-tells fault (inr (inl halted)) = inr (inl halted)
+end-tells fault (inr (inr damaged)) = inr (inr (inr damaged))
 
 refused-tells : (drive : DriveState) (n : ℕ) (fault : MountFault) → IsNoFinding fault → MountFails drive n fault → ⊥
 refused-tells drive n fault (inl memory) fails = subst (MountFails drive n) memory fails
@@ -79,12 +100,29 @@ mount-interrupted drive last n fault none (inl memory) = inl memory
 mount-interrupted drive last n fault none (inr (inl halted)) = inr (inl halted)
 mount-interrupted drive last n fault none (inr (inr fails)) = absurd (refused-tells drive n fault none fails)
 
--- a fault that tells something is the one by which a mount is refused
-pub refuses : (drive last : DriveState) (n : ℕ) (fault : MountFault) → FailsBy (MountFails drive n) last fault → IsRefusal fault → MountFails drive n fault
-refuses drive last n fault (inl memory) is = absurd (is.0 memory)
-refuses drive last n fault (inr (inl (inl halted))) is = absurd (is.1 halted.0)
-refuses drive last n fault (inr (inl (inr failing))) is = absurd (is.2 failing.0)
-refuses drive last n fault (inr (inr fails)) is = fails
+-- a fault by which a mount is refused is told as its refusal
+pub mount-refuses : (drive last : DriveState) (n : ℕ) (fault : MountFault) → MountFails drive n fault → Refuses drive last n (Some fault)
+mount-refuses drive last n Reserve fails = fails
+mount-refuses drive last n Limits fails = fails
+mount-refuses drive last n (ZoneUnusable zone) fails = fails
+mount-refuses drive last n (Log zone offset cause) fails = fails
+mount-refuses drive last n SequenceRepeated fails = fails
+mount-refuses drive last n BlockOutOfRange fails = fails
+mount-refuses drive last n TooManyPartial fails = fails
+mount-refuses drive last n NoSpare fails = fails
+mount-refuses drive last n Spent fails = fails
+mount-refuses drive last n (TornZone zone) fails = fails
+mount-refuses drive last n Halted fails = fails
+mount-refuses drive last n OutOfMemory fails = fails
+mount-refuses drive last n Damaged fails = fails
+mount-refuses drive last n Failed fails = absurd fails
+
+-- so is a command that failed, if the drive has failed to the end
+pub refuses : (drive middle last : DriveState) (n : ℕ) (fault : MountFault) → FailsBy (MountFails drive n) middle fault → (IsFalse middle.unfailing → IsFalse last.unfailing) → IsTellable fault → Refuses drive last n (Some fault)
+refuses drive middle last n fault (inl memory) on is = absurd (is.0 memory)
+refuses drive middle last n fault (inr (inl (inl halted))) on is = absurd (is.1 halted.0)
+refuses drive middle last n fault (inr (inl (inr failing))) on is = subst (λ (f : MountFault). Refuses drive last n (Some f)) (sym failing.0) (on failing.1)
+refuses drive middle last n fault (inr (inr fails)) on is = mount-refuses drive last n fault fails
 
 -- ---- interruptions
 

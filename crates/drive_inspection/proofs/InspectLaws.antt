@@ -20,9 +20,10 @@ use Rattle.remount.proofs.StepLaws.{known-own, survey-knows, to-mount}
 use Rattle.drive_inspection.specs.declared.info.Holdings.{Holdings}
 use Rattle.drive_inspection.specs.declared.info.Info.{Info}
 use Rattle.drive_inspection.specs.declared.info.MountWork.{MountWork}
-use Rattle.drive_inspection.specs.Found.{IsRefusal, IsWorkOf}
+use Rattle.drive_inspection.specs.Found.{IsTellable, IsWorkOf}
 use Rattle.drive_inspection.specs.declared.info.Rehearsal.{Rehearsal}
 use Rattle.drive_inspection.specs.Info.{AreHoldings, IsInfo, InfoOrRefusal, IsRehearsed, Rehearses, WereReported}
+use Rattle.drive_inspection.proofs.CheckLaws.{still-failing}
 use Rattle.drive_inspection.proofs.FaultLaws.{refuses}
 use Rattle.drive_inspection.proofs.HoldLaws.{holds-before}
 use Rattle.drive_inspection.proofs.WorkLaws.{foretells, foretells-before}
@@ -46,11 +47,12 @@ info-found old middle last n first second geometry plan holdings work same lawfu
 
 -- ---- a drive that is refused
 
--- if its error is a refusal, what was found is the drive's info or the mount's fault
-pub found-so : (drive last : DriveState) (n : ℕ) (found same : Result Info MountFault) → IfOk found (IsInfo drive n) → IfErr found (FailsBy (MountFails drive n) last) → same ≡ found → IfErr same IsRefusal → InfoOrRefusal drive n same
-found-so drive last n (Ok info) same is fails e refusal = subst (InfoOrRefusal drive n) (sym e) is
-found-so drive last n (Err fault) same is fails e refusal =
-    subst (InfoOrRefusal drive n) (sym e) (refuses drive last n fault fails (subst (λ (r : Result Info MountFault). IfErr r IsRefusal) e refusal))
+-- if its error is told as a refusal, what was found is the drive's info or why it is refused
+pub found-so : (drive middle last : DriveState) (n : ℕ) (found same : Result Info MountFault) → IfOk found (IsInfo drive n) → IfErr found (FailsBy (MountFails drive n) middle) → same ≡ found → IfErr same IsTellable
+    → KeepsZones drive middle → KeepsZones middle last → InfoOrRefusal drive last n same
+found-so drive middle last n (Ok info) same is fails e tells k l = subst (InfoOrRefusal drive last n) (sym e) is
+found-so drive middle last n (Err fault) same is fails e tells k l =
+    subst (InfoOrRefusal drive last n) (sym e) (refuses drive middle last n fault fails (λ failed. still-failing middle last l failed) (subst (λ (r : Result Info MountFault). IfErr r IsTellable) e tells))
 
 -- ---- its zones
 
@@ -89,4 +91,5 @@ keeps-uncounted old new k = record {
   durable = k.durable;
   appended = k.appended;
   trusted = k.trusted;
+  unfailing = k.unfailing;
 }

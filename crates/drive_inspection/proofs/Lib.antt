@@ -6,3 +6,4 @@ pub mod HoldLaws
 pub mod WorkLaws
 pub mod InspectLaws
 pub mod WrittenLaws
+pub mod ReportLaws

@@ -78,10 +78,10 @@ all-empty drive none = none-counted drive.zones none
 
 -- ---- a drive that was looked at
 
-pub is-written : (drive : DriveState) (blocks : ℕ) (info : DriveInfo) → IsInRange drive.geometry → IsLawful drive → blocks ≡ most_size drive.geometry → IsDriveInfo drive blocks info
-    → (found : Option Written) → IfSome found (ShowsWritten info) → IfSome found (IsWritten drive)
-is-written drive blocks info range lawful most is None shows = shows
-is-written drive blocks info range lawful most is (Some written) shows = record {
+pub is-written : (drive last : DriveState) (blocks : ℕ) (info : DriveInfo) → IsInRange drive.geometry → IsLawful drive → blocks ≡ most_size drive.geometry → IsDriveInfo drive last blocks info
+    → (found : Option Written) → IfSome found (ShowsWritten info) → IfSome found (IsWritten drive last)
+is-written drive last blocks info range lawful most is None shows = shows
+is-written drive last blocks info range lawful most is (Some written) shows = record {
   count = shows.count ∙ were-written drive info.zones.items (is.report.reported range);
   some = shows.some;
   seen = drive;

@@ -64,10 +64,18 @@ pub record IsWorkOf (geometry : Geometry) (plan : Plan) (work : MountWork) : Typ
 -- ---- faults
 
 -- A fault that tells nothing of what the drive holds: memory ran out, the drive has stopped, it failed at a command, or
--- what it returned does not fit together.
+-- what it returned does not fit together. Of these only the third one is told as the refusal of a mount.
 abbrev pub IsNoFinding : MountFault → Type 0
 IsNoFinding fault = (fault ≡ OutOfMemory) ⊎ (fault ≡ Halted) ⊎ (fault ≡ Failed) ⊎ (fault ≡ Damaged)
 
 -- a fault that tells something of it
 abbrev pub IsRefusal : MountFault → Type 0
 IsRefusal fault = (fault ≢ OutOfMemory) × (fault ≢ Halted) × (fault ≢ Failed) × (fault ≢ Damaged)
+
+-- a fault that ends a check
+abbrev pub IsEnd : MountFault → Type 0
+IsEnd fault = (fault ≡ OutOfMemory) ⊎ (fault ≡ Halted) ⊎ (fault ≡ Damaged)
+
+-- a fault that is told as the refusal of a mount
+abbrev pub IsTellable : MountFault → Type 0
+IsTellable fault = (fault ≢ OutOfMemory) × (fault ≢ Halted) × (fault ≢ Damaged)

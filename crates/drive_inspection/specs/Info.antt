@@ -33,7 +33,8 @@ use Rattle.drive_inspection.specs.declared.info.MountWork.{MountWork}
 use Rattle.drive_inspection.specs.declared.info.Rehearsal.{Rehearsal}
 use Rattle.drive_inspection.specs.declared.info.TornRepair.{TornRepair}
 use Rattle.drive_inspection.specs.declared.info.ZoneInfo.{ZoneInfo}
-use Rattle.drive_inspection.specs.Found.{IsRefusal}
+use Rattle.drive_inspection.specs.Findings.{AreByReport, ListsAll, Refuses}
+use Rattle.drive_inspection.specs.Found.{IsTellable}
 
 -- ---- live records
 
@@ -113,10 +114,15 @@ pub record IsInfo (drive : DriveState) (n : ℕ) (info : Info) : Type 0 where
   pub holds : AreHoldings drive n info.holdings
   pub foretells : Foretells drive n info.work
 
--- so it is; or a mount is refused
-abbrev pub InfoOrRefusal : DriveState → ℕ → Result Info MountFault → Type 0
-InfoOrRefusal drive n (Ok info) = IsInfo drive n info
-InfoOrRefusal drive n (Err fault) = MountFails drive n fault
+-- so it is; or a mount is refused, or the drive failed at a command
+abbrev pub InfoOrRefusal : DriveState → DriveState → ℕ → Result Info MountFault → Type 0
+InfoOrRefusal drive last n (Ok info) = IsInfo drive n info
+InfoOrRefusal drive last n (Err fault) = Refuses drive last n (Some fault)
+
+-- the refusal of a mount that is told, if one is
+abbrev pub refusal_of : Result Info MountFault → Option MountFault
+refusal_of (Ok info) = None
+refusal_of (Err fault) = Some fault
 
 -- the zones were reported so at some moment: as they are, except that a controller may have closed some
 pub record WereReported (drive : DriveState) (reported : List ReportedZone) : Type 0 where
@@ -124,17 +130,20 @@ pub record WereReported (drive : DriveState) (reported : List ReportedZone) : Ty
   pub before : IsClosing drive.zones zones
   pub are : AreReported drive.geometry zones reported
 
--- What is known of it whatever the Reads returned: its geometry and, if that is in range, its zones. If a mount is
--- refused, that tells something of what it holds.
+-- What is known of it whatever the Reads returned: its geometry and, if that is in range, its zones, and what a report
+-- tells of its faults.
 pub record IsReportInfo (drive : DriveState) (info : DriveInfo) : Type 0 where
   pub geometry_is : info.geometry ≡ drive.geometry
   pub reported : IsInRange drive.geometry → WereReported drive info.zones.items
-  pub tells : IfErr info.found IsRefusal
+  pub tells : IfErr info.found IsTellable
+  pub refusal : info.faults.refusal ≡ refusal_of info.found
+  pub faults : AreByReport drive info.faults
 
--- that, and what the drive holds
-pub record IsDriveInfo (drive : DriveState) (n : ℕ) (info : DriveInfo) : Type 0 where
+-- that, and what the drive holds, or all of its faults; the drive is `last` then
+pub record IsDriveInfo (drive last : DriveState) (n : ℕ) (info : DriveInfo) : Type 0 where
   pub report : IsReportInfo drive info
-  pub found : InfoOrRefusal drive n info.found
+  pub found : InfoOrRefusal drive last n info.found
+  pub faults : ListsAll drive last n info.faults
 
 -- ---- a rehearsal
 
@@ -161,8 +170,10 @@ IsRehearsed old new n (Err fault) = FailsBy (MountFails old n) new fault
 
 -- The drive was looked at, and then mounted. As many commands were counted as that mount completed.
 pub record IsInspected (drive : DriveState) (n : ℕ) (inspected : InspectedDrive) : Type 0 where
-  pub info : IsDriveInfo drive n inspected.info
+  pub looked : DriveState
+  pub info : IsDriveInfo drive looked n inspected.info
   pub seen : DriveState
+  pub uncounted : seen ≡ record looked { completed = 0 }
   pub keeps : KeepsZones drive seen
   pub last : DriveState
   pub mounted : IsRehearsed seen last n inspected.mounted

@@ -39,10 +39,11 @@ AreAllEmpty drive = AreEmptyBelow (length drive.zones) drive
 -- ---- what a drive holds
 
 -- This is what the drive holds. If it does not say how many logical blocks it has, it is taken to have as many as it can serve.
-pub record HoldsInfo (drive : DriveState) (info : DriveInfo) : Type 0 where
+-- The drive is `last` then.
+pub record HoldsInfo (drive last : DriveState) (info : DriveInfo) : Type 0 where
   pub blocks : ℕ
   pub most : IsInRange drive.geometry → blocks ≡ most_size drive.geometry
-  pub is_info : IsDriveInfo drive blocks info
+  pub is_info : IsDriveInfo drive last blocks info
 
 -- what is told of a drive: the size that its headers say, or that none says one; or why it is not mounted
 abbrev pub ShowsHolding : Result Info MountFault → Holding → Type 0
@@ -51,9 +52,9 @@ ShowsHolding (Ok info) holdings.Unsized = info.holdings.said ≡ None
 ShowsHolding (Err fault) (holdings.Unmounted cause) = cause ≡ fault
 ShowsHolding found holding = ⊥
 
-pub record IsHolding (drive : DriveState) (holding : Holding) : Type 0 where
+pub record IsHolding (drive last : DriveState) (holding : Holding) : Type 0 where
   pub info : DriveInfo
-  pub holds : HoldsInfo drive info
+  pub holds : HoldsInfo drive last info
   pub shows : ShowsHolding info.found holding
 
 -- this many zones are not Empty, and there is one
@@ -61,13 +62,13 @@ pub record CountsWritten (drive : DriveState) (written : Written) : Type 0 where
   pub count : written.zones ≡ written_count drive
   pub some : 0 < written.zones
 
--- How many zones are not Empty, and what they hold. The drive was looked at, which keeps its zones.
-pub record IsWritten (drive : DriveState) (written : Written) : Type 0 where
+-- How many zones are not Empty, and what they hold. The drive was looked at before, which keeps its zones.
+pub record IsWritten (drive last : DriveState) (written : Written) : Type 0 where
   pub count : written.zones ≡ written_count drive
   pub some : 0 < written.zones
   pub seen : DriveState
   pub keeps : KeepsZones drive seen
-  pub holding : IsHolding seen written.holding
+  pub holding : IsHolding seen last written.holding
 
 -- What is told of a drive that was looked at: of one whose zones were all reported Empty, nothing.
 pub record ShowsWritten (info : DriveInfo) (written : Written) : Type 0 where

@@ -1,4 +1,4 @@
-ghost use Rattle.std.specs.Prelude.{◌≡◌, ◌<◌, ◌^◌, [], Some, count_by, length};
+ghost use Rattle.std.specs.Prelude.{◌≡◌, ◌<◌, ◌^◌, Some, count_by, length};
 ghost use Rattle.std.specs.Prelude.{IfErr, IfOk, IsFalse, IsTrue, OnOk};
 ghost use Rattle.std.specs.List.{AllByRecursion};
 ghost use Rattle.zone_states.specs.Geometry.{IsInRange};
@@ -6,18 +6,19 @@ ghost use Rattle.drive_port.specs.Contents.{contents};
 ghost use Rattle.drive_port.specs.Drive.{IsLawful};
 ghost use Rattle.drive_array.specs.Mountable.{is_partly_written};
 ghost use Rattle.drive_survey.specs.Reported.{KeepsZones};
-ghost use Rattle.drive_survey.specs.Scan.{AreKnown, IsInterruption};
+ghost use Rattle.drive_survey.specs.Scan.{IsInterruption};
 ghost use Rattle.drive_survey.specs.Survey.{is_partly_reported};
 ghost use Rattle.drive_inspection.specs.Findings.{AreByReport, AreFindings, ListsByReport, ListsFaults, ListsNothing};
-ghost use Rattle.drive_inspection.specs.Findings.{ListsZones};
-ghost use Rattle.drive_inspection.specs.Found.{IsNoFinding, IsRefusal};
+ghost use Rattle.drive_inspection.specs.Findings.{ListsReads, ListsRefused, ListsZones};
+ghost use Rattle.drive_inspection.specs.Found.{IsEnd, IsNoFinding, IsRefusal, IsTellable};
+ghost use Rattle.drive_inspection.specs.Reads.{AreTold};
 ghost use Rattle.drive_inspection.specs.declared.finding.ZoneFault.{ZoneFault};
-ghost use Rattle.drive_inspection.specs.Lists.{fault_at, found_in, past_end_at, repeats_from, size_read, torn_read_at};
 
 use crate::finding::Findings;
 use crate::foreseen::foresee_mount;
 use crate::lists::{
-    batch_faults, repeated_sequences, size_read, torn_zones, unusable_zones, zones_past_end,
+    batch_faults, count_readable, repeated_sequences, size_read, torn_zones, unread_zones,
+    unusable_zones, zones_past_end,
 };
 use crate::reading::{ZoneReading, read_zones};
 use drive_port::Device;
@@ -25,7 +26,7 @@ use drive_survey::{MountFault, ReportedZone, count_partly_written, report_zones}
 use std::alloc::{AllocError, Global};
 
 /// No findings but the refusal.
-fn no_findings(alloc: Global, refusal: Option<MountFault>) -> Findings
+pub(crate) fn no_findings(alloc: Global, refusal: Option<MountFault>) -> Findings
     ensures refusal { result.refusal ≡ refusal }
     ensures clean { ListsNothing result }
 {
@@ -37,10 +38,12 @@ fn no_findings(alloc: Global, refusal: Option<MountFault>) -> Findings
         repeated: Vec::new(alloc),
         past_end: Vec::new(alloc),
         torn: Vec::new(alloc),
+        unread: Vec::new(alloc),
+        readable: 0,
     }
 }
 
-/// The lists that are made from the headers.
+/// The lists that are made from what was read of the zones.
 fn list_reads(
     alloc: Global,
     reads: &[ZoneReading],
@@ -48,12 +51,8 @@ fn list_reads(
     findings: &mut Findings,
 ) -> Result<(), AllocError>
     requires { length reads.now < 2 ^ 32 }
-    // Done, each list has exactly the faults of its kind.
-    ensures batches { OnOk result (findings.new.batches.items ≡ found_in fault_at reads.now) }
-    ensures repeated { OnOk result (findings.new.repeated.items ≡ repeats_from 0 [] reads.now) }
-    ensures past_end { OnOk result (findings.new.past_end.items
-        ≡ found_in (past_end_at (size_read given reads.now)) reads.now) }
-    ensures torn { OnOk result (findings.new.torn.items ≡ found_in torn_read_at reads.now) }
+    // Done, each list has exactly what is of its kind.
+    ensures lists { OnOk result (ListsReads given reads.now findings.new) }
     // Whatever it answers, the other findings stay.
     ensures refusal { findings.new.refusal ≡ findings.old.refusal }
     ensures unusable { findings.new.unusable ≡ findings.old.unusable }
@@ -63,10 +62,12 @@ fn list_reads(
     findings.repeated = repeated_sequences(alloc, reads)?;
     findings.past_end = zones_past_end(alloc, reads, size_read(reads, given))?;
     findings.torn = torn_zones(alloc, reads)?;
+    findings.unread = unread_zones(alloc, reads)?;
+    findings.readable = count_readable(reads);
     Ok(())
 }
 
-/// What is found of the zones of a drive, none of which is Read Only or Offline. The other findings stay.
+/// What is found of the zones of a drive, of those that are not Read Only or Offline. The other findings stay.
 fn list_zones<D: Device>(
     alloc: Global,
     device: &mut D,
@@ -75,13 +76,14 @@ fn list_zones<D: Device>(
     findings: &mut Findings,
 ) -> Result<(), MountFault>
     // The report is true of all zones, and of how many are partly written.
-    requires known { AreKnown (D.drive device.old) zones.now }
+    requires told { AreTold (D.drive device.old) zones.now }
+    requires few { length zones.now < 2 ^ 32 }
     requires partly { count_by is_partly_reported zones.now
         ≡ count_by is_partly_written (contents (D.drive device.old).zones) }
-    // While the drive is clean: done, the lists have exactly the faults of the zones. It fails only if the drive halts
-    // or memory runs out.
+    // While the drive is clean: done, the lists have exactly the faults of the zones. It is given up only if the drive
+    // stops or memory runs out.
     ensures ok { IsTrue (D.drive device.new).clean
-        → OnOk result (ListsZones (D.drive device.old) given findings.new) }
+        → OnOk result (ListsZones (D.drive device.old) (D.drive device.new) given findings.new) }
     ensures err { IsTrue (D.drive device.new).clean → IfErr result (IsInterruption (D.drive device.new)) }
     // Whatever the Reads returned: done, it is counted how many zones are partly written, and the faults of batches
     // tell something of what the drive holds.
@@ -91,7 +93,7 @@ fn list_zones<D: Device>(
         findings.new.batches.items) }
     // Whatever it answers, a failure tells nothing of what the drive holds, the other findings stay, and the zones hold
     // what they held.
-    ensures kinds { IfErr result IsNoFinding }
+    ensures kinds { IfErr result IsEnd }
     ensures refusal { findings.new.refusal ≡ findings.old.refusal }
     ensures unusable { findings.new.unusable ≡ findings.old.unusable }
     ensures kept { KeepsZones (D.drive device.old) (D.drive device.new) }
@@ -111,9 +113,9 @@ fn list_faults<D: Device>(
 ) -> Result<Findings, MountFault>
     requires in_range { IsInRange (D.drive device.old).geometry }
     requires lawful { IsLawful (D.drive device.old) }
-    // While the drive is clean: done, the unusable zones are listed; without any, all other faults. It fails only if
-    // the drive halts or memory runs out.
-    ensures ok { IsTrue (D.drive device.new).clean → IfOk result (ListsFaults (D.drive device.old) given) }
+    // While the drive is clean: done, all faults are listed. It fails only if the drive halts or memory runs out.
+    ensures ok { IsTrue (D.drive device.new).clean
+        → IfOk result (ListsFaults (D.drive device.old) (D.drive device.new) given) }
     ensures err { IsTrue (D.drive device.new).clean → IfErr result (IsInterruption (D.drive device.new)) }
     // Whatever the Reads returned: done, what reports tell is listed, and the refusal is told.
     ensures reported { IfOk result (ListsByReport (D.drive device.old)) }
@@ -125,35 +127,57 @@ fn list_faults<D: Device>(
     let zones = report_zones(alloc, device)?;
     let mut findings = no_findings(alloc, Some(refusal));
     findings.unusable = unusable_zones(alloc, &zones)?;
-    if !findings.unusable.is_empty() {
-        return Ok(findings);
-    }
     list_zones(alloc, device, &zones, given, &mut findings)?;
     Ok(findings)
 }
 
-/// Whether a fault tells nothing of what the drive holds.
-fn is_interruption(fault: MountFault) -> bool
-    ensures yes { IsTrue result → IsNoFinding fault }
-    ensures no { IsFalse result → IsRefusal fault }
+/// Whether a fault of a mount ends a check. After a command that failed the other zones can be read.
+pub(crate) fn is_end(fault: MountFault) -> bool
+    ensures yes { IsTrue result → IsEnd fault }
+    ensures no { IsFalse result → IsTellable fault }
 {
     match fault {
-        MountFault::OutOfMemory | MountFault::Halted | MountFault::Failed | MountFault::Damaged =>
-            true,
+        MountFault::OutOfMemory | MountFault::Halted | MountFault::Damaged => true,
         _ => false,
     }
 }
 
+/// All faults of a drive whose mount is refused. If its geometry is out of range, no zone is looked at.
+pub(crate) fn refused_faults<D: Device>(
+    alloc: Global,
+    device: &mut D,
+    given: u64,
+    refusal: MountFault,
+) -> Result<Findings, MountFault>
+    requires tells { IsTellable refusal }
+    // While the drive is clean: done, all faults are listed. It fails only if the drive halts or memory runs out.
+    ensures ok { IsTrue (D.drive device.new).clean
+        → IfOk result (ListsRefused (D.drive device.old) (D.drive device.new) given) }
+    ensures err { IsTrue (D.drive device.new).clean → IfErr result (IsInterruption (D.drive device.new)) }
+    // Whatever the Reads returned, what reports tell is found, and the refusal is told.
+    ensures reported { IfOk result (AreByReport (D.drive device.old)) }
+    ensures refusal { IfOk result (λ findings. findings.refusal ≡ Some refusal) }
+    ensures kinds { IfErr result IsNoFinding }
+    ensures kept { KeepsZones (D.drive device.old) (D.drive device.new) }
+{
+    let Ok(()) = device.geometry().check() else {
+        return Ok(no_findings(alloc, Some(refusal)));
+    };
+    list_faults(alloc, device, given, refusal)
+}
+
 /// Finds all faults of a drive, taken as `given` logical blocks if no header says how many. Reports and Reads are sent.
-/// The fault is `Halted` (the drive has stopped), `Failed` (it failed at a command) or `OutOfMemory`; or `Damaged`, which
-/// never comes while the drive is clean. After `Failed` the check can be made again.
+/// A zone in which the drive fails at a command is listed as such, and the others are read. The fault is `Halted` (the
+/// drive has stopped), `Failed` (it failed at a report) or `OutOfMemory`; or `Damaged`, which never comes while the
+/// drive is clean. After `Failed` the check can be made again.
 pub fn check_drive<D: Device>(
     alloc: Global,
     device: &mut D,
     given: u64,
 ) -> Result<Findings, MountFault>
     // While the drive is clean: done, these are all of its faults. It fails only if the drive halts or memory runs out.
-    ensures ok { IsTrue (D.drive device.new).clean → IfOk result (AreFindings (D.drive device.old) given) }
+    ensures ok { IsTrue (D.drive device.new).clean
+        → IfOk result (AreFindings (D.drive device.old) (D.drive device.new) given) }
     ensures err { IsTrue (D.drive device.new).clean → IfErr result (IsInterruption (D.drive device.new)) }
     // Whatever the Reads returned, what reports tell is found.
     ensures reported { IfOk result (AreByReport (D.drive device.old)) }
@@ -164,11 +188,8 @@ pub fn check_drive<D: Device>(
     let Err(refusal) = foresee_mount(alloc, device, given) else {
         return Ok(no_findings(alloc, None));
     };
-    if is_interruption(refusal) {
+    if is_end(refusal) {
         return Err(refusal);
     }
-    let Ok(()) = device.geometry().check() else {
-        return Ok(no_findings(alloc, Some(refusal)));
-    };
-    list_faults(alloc, device, given, refusal)
+    refused_faults(alloc, device, given, refusal)
 }

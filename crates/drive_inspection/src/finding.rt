@@ -27,7 +27,7 @@ pub struct PastEnd {
 /// What is found of a drive.
 #[derive(Drop)]
 pub struct Findings {
-    /// By what a mount is refused, if it is.
+    /// By what a mount is refused, if it is. `Failed` if the drive failed at a command before that was known.
     pub refusal: Option<MountFault>,
     /// The zones that are Read Only or Offline, in ascending order.
     pub unusable: Vec<u32>,
@@ -41,4 +41,8 @@ pub struct Findings {
     pub past_end: Vec<PastEnd>,
     /// The zones without such a fault that have a torn tail after a batch. A mount repairs one of them.
     pub torn: Vec<u32>,
+    /// The zones in which the drive failed at a command, in ascending order. What their batches say is not known.
+    pub unread: Vec<u32>,
+    /// How many zones were read by themselves, and have no fault of batches.
+    pub readable: usize,
 }

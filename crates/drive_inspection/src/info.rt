@@ -1,3 +1,4 @@
+use crate::finding::Findings;
 use drive_counter::Counts;
 use drive_survey::{MountFault, ReportedZone};
 use zone_states::Geometry;
@@ -74,8 +75,11 @@ pub struct DriveInfo {
     pub geometry: Geometry,
     /// What a report tells of each zone. Empty if the geometry is out of range.
     pub zones: Vec<ReportedZone>,
-    /// What the drive holds, or why a mount is refused.
+    /// What the drive holds, or why a mount is refused: `Failed` if the drive failed at a command before that was
+    /// known.
     pub found: Result<Info, MountFault>,
+    /// All faults of a drive whose mount is refused.
+    pub faults: Findings,
 }
 
 /// What a mount takes.

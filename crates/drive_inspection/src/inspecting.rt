@@ -2,12 +2,16 @@
 
 ghost use Rattle.std.specs.Prelude.{◌≡◌, Err, IfErr, IfOk, IsTrue};
 ghost use Rattle.zone_states.specs.Geometry.{IsInRange};
+ghost use Rattle.drive_port.specs.Drive.{IsLawful};
 ghost use Rattle.drive_survey.specs.Reported.{KeepsZones};
 ghost use Rattle.drive_survey.specs.Scan.{FailsBy, IsInterruption};
 ghost use Rattle.remount.specs.Mount.{MountFails};
-ghost use Rattle.drive_inspection.specs.Found.{IsNoFinding, IsRefusal};
-ghost use Rattle.drive_inspection.specs.Info.{IsDriveInfo, IsInfo, IsReportInfo, WereReported};
+ghost use Rattle.drive_inspection.specs.Findings.{AreByReport, ListsAll};
+ghost use Rattle.drive_inspection.specs.Found.{IsEnd, IsNoFinding, IsTellable};
+ghost use Rattle.drive_inspection.specs.Info.{IsDriveInfo, IsInfo, IsReportInfo, WereReported, refusal_of};
 
+use crate::checking::{no_findings, refused_faults};
+use crate::finding::Findings;
 use crate::holding::holdings;
 use crate::info::{DriveInfo, Info};
 use crate::work::work_of;
@@ -48,33 +52,57 @@ fn zones_reported<D: Device>(alloc: Global, device: &mut D) -> Result<Vec<Report
     report_zones(alloc, device)
 }
 
-/// What was found, unless that tells nothing of what the drive holds.
-fn found_or_interrupted(
-    found: Result<Info, MountFault>,
-) -> Result<Result<Info, MountFault>, MountFault>
-    ensures ok { IfOk result (λ same. (same ≡ found) × IfErr same IsRefusal) }
-    ensures err { IfErr result (λ fault. (found ≡ Err fault) × IsNoFinding fault) }
+/// What was found, unless the look ends there. After a command that failed it goes on.
+fn found_or_ended(found: Result<Info, MountFault>) -> Result<Result<Info, MountFault>, MountFault>
+    ensures ok { IfOk result (λ same. (same ≡ found) × IfErr same IsTellable) }
+    ensures err { IfErr result (λ fault. (found ≡ Err fault) × IsEnd fault) }
 {
     match found {
         Err(MountFault::OutOfMemory) => Err(MountFault::OutOfMemory),
         Err(MountFault::Halted) => Err(MountFault::Halted),
-        Err(MountFault::Failed) => Err(MountFault::Failed),
         Err(MountFault::Damaged) => Err(MountFault::Damaged),
         found => Ok(found),
     }
 }
 
-/// Looks at a drive, taken as `given` logical blocks if no header says how many. Reports and Reads are sent.
-/// The fault is `Halted` (the drive has stopped), `Failed` (it failed at a command) or `OutOfMemory`; or `Damaged`, which
-/// never comes while the drive is clean. After `Failed` the drive can be looked at again.
+/// All faults of a drive of which this was found: none if it can be mounted.
+fn faults_of<D: Device>(
+    alloc: Global,
+    device: &mut D,
+    given: u64,
+    found: &Result<Info, MountFault>,
+) -> Result<Findings, MountFault>
+    requires lawful { IsLawful (D.drive device.old) }
+    requires tells { IfErr found.now IsTellable }
+    // While the drive is clean: done, all faults are listed. It fails only if the drive halts or memory runs out.
+    ensures ok { IsTrue (D.drive device.new).clean
+        → IfOk result (ListsAll (D.drive device.old) (D.drive device.new) given) }
+    ensures err { IsTrue (D.drive device.new).clean → IfErr result (IsInterruption (D.drive device.new)) }
+    // Whatever the Reads returned, what reports tell is found, and the refusal is told.
+    ensures reported { IfOk result (AreByReport (D.drive device.old)) }
+    ensures refusal { IfOk result (λ findings. findings.refusal ≡ refusal_of found.now) }
+    ensures kinds { IfErr result IsNoFinding }
+    ensures kept { KeepsZones (D.drive device.old) (D.drive device.new) }
+{
+    match found {
+        Ok(_) => Ok(no_findings(alloc, None)),
+        Err(refusal) => refused_faults(alloc, device, given, *refusal),
+    }
+}
+
+/// Looks at a drive, taken as `given` logical blocks if no header says how many. Reports and Reads are sent. After a
+/// Read that failed the other zones are looked at. The fault is `Halted` (the drive has stopped), `Failed` (it failed
+/// at a report) or `OutOfMemory`; or `Damaged`, which never comes while the drive is clean. After `Failed` the drive
+/// can be looked at again.
 pub fn inspect_drive<D: Device>(
     alloc: Global,
     device: &mut D,
     given: u64,
 ) -> Result<DriveInfo, MountFault>
-    // While the drive is clean: done, this is what it holds, or by what a mount is refused. It fails only if the drive
-    // halts or memory runs out.
-    ensures ok { IsTrue (D.drive device.new).clean → IfOk result (IsDriveInfo (D.drive device.old) given) }
+    // While the drive is clean: done, this is what it holds, or by what a mount is refused, with all faults. It fails
+    // only if the drive halts or memory runs out.
+    ensures ok { IsTrue (D.drive device.new).clean
+        → IfOk result (IsDriveInfo (D.drive device.old) (D.drive device.new) given) }
     ensures err { IsTrue (D.drive device.new).clean → IfErr result (IsInterruption (D.drive device.new)) }
     // Whatever the Reads returned, the geometry and the report are true.
     ensures reported { IfOk result (IsReportInfo (D.drive device.old)) }
@@ -84,11 +112,13 @@ pub fn inspect_drive<D: Device>(
 {
     let geometry = device.geometry();
     let looked = find_info(alloc, device, given);
-    let found = found_or_interrupted(looked)?;
+    let found = found_or_ended(looked)?;
     let zones = zones_reported(alloc, device)?;
+    let faults = faults_of(alloc, device, given, &found)?;
     Ok(DriveInfo {
         geometry,
         zones,
         found,
+        faults,
     })
 }

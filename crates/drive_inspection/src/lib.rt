@@ -19,21 +19,22 @@
 //! Of a check:
 //!
 //! * The refusal is the fault by which a mount is refused, the first in its order, or none exactly where the drive can
-//!   be mounted (`Refuses` in specs/Findings). Nothing is listed of a drive that can be mounted, nor of one whose
-//!   geometry is out of range.
-//! * Else the lists have exactly the faults of their kinds (`ListsFaults`): each zone that is Read Only or Offline. If
-//!   there is none: how many zones are partly written; for each zone the first fault of its batches by themselves;
-//!   among zones without a fault each sequence that is met again, each zone that names a block past the end, and each
-//!   torn zone. What one zone holds hides no fault of another one.
+//!   be mounted (`Refuses` in specs/Findings). It is `Failed` if the drive failed at a command before that was known.
+//!   Nothing is listed of a drive that can be mounted, nor of one whose geometry is out of range.
+//! * Else the lists have exactly the faults of their kinds (`ListsFaults`): each zone that is Read Only or Offline, and
+//!   how many zones are partly written. Of the other zones, each read by itself: those in which the drive failed at a
+//!   command, and for each the first fault of its batches by themselves. Among zones without a fault: each sequence
+//!   that is met again, each zone that names a block past the end, each torn zone, and how many these zones are. What
+//!   one zone holds, or hides, hides no fault of another one.
 //! * `foresee_mount` tells what a mount does before it changes the drive.
 //!
-//! A check looks at no batch if a zone cannot be used, and tells only the first fault of a zone. It lists a torn zone
-//! also if a mount would empty it.
+//! A check tells only the first fault of a zone. It lists a torn zone also if a mount would empty it. Of a zone in
+//! which the drive failed it tells nothing else. A zone that is Read Only or Offline is not read.
 //!
 //! Of an inspection:
 //!
 //! * A drive is inspected exactly where it can be mounted; of any other the refusal of a mount is told
-//!   (`InfoOrRefusal` in specs/Info).
+//!   (`InfoOrRefusal` in specs/Info), with all faults that a check finds.
 //! * The numbers are those of the drive by definition (`AreHoldings`): the greatest number of logical blocks that it
 //!   can serve, the number that its headers say and the number that it has; the greatest sequence; how many blocks
 //!   have data, and how many are trimmed; of each zone the batches, the live records of both kinds, and whether it is
@@ -57,8 +58,9 @@
 //!
 //! Of all of them:
 //!
-//! * Each ends early only by a stop, a command that the drive failed at, or a failed allocation. A failed command had no
-//!   effect, and is told by `Failed`: the drive is not unfailing then. The call can be made again.
+//! * Each ends early only by a stop, a failed allocation, or a report that the drive failed at; a rehearsal by any such
+//!   command. A failed command had no effect, and is told by `Failed`: the drive is not unfailing then. The call can be
+//!   made again.
 //! * Whatever the Reads returned, each call ends, and what a report tells is true: the states of the zones, which of
 //!   them cannot be used and how many are partly written (`AreByReport` in specs/Findings, `IsReportInfo` in
 //!   specs/Info, `CountsWritten` in specs/Written). The commands of a rehearsal are counted (`CountsMount`). A call

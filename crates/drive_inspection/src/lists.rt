@@ -1,11 +1,12 @@
 //! The lists of findings, made from what was read of each zone.
 
-ghost use Rattle.std.specs.Prelude.{◌≡◌, ◌++◌, ◌<◌, ◌^◌, [], IfOk, OnOk, length};
+ghost use Rattle.std.specs.Prelude.{◌≡◌, ◌++◌, ◌<◌, ◌^◌, [], IfOk, OnOk, count_by, length};
 ghost use Rattle.std.specs.Ordering.{nat_cmp};
 ghost use Rattle.std.specs.BTreeSet.{insert_key};
-ghost use Rattle.drive_inspection.specs.Lists.{fault_at, found_in, greatest_read, heads_read, is_unusable};
+ghost use Rattle.drive_inspection.specs.Lists.{fault_at, found_in, greatest_read, heads_read, is_log, is_unusable};
 ghost use Rattle.drive_inspection.specs.Lists.{met_with, past_end_at, repeat_at, repeats_from};
-ghost use Rattle.drive_inspection.specs.Lists.{repeats_of, size_of_read, size_read, torn_read_at, unusable_reported};
+ghost use Rattle.drive_inspection.specs.Lists.{repeats_of, size_of_read, size_read, torn_read_at, unread_at};
+ghost use Rattle.drive_inspection.specs.Lists.{unusable_reported};
 
 use crate::finding::{PastEnd, Repeat, ZoneFault};
 use crate::reading::ZoneReading;
@@ -15,7 +16,7 @@ use std::alloc::{AllocError, Global};
 use std::collections::BTreeSet;
 
 /// Whether a zone is Read Only or Offline.
-fn is_unusable(zone: ReportedZone) -> bool
+pub(crate) fn is_unusable(zone: ReportedZone) -> bool
     ensures { result ≡ is_unusable zone }
 {
     match zone.state {
@@ -50,7 +51,7 @@ pub fn unusable_zones(alloc: Global, zones: &[ReportedZone]) -> Result<Vec<u32>,
 fn add_fault(found: &mut Vec<ZoneFault>, zone: u32, read: &ZoneReading) -> Result<(), AllocError>
     ensures { OnOk result (found.new.items ≡ found.old.items ++ fault_at zone read.now) }
 {
-    let Err(fault) = read else {
+    let ZoneReading::Fault(fault) = read else {
         return Ok(());
     };
     found.push(ZoneFault {
@@ -105,13 +106,13 @@ fn add_repeats(
     Ok(())
 }
 
-/// The headers of a zone, none where its batches have a fault.
+/// The headers of a zone, none where its batches have a fault or are not known.
 fn heads_read(read: &ZoneReading) -> &[Head]
     ensures { result.now ≡ heads_read read.now }
 {
     match read {
-        Ok(scanned) => scanned.heads.heads(),
-        Err(_) => &[],
+        ZoneReading::Log(scanned) => scanned.heads.heads(),
+        _ => &[],
     }
 }
 
@@ -133,8 +134,8 @@ fn size_of_read(read: &ZoneReading) -> Option<u32>
     ensures { result ≡ size_of_read read.now }
 {
     match read {
-        Ok(scanned) => scanned.heads.size(),
-        Err(_) => None,
+        ZoneReading::Log(scanned) => scanned.heads.size(),
+        _ => None,
     }
 }
 
@@ -168,7 +169,7 @@ fn add_past_end(
 ) -> Result<(), AllocError>
     ensures { OnOk result (found.new.items ≡ found.old.items ++ past_end_at size zone read.now) }
 {
-    let Ok(scanned) = read else {
+    let ZoneReading::Log(scanned) = read else {
         return Ok(());
     };
     let block = scanned.heads.highest();
@@ -199,7 +200,7 @@ pub fn zones_past_end(
 fn add_torn(found: &mut Vec<u32>, zone: u32, read: &ZoneReading) -> Result<(), AllocError>
     ensures { OnOk result (found.new.items ≡ found.old.items ++ torn_read_at zone read.now) }
 {
-    let Ok(scanned) = read else {
+    let ZoneReading::Log(scanned) = read else {
         return Ok(());
     };
     if scanned.is_torn && scanned.heads.blocks() != 0 {
@@ -218,4 +219,49 @@ pub fn torn_zones(alloc: Global, reads: &[ZoneReading]) -> Result<Vec<u32>, Allo
         add_torn(&mut found, number as u32, read)?;
     }
     Ok(found)
+}
+
+/// Adds a zone in which the drive failed at a command.
+fn add_unread(found: &mut Vec<u32>, zone: u32, read: &ZoneReading) -> Result<(), AllocError>
+    ensures { OnOk result (found.new.items ≡ found.old.items ++ unread_at zone read.now) }
+{
+    if let ZoneReading::Unread = read {
+        found.push(zone)?;
+    }
+    Ok(())
+}
+
+/// The zones in which the drive failed at a command.
+pub fn unread_zones(alloc: Global, reads: &[ZoneReading]) -> Result<Vec<u32>, AllocError>
+    requires { length reads.now < 2 ^ 32 }
+    ensures { IfOk result (λ found. found.items ≡ found_in unread_at reads.now) }
+{
+    let mut found = Vec::new(alloc);
+    for (number, read) in reads.iter().enumerate() {
+        add_unread(&mut found, number as u32, read)?;
+    }
+    Ok(found)
+}
+
+/// Whether a zone was read, and its batches have no fault.
+fn is_log(read: &ZoneReading) -> bool
+    ensures { result ≡ is_log read.now }
+{
+    match read {
+        ZoneReading::Log(_) => true,
+        _ => false,
+    }
+}
+
+/// How many zones were read, and have no fault of batches.
+pub fn count_readable(reads: &[ZoneReading]) -> usize
+    ensures { result ≡ count_by is_log reads.now }
+{
+    let mut count = 0;
+    for read in reads {
+        if is_log(read) {
+            count += 1;
+        }
+    }
+    count
 }

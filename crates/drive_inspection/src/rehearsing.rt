@@ -58,8 +58,8 @@ pub fn rehearse_mount<D: Device>(
 }
 
 /// Looks at a drive, and then rehearses a mount of it, whose commands are counted. What is left of the drive is given
-/// back. The fault is `Halted` (the drive has stopped), `Failed` (it failed at a command) or `OutOfMemory`; or `Damaged`,
-/// which never comes while the drive is clean. A halt in the rehearsal is told as how that mount ended.
+/// back. The fault is `Halted` (the drive has stopped), `Failed` (it failed at a command) or `OutOfMemory`; or
+/// `Damaged`, which never comes while the drive is clean. A halt in the rehearsal is told as how that mount ended.
 pub fn inspect_and_rehearse<D: Device + Drop>(
     alloc: Global,
     device: D,

@@ -130,7 +130,7 @@ pub fn find_written<D: Device>(alloc: Global, device: &mut D) -> Result<Option<W
     // While the drive is clean, this is what its zones hold. It fails only if the geometry is out of range, the drive
     // halts or memory runs out.
     ensures some { IsTrue (D.drive device.new).clean
-        → IfOk result (λ found. IfSome found (IsWritten (D.drive device.old))) }
+        → IfOk result (λ found. IfSome found (IsWritten (D.drive device.old) (D.drive device.new))) }
     ensures err { IsTrue (D.drive device.new).clean
         → IfErr result (FailsBy (IsUnlookedAt (D.drive device.old)) (D.drive device.new)) }
     // Whatever the Reads returned, the zones that are not Empty are counted, and nothing is told where each is Empty.

@@ -199,6 +199,7 @@ kept-so old new same lawful closing = record {
   lawful = lawful;
   closing = closing;
   trusted = λ clean. rw (← ap (λ (d : DriveState). d.clean) same) clean;
+  unfailing = λ is. rw (← ap (λ (d : DriveState). d.unfailing) same) is;
   refused = ap (λ (d : DriveState). d.refused) same;
   durable = ap (λ (d : DriveState). d.durable) same;
   appended = ap (λ (d : DriveState). d.appended) same;
@@ -217,11 +218,11 @@ read-halts old new address returned port.Failed can gives closing obeys passed =
     let failed = obeys.fails refl in
     record {
       halt = tt;
-      kept = record { geometry = obeys.geometry; lawful = obeys.lawful; closing = closing; refused = failed.1.refused; durable = obeys.durable; appended = failed.1.appended; trusted = obeys.trusted };
+      kept = record { geometry = obeys.geometry; lawful = obeys.lawful; closing = closing; refused = failed.1.refused; durable = obeys.durable; appended = failed.1.appended; trusted = obeys.trusted; unfailing = obeys.unfailing };
     }
 read-halts old new address returned port.Stopped can gives closing obeys passed = record {
   halt = tt;
-  kept = record { geometry = obeys.geometry; lawful = obeys.lawful; closing = closing; refused = (obeys.counts refl).refused; durable = obeys.durable; appended = (obeys.counts refl).appended; trusted = obeys.trusted };
+  kept = record { geometry = obeys.geometry; lawful = obeys.lawful; closing = closing; refused = (obeys.counts refl).refused; durable = obeys.durable; appended = (obeys.counts refl).appended; trusted = obeys.trusted; unfailing = obeys.unfailing };
 }
 
 -- one that succeeded keeps them, too
@@ -234,6 +235,7 @@ read-keeps old new address items closing obeys shown = record {
   durable = obeys.durable;
   appended = shown.counts.appended ∙ omega arith;
   trusted = obeys.trusted;
+  unfailing = obeys.unfailing;
 }
 
 -- ---- a device as a source

@@ -42,9 +42,9 @@
 //!   [`give`] gives what was found (`IsFound` in specs/Findings).
 //! * After a halt of the source, or of the writer, what was written until then is a front of those blocks. `Limits`
 //!   comes only for a geometry or a number that is out of range, and before anything is read.
-//! * Nothing is changed: the controller may have closed zones (`KeepsZones` in drive_survey/specs/Reported). Reads leave
-//!   a damaged block damaged (`KeepsSource`). What is given is told of the source as it is then: a block is lost only if
-//!   it is damaged by then.
+//! * Nothing is changed: the controller may have closed zones (`KeepsZones` in drive_survey/specs/Reported). Reads
+//!   leave a damaged block damaged (`KeepsSource`). What is given is told of the source as it is then: a block is lost
+//!   only if it is damaged by then.
 //!
 //! # What cannot be promised
 //!
@@ -63,9 +63,10 @@
 //!   one for each zero block at the end of a Read Only zone. An unreadable block takes one more each time.
 //!
 //! A device is a source by [`DeviceSource`]: a block is unreadable there if the device fails at a Read of it, and the
-//! rescue goes past it. As long as no command failed, each block can be read (`damaged_once_failed` in specs/Sources). A
-//! report that fails ends the rescue as a halt. [`WaySource`] is a drive to which a way passes single commands: a block
-//! that the drive does not give is lost there. [`WithDamage`] makes chosen blocks of a source unreadable, for tests.
+//! rescue goes past it. As long as no command failed, each block can be read (`damaged_once_failed` in specs/Sources).
+//! A report that fails ends the rescue as a halt. [`WaySource`] is a drive to which a way passes single commands: a
+//! block that the drive does not give is lost there. [`WithDamage`] makes chosen blocks of a source unreadable, for
+//! tests.
 //!
 //! Tests: `rescue_rows`.
 #![tactic(auto)]

@@ -3,12 +3,15 @@ ghost use Rattle.batch_log.specs.Causes.{is_zero};
 ghost use Rattle.batch_log.specs.Header.{head_size};
 ghost use Rattle.batch_log.specs.Log.{data_count};
 ghost use Rattle.drive_port.specs.Drive.{IsLawful};
-ghost use Rattle.drive_rescue.specs.Holding.{GetsIn, Holds, HoldsFinding, HoldsZone, IsSmall, IsSought, IsSoughtIn, SaysZero};
+ghost use Rattle.drive_rescue.specs.Holding.{GetsIn, Holds, HoldsFinding, HoldsZone, IsSmall, IsSought, IsSoughtIn};
+ghost use Rattle.drive_rescue.specs.Holding.{SaysZero};
 ghost use Rattle.drive_rescue.specs.Rescue.{KeepsSource};
 ghost use Rattle.drive_rescue.specs.Searching.{Finding, Place, EndsAt, Searched, after_header, after_other};
-ghost use Rattle.drive_rescue.specs.Searching.{after_reading, begun, doubt_before, ended, is_lost, is_whole, nothing_found, short_of};
+ghost use Rattle.drive_rescue.specs.Searching.{after_reading, begun, doubt_before, ended, is_lost, is_whole};
+ghost use Rattle.drive_rescue.specs.Searching.{nothing_found, short_of};
 ghost use Rattle.drive_rescue.specs.Searching.{tail_doubt, with_batch, with_gap, with_tail, with_zeros};
-ghost use Rattle.drive_rescue.specs.Zones.{ReadZone, TellsAll, TellsZone, blocks_told, cut, is_offline, is_open_ended, is_padded};
+ghost use Rattle.drive_rescue.specs.Zones.{ReadZone, TellsAll, TellsZone, blocks_told, cut, is_offline, is_open_ended};
+ghost use Rattle.drive_rescue.specs.Zones.{is_padded};
 ghost use Rattle.drive_rescue.specs.Zones.{read_zones, zone_with};
 ghost use Rattle.zone_states.specs.Geometry.{IsInRange};
 

@@ -27,8 +27,8 @@ pub record IsReady (geometry shape : Geometry) (zones : List Zone) (seen : List 
   pub leads : Leads geometry shape zones
   pub are : AreSeen zones seen
 
--- what is left where memory was missing before the command was sent, where the drive failed at it, or where the drive is
--- not believed any more
+-- what is left where memory was missing before the command was sent, where the drive failed at it, or where the drive
+-- is not believed any more
 abbrev pub HaltsSo : Halt → Geometry → List Zone → Result Command DecodeFault → List ℕ → List Zone → Type 0
 HaltsSo Memory geometry old command bytes new = new ≡ old
 HaltsSo Failed geometry old command bytes new = IsClosing old new
@@ -36,7 +36,8 @@ HaltsSo Stopped geometry old command bytes new = LeftBy geometry old command byt
 
 -- a command was completed with this value, or is not believed to be
 abbrev pub Asks : Geometry → List Zone → Command → List ℕ → Result ℕ Halt → List ℕ → List Zone → Type 0
-Asks geometry old command bytes (Ok value) returned new = Effect geometry old (Ok command) bytes Success value returned new
+Asks geometry old command bytes (Ok value) returned new =
+    Effect geometry old (Ok command) bytes Success value returned new
 Asks geometry old command bytes (Err halt) returned new = HaltsSo halt geometry old (Ok command) bytes new
 
 -- a drive after one command more was completed with a status

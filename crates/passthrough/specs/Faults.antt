@@ -6,7 +6,7 @@ use Rattle.passthrough.specs.declared.identify_fault.IdentifyFault.{IdentifyFaul
 use Rattle.passthrough.specs.declared.identify_fault.IdentifyFault.TheVariants as faults
 use Rattle.passthrough.specs.Fields.{metadata_size, protection_type, block_exponent, unwritten_reads, namespace_size}
 use Rattle.passthrough.specs.Fields.{zone_size, extension_units, has_variable_capacity, has_active_excursions}
-use Rattle.passthrough.specs.Fields.{active_field}
+use Rattle.passthrough.specs.Fields.{active_field, is_write_protected}
 use Rattle.passthrough.specs.Shape.{zone_limit}
 
 abbrev pub block_checks : Pages → List (Bool × IdentifyFault)
@@ -53,3 +53,7 @@ abbrev pub identify_checks : Pages → ℕ → ℕ → List (Bool × IdentifyFau
 identify_checks pages capacity limit =
     block_checks pages ++ layout_checks pages ++ capacity_checks pages capacity ++ transfer_checks pages limit
     ++ active_checks pages
+
+-- Only a disk that is to be changed has this test.
+abbrev pub writing_checks : Pages → List (Bool × IdentifyFault)
+writing_checks pages = (is_write_protected pages, faults.WriteProtected) ∷ []

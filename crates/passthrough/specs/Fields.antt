@@ -43,6 +43,10 @@ protection_type pages = slice_index pages.namespace 29 % 8
 abbrev pub unwritten_reads : Pages → ℕ
 unwritten_reads pages = slice_index pages.namespace 33 % 8
 
+-- NSATTR, Namespace Attributes: bit 0 says whether the namespace is write protected
+abbrev pub is_write_protected : Pages → Bool
+is_write_protected pages = slice_index pages.namespace 99 % 2 == 1
+
 -- MS, Metadata Size, in the four bytes of the LBA format: in bytes
 abbrev pub metadata_size : Pages → ℕ
 metadata_size pages = little_from (128 + 4 * format_index pages) 2 pages.namespace

@@ -1,10 +1,11 @@
 -- The premise: what is sent to a drive, and what its answers say of its zones.
 --
--- In words: what a Read returns is believed. A Success was done, if the address of an Append is the zone's pointer, and a
--- report shows the zones that are there. Any other answer, or none, says only that the zones are left as by a stop inside the
--- command. But if an Append or an action is answered by an error, and the next report shows the zones as they were before it,
--- that report is believed, too.
-use Rattle.std.specs.Prelude.{◌≡◌, ◌⊎◌, ℕ, ◌+◌, ◌*◌, ◌/◌, ◌%◌, ◌^◌, ◌<◌, ◌≤◌, Bool, true, false, List, [], length, take, drop, slice_index, Option, None, Some, Ok}
+-- In words: what a Read returns is believed. A Success was done, if the address of an Append is the zone's pointer, and
+-- a report shows the zones that are there. Any other answer, or none, says only that the zones are left as by a stop
+-- inside the command. But if an Append or an action is answered by an error, and the next report shows the zones as
+-- they were before it, that report is believed, too.
+use Rattle.std.specs.Prelude.{◌≡◌, ◌⊎◌, ℕ, ◌+◌, ◌*◌, ◌/◌, ◌%◌, ◌^◌, ◌<◌, ◌≤◌, Bool, true, false, List, [], length, take}
+use Rattle.std.specs.Prelude.{drop, slice_index, Option, None, Some, Ok}
 use Rattle.std.specs.List.{AllByRecursion}
 use Rattle.byteorder.specs.Endian.{little_from}
 use Rattle.nvme_wire.specs.Descriptor.{state_code}
@@ -58,7 +59,8 @@ pub record IsSentRead (geometry : Geometry) (zones : List Zone) (address blocks 
   pub returned : room ≡ blocks * geometry.block
 
 -- an Append is of whole blocks, to a zone that has room for them
-pub record IsSentAppend (geometry : Geometry) (zones : List Zone) (address blocks : ℕ) (bytes : List ℕ) (room : ℕ) : Type 0 where
+pub record IsSentAppend (geometry : Geometry) (zones : List Zone) (address blocks : ℕ) (bytes : List ℕ)
+    (room : ℕ) : Type 0 where
   pub few : blocks ≤ geometry.transfer
   pub whole : length bytes ≡ blocks * geometry.block
   pub aligned : address % geometry.size ≡ 0
@@ -75,7 +77,8 @@ is_sent actions.Offline = false
 is_sent action = true
 
 -- an action goes to a zone in whose state it is admitted
-pub record IsSentAction (geometry : Geometry) (zones : List Zone) (address : ℕ) (action : Action) (bytes : List ℕ) (room : ℕ) : Type 0 where
+pub record IsSentAction (geometry : Geometry) (zones : List Zone) (address : ℕ) (action : Action) (bytes : List ℕ)
+    (room : ℕ) : Type 0 where
   pub kind : is_sent action ≡ true
   pub aligned : address % geometry.size ≡ 0
   pub in_range : address < end_of geometry
@@ -100,12 +103,14 @@ IsSent geometry zones Flush bytes end room = (bytes ≡ []) × (room ≡ 0)
 IsSent geometry zones (Read slba blocks) bytes end room = (bytes ≡ []) × IsSentRead geometry zones slba blocks end room
 IsSent geometry zones (Append zslba blocks) bytes end room = IsSentAppend geometry zones zslba blocks bytes room
 IsSent geometry zones (Send slba action false) bytes end room = IsSentAction geometry zones slba action bytes room
-IsSent geometry zones (Receive slba dwords AnyState true) bytes end room = (bytes ≡ []) × IsSentReport geometry slba dwords room
+IsSent geometry zones (Receive slba dwords AnyState true) bytes end room =
+    (bytes ≡ []) × IsSentReport geometry slba dwords room
 IsSent geometry zones command bytes end room = ⊥
 
 -- ---- what is durable
 
--- a Reset is sent only while all that was appended is flushed: else blocks that were moved out of the zone could be lost with the power
+-- a Reset is sent only while all that was appended is flushed: else blocks that were moved out of the zone could be
+-- lost with the power
 abbrev pub IsSafe : Command → Bool → Type 0
 IsSafe (Send slba actions.Reset all) flushed = flushed ≡ true
 IsSafe command flushed = Unit {0}
@@ -157,7 +162,8 @@ pub record IsOfZone (geometry : Geometry) (number : ℕ) (bytes : List ℕ) : Ty
 abbrev pub ShowsZones : Geometry → List Zone → ℕ → List ℕ → Type 0
 ShowsZones geometry zones address report =
     (i : ℕ) → 64 + 64 * i < length report
-    → Shows geometry (address / geometry.size + i) (zone_at zones (address / geometry.size + i)) (descriptor_in report i)
+    → Shows geometry (address / geometry.size + i) (zone_at zones (address / geometry.size + i))
+    (descriptor_in report i)
 
 -- a controller closes a zone in the first of these states by itself, which leaves it in the second
 abbrev pub is_closable : ZoneState → Bool
@@ -170,7 +176,8 @@ pub record IsSameZone (old new : Zone) : Type 0 where
   pub blocks : new.blocks ≡ old.blocks
   pub state : (new.state ≡ old.state) ⊎ ((is_closable old.state ≡ true) × (is_closable new.state ≡ true))
 
--- a report shows the zones that are there, but for which of them are implicitly opened and which Closed: it is believed about that
+-- a report shows the zones that are there, but for which of them are implicitly opened and which Closed: it is believed
+-- about that
 abbrev pub MayShow : Geometry → List Zone → ℕ → List ℕ → Type 0
 MayShow geometry zones address report =
     (i : ℕ) → 64 + 64 * i < length report
@@ -178,7 +185,8 @@ MayShow geometry zones address report =
     × Shows geometry (address / geometry.size + i) zone (descriptor_in report i)
 
 -- it shows the zones of one moment
-pub record Reports (geometry : Geometry) (old : List Zone) (address : ℕ) (report : List ℕ) (new : List Zone) : Type 0 where
+pub record Reports (geometry : Geometry) (old : List Zone) (address : ℕ) (report : List ℕ)
+    (new : List Zone) : Type 0 where
   pub middle : List Zone
   pub before : IsClosing old middle
   pub shows : ShowsZones geometry middle address report
@@ -200,10 +208,12 @@ value_of command value = 0
 -- the command was completed, with this value and with what it returned in the room
 abbrev pub IsDone : Geometry → List Zone → Command → List ℕ → ℕ → List ℕ → List Zone → Type 0
 IsDone geometry old (Receive slba dwords options partial) bytes value room new = Reports geometry old slba room new
-IsDone geometry old command bytes value room new = Effect geometry old (Ok command) bytes Success (value_of command value) room new
+IsDone geometry old command bytes value room new =
+    Effect geometry old (Ok command) bytes Success (value_of command value) room new
 
 -- what the answer to a command says of the zones; the status 0 is Success
-pub record Answers (geometry : Geometry) (old : List Zone) (command : Command) (bytes : List ℕ) (status value : ℕ) (room : List ℕ)
+pub record Answers (geometry : Geometry) (old : List Zone) (command : Command) (bytes : List ℕ) (status value : ℕ)
+    (room : List ℕ)
     (new : List Zone) : Type 0 where
   pub believed : status ≡ 0 → Agrees geometry old command value room → IsDone geometry old command bytes value room new
   pub left : LeftBy geometry old (Ok command) bytes new
@@ -222,11 +232,13 @@ WereBefore (Some before) zones = zones ≡ before
 
 -- a report shows the zones as they were before the command
 abbrev pub ShowsBefore : Geometry → Option (List Zone) → ℕ → List ℕ → Type 0
-ShowsBefore geometry before address report = (zones : List Zone) × WereBefore before zones × MayShow geometry zones address report
+ShowsBefore geometry before address report =
+    (zones : List Zone) × WereBefore before zones × MayShow geometry zones address report
 
--- After an Append or an action that is answered by an error the zones before it count as such. A report that comes next, and
--- succeeds, is believed if it shows these.
-abbrev pub Recalls : Geometry → List Zone → Option (List Zone) → Command → ℕ → List ℕ → List Zone → Option (List Zone) → Type 0
+-- After an Append or an action that is answered by an error the zones before it count as such. A report that comes
+-- next, and succeeds, is believed if it shows these.
+abbrev pub Recalls : Geometry → List Zone → Option (List Zone) → Command → ℕ → List ℕ → List Zone → Option (List Zone)
+    → Type 0
 Recalls geometry old before (Append zslba blocks) status room new next = IsError status → WereBefore next old
 Recalls geometry old before (Send slba action all) status room new next = IsError status → WereBefore next old
 Recalls geometry old before (Receive slba dwords options partial) status room new next =

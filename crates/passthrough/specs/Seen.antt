@@ -1,5 +1,6 @@
 -- What was seen of the zones.
-use Rattle.std.specs.Prelude.{◌≡◌, ◌⊎◌, ℕ, ◌<◌, ◌||◌, Bool, true, false, List, length, slice_index_or, IfSome, None, is_some}
+use Rattle.std.specs.Prelude.{◌≡◌, ◌⊎◌, ℕ, ◌<◌, ◌||◌, Bool, true, false, List, length, slice_index_or, IfSome, None}
+use Rattle.std.specs.Prelude.{is_some}
 use Rattle.nvme_wire.specs.declared.zone_state.ZoneState.{ZoneState}
 use Rattle.nvme_wire.specs.declared.zone_state.ZoneState.TheVariants.{Closed, Full, ImplicitlyOpened, Offline, ReadOnly}
 use Rattle.zone_states.specs.declared.geometry.Geometry.{Geometry}

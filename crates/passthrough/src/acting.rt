@@ -29,8 +29,8 @@ fn may_act(geometry: Geometry, seen: &[SeenZone], slba: u64, action: Action) -> 
     geometry.start_of(number) == slba && zone_at(seen, u64::from(number)).admits(action)
 }
 
-/// Closes, finishes or resets the zone that starts at an address. A Flush is sent before a Reset where it is needed. If the
-/// drive answers the action by an error, a report has to show that it was not done: then it failed.
+/// Closes, finishes or resets the zone that starts at an address. A Flush is sent before a Reset where it is needed. If
+/// the drive answers the action by an error, a report has to show that it was not done: then it failed.
 pub(crate) fn act<P: Passthrough>(
     way: &mut P,
     geometry: Geometry,

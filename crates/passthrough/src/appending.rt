@@ -49,8 +49,8 @@ fn awaited(
     Some(next)
 }
 
-/// Appends blocks to the zone that starts at an address. Only the address at which the zone is written next is believed. If
-/// the drive answers by an error, a report has to show that nothing was written: then the Append failed.
+/// Appends blocks to the zone that starts at an address. Only the address at which the zone is written next is
+/// believed. If the drive answers by an error, a report has to show that nothing was written: then the Append failed.
 pub(crate) fn append<P: Passthrough>(
     way: &mut P,
     geometry: Geometry,

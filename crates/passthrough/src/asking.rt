@@ -19,8 +19,8 @@ use drive_port::{Geometry, Halt};
 use nvme_wire::Command;
 use std::alloc::Global;
 
-/// Sends a command that a disk needs: a Flush, a Read, an Append, a report, or a Close, Finish or Reset of one zone. What
-/// it returns goes after what `into` holds. No other command is sent: it stops the device.
+/// Sends a command that a disk needs: a Flush, a Read, an Append, a report, or a Close, Finish or Reset of one zone.
+/// What it returns goes after what `into` holds. No other command is sent: it stops the device.
 pub(crate) fn ask<P: Passthrough>(
     alloc: Global,
     way: &mut P,

@@ -22,9 +22,9 @@ use std::marker::Model;
 use zone_states::GeometryFault;
 
 /// A drive behind a way that takes single commands. It takes the commands that a disk sends, and believes of their
-/// answers only what agrees with all that was seen before. A command that had no effect has failed, and the next one may
-/// succeed: a Read that the drive did not do, or an Append after which a report shows the zone as before. At anything else
-/// that does not agree it stops.
+/// answers only what agrees with all that was seen before. A command that had no effect has failed, and the next one
+/// may succeed: a Read that the drive did not do, or an Append after which a report shows the zone as before. At
+/// anything else that does not agree it stops.
 #[derive(Drop)]
 pub struct PassthroughDrive<P: Passthrough + Drop> {
     alloc: Global,
@@ -92,8 +92,8 @@ struct Reply {
 }
 
 impl<P: Passthrough + Drop> PassthroughDrive<P> {
-    /// The drive that a way leads to, with what was seen of each of its zones. It has completed no command. The fault is
-    /// the first part of its geometry that is out of range.
+    /// The drive that a way leads to, with what was seen of each of its zones. It has completed no command. The fault
+    /// is the first part of its geometry that is out of range.
     pub fn new(
         alloc: Global,
         way: P,
@@ -137,8 +137,9 @@ impl<P: Passthrough + Drop> PassthroughDrive<P> {
         &self.way
     }
 
-    /// Reads blocks, puts their bytes after those that `into` holds, and tells whether the drive returned them. It stops
-    /// at nothing that the drive answers: after a Read that is not done, the next one can be. Such Reads are not counted.
+    /// Reads blocks, puts their bytes after those that `into` holds, and tells whether the drive returned them. It
+    /// stops at nothing that the drive answers: after a Read that is not done, the next one can be. Such Reads are not
+    /// counted.
     pub fn try_read(&mut self, slba: u64, blocks: u32, into: &mut Vec<u8>) -> Result<bool, Halt>
         requires some { 1 ≤ blocks }
         ensures read { IfOk result (λ done. done ≡ true → Adds into.old.items (λ returned.

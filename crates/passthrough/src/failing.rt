@@ -17,7 +17,8 @@ use nvme_wire::{Command, ReportingOptions};
 /// The lowest number that is no status, and stands for no answer.
 const NO_ANSWER: u16 = 1 << 11;
 
-/// Whether a report of a zone shows it as it was seen. It is asked for right after a command that was answered by an error.
+/// Whether a report of a zone shows it as it was seen. It is asked for right after a command that was answered by an
+/// error.
 fn is_as_seen<P: Passthrough>(
     way: &mut P,
     geometry: Geometry,
@@ -26,8 +27,9 @@ fn is_as_seen<P: Passthrough>(
 ) -> bool
     requires leads { Leads geometry (P.shape way.old) (P.zones way.old) }
     requires there { number < geometry.zones }
-    ensures seen { result ≡ true → (zones : List Zone) → WereBefore (P.before way.old) zones → length zones ≡ geometry.zones
-        → AreSeen zones seen.now → WasAsSeen number (P.zones way.old) (seen_at seen.now number) (P.zones way.new) }
+    ensures seen { result ≡ true → (zones : List Zone) → WereBefore (P.before way.old) zones
+        → length zones ≡ geometry.zones → AreSeen zones seen.now
+        → WasAsSeen number (P.zones way.old) (seen_at seen.now number) (P.zones way.new) }
     ensures closes { IsClosing (P.zones way.old) (P.zones way.new) }
     ensures leads { Leads geometry (P.shape way.new) (P.zones way.new) }
     ensures flushed { P.flushed way.old ≡ true → P.flushed way.new ≡ true }
@@ -44,8 +46,9 @@ fn is_as_seen<P: Passthrough>(
         && agrees(geometry, number, 1, seen, &room)
 }
 
-/// How a command to a zone ended that was not answered by Success. If it was answered by an error, a report of the zone is
-/// asked for. If that shows the zone as it was seen, the command failed, and had no effect. Else the device has to stop.
+/// How a command to a zone ended that was not answered by Success. If it was answered by an error, a report of the zone
+/// is asked for. If that shows the zone as it was seen, the command failed, and had no effect. Else the device has to
+/// stop.
 pub(crate) fn failure<P: Passthrough>(
     way: &mut P,
     geometry: Geometry,

@@ -30,8 +30,8 @@ fn send_flush<P: Passthrough>(way: &mut P, geometry: Geometry) -> bool
     way.submit(&Command::Flush, &[], 0, &mut [], &mut value) == 0
 }
 
-/// Sends a Flush before a Reset, if anything was written since the last one. Else blocks that were moved out of the zone
-/// could be lost with the power once the zone is empty.
+/// Sends a Flush before a Reset, if anything was written since the last one. Else blocks that were moved out of the
+/// zone could be lost with the power once the zone is empty.
 pub(crate) fn flush_before<P: Passthrough>(
     way: &mut P,
     geometry: Geometry,
@@ -69,8 +69,8 @@ fn widened(stretch: (u32, u32), number: u32) -> (u32, u32)
     (first, number - first + 1)
 }
 
-/// The shortest stretch that has all zones that are due, of those from a first one on: its first zone, and how many zones
-/// it has. There is none if no zone is due.
+/// The shortest stretch that has all zones that are due, of those from a first one on: its first zone, and how many
+/// zones it has. There is none if no zone is due.
 fn due_stretch(seen: &[SeenZone], first: u32, count: u32) -> (u32, u32)
     requires { first + count < 2 ^ 32 }
     ensures { CoversDue seen.now first count result.0 result.1 }

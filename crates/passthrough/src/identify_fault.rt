@@ -1,6 +1,7 @@
 use thiserror::Error;
 
-/// Why a disk does not work on a namespace: the first test that fails, in this order.
+/// Why a disk does not work on a namespace: the first test that fails, in this order. The last one is made only for a
+/// disk that is to be changed.
 #[derive(Clone, Copy, Debug, PartialEq, Eq, Error)]
 pub enum IdentifyFault {
     /// The drive refuses Identify for the Zoned Namespace Command Set.
@@ -45,4 +46,7 @@ pub enum IdentifyFault {
     /// The zones that may be active at a time.
     #[error("the limit on active zones is {0}, and has to be 2 or more")]
     Active(u32),
+    /// Its NSATTR says that no host can write to it now.
+    #[error("the namespace is write protected (bit 0 of NSATTR is 1): it can be read, and not changed")]
+    WriteProtected,
 }

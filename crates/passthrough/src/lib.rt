@@ -12,8 +12,8 @@
 //! returns is believed. A Success was done, if the address of an Append is the zone's pointer, and a report shows the
 //! zones that are there. Any other answer, or none, says only that the zones are left as by a stop inside the command.
 //! But if an Append or an action is answered by an error, and the next report shows its zone as it was before, that
-//! report is believed: the command had no effect. After a Flush that succeeds all that was appended is flushed, until the
-//! next Append.
+//! report is believed: the command had no effect. After a Flush that succeeds all that was appended is flushed, until
+//! the next Append.
 //!
 //! [`PassthroughDrive`] makes a device of a way. [`ReadAhead`] is a way above a way. [`Through`] is a way to any
 //! device, so the contract of a way can be met, and all of this can be tried over a drive in memory.
@@ -35,14 +35,14 @@
 //!   seen of each zone (`specs/Seen.antt`), and that table is true as long as the device has not stopped.
 //! * What a first report shows of each zone is true of the zones that it shows ([`zones_shown`]); or the report has
 //!   another length, or a descriptor of another zone.
-//! * A Read that is not answered by Success is `Failed`, and so is a report: they change nothing, and the device goes on.
-//!   By contract no Read stops it.
+//! * A Read that is not answered by Success is `Failed`, and so is a report: they change nothing, and the device goes
+//!   on. By contract no Read stops it.
 //! * If an Append, a Close, a Finish or a Reset is answered by an error status, the device asks for one report of its
-//!   zone. If that shows the zone in the state and at the pointer that the table says, the command is `Failed`: it had no
-//!   effect, and the device goes on. Else the device stops.
-//! * It stops for ever at a Flush that is not answered by Success, at an Append or an action that is not answered at all,
-//!   at an Append with another address than the table says, and at a report with a zone in another state, at another
-//!   pointer, or of another shape (`specs/Showing.antt`). Then it sends nothing.
+//!   zone. If that shows the zone in the state and at the pointer that the table says, the command is `Failed`: it had
+//!   no effect, and the device goes on. Else the device stops.
+//! * It stops for ever at a Flush that is not answered by Success, at an Append or an action that is not answered at
+//!   all, at an Append with another address than the table says, and at a report with a zone in another state, at
+//!   another pointer, or of another shape (`specs/Showing.antt`). Then it sends nothing.
 //! * It counts the entries that were completed, and nothing that it sends by itself: no report after a command or a
 //!   Flush, and no Flush before a Reset.
 //! * [`PassthroughDrive::try_read`] tells whether the drive returned the blocks. A rescue reads so.
@@ -50,10 +50,11 @@
 //!   table, and reports of no more than one transfer. A block that is not written is zeros, whatever the drive says.
 //! * A Flush looks before it is answered. Once the drive has done it, the device asks for a report of each zone that is
 //!   active, and of each that was written, closed, finished or reset since the last Flush (`FlushLooked` in
-//!   `specs/Showing.antt`). One report shows as many neighbours as one transfer holds. What does not fit stops the device.
+//!   `specs/Showing.antt`). One report shows as many neighbours as one transfer holds. What does not fit stops the
+//!   device.
 //! * Before a Reset it sends a Flush, if anything was appended since the last one, or may have been before the device
-//!   began. So blocks that were moved out of a zone are durable before the zone is emptied. The contract of a way asks for
-//!   it: a Reset is sent only while all that was appended is flushed (`IsSafe` in `specs/Premise.antt`).
+//!   began. So blocks that were moved out of a zone are durable before the zone is emptied. The contract of a way asks
+//!   for it: a Reset is sent only while all that was appended is flushed (`IsSafe` in `specs/Premise.antt`).
 //! * It sends no Write, no Open, no Offline and no action to all zones. These stop the device. A disk needs none of
 //!   them, and a real drive may do half of some.
 //! * [`ReadAhead`] answers a Read by what the zones hold, and never reads past the end that it is given.
@@ -61,10 +62,11 @@
 //!   metadata and no protection information, and read as zeros until they are written. The capacity of its zones does
 //!   not vary, only the host makes them Full, and their descriptors have no extension. Else the first test that fails
 //!   is named with its number, in the order of [`IdentifyFault`] (`specs/Faults.antt`); none exactly if all pass.
+//! * [`check_writable`] refuses a namespace exactly if bit 0 of its NSATTR says that it is write protected.
 //! * An [`Identity`] has the model and serial number of the drive, without white space at their ends, and the bytes of
 //!   the namespace. A byte that is not printable ASCII is shown as `?` (`specs/Identity.antt`).
 //! * [`Pages::has_write_cache`] tells whether the drive has a volatile write cache, and [`Pages::can_save_features`]
-//!   whether it can save such a setting.
+//!   whether it can save such a setting. [`Pages::is_write_protected`] tells whether the namespace is write protected.
 //!
 //! # What is assumed of Identify
 //!
@@ -84,8 +86,8 @@
 //! * A Flush that a drive refused, and that a way told as done, is refused by no contract: a drive of this profile has
 //!   no volatile write cache.
 //! * What a loss of power leaves of the drive. Of a way it is only known that all that was appended is flushed. The
-//!   device's `durable` is empty: by the contract of a device only its own Flush changes what may be left. Here the Flush
-//!   before a Reset does so, too, and so does each Append, of which a real drive may keep any part.
+//!   device's `durable` is empty: by the contract of a device only its own Flush changes what may be left. Here the
+//!   Flush before a Reset does so, too, and so does each Append, of which a real drive may keep any part.
 //! * A look after a Flush guards against drives that break the premise: an Append that was answered and not done, and a
 //!   Reset by another program. Under the premise each such report fits.
 //! * That the fields of Identify are where drives have them. It is tested over pages of QEMU's drives.
@@ -127,5 +129,5 @@ pub use pages::Pages;
 pub use passthrough::Passthrough;
 pub use read_ahead::ReadAhead;
 pub use seen_zone::SeenZone;
-pub use shape::geometry_of;
+pub use shape::{check_writable, geometry_of};
 pub use through::Through;

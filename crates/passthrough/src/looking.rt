@@ -70,8 +70,8 @@ fn see(first: u32, count: u32, seen: &mut [SeenZone], report: &[u8])
     }
 }
 
-/// Asks for a report of some zones, and sees what it shows. It is believed only if it agrees with what was seen before. A
-/// report that is not answered by Success has no effect: what was seen stays true.
+/// Asks for a report of some zones, and sees what it shows. It is believed only if it agrees with what was seen before.
+/// A report that is not answered by Success has no effect: what was seen stays true.
 pub(crate) fn look<P: Passthrough>(
     way: &mut P,
     geometry: Geometry,

@@ -1,7 +1,7 @@
 ghost use Rattle.std.specs.Prelude.{◌≡◌, ◌<◌};
 ghost use Rattle.passthrough.specs.Fields.{active_field, append_field, block_exponent, can_save_features};
 ghost use Rattle.passthrough.specs.Fields.{extension_units, format_index, has_active_excursions};
-ghost use Rattle.passthrough.specs.Fields.{has_variable_capacity, has_write_cache, metadata_size};
+ghost use Rattle.passthrough.specs.Fields.{has_variable_capacity, has_write_cache, is_write_protected, metadata_size};
 ghost use Rattle.passthrough.specs.Fields.{namespace_size, open_field, protection_type};
 ghost use Rattle.passthrough.specs.Fields.{transfer_field, unwritten_reads, zone_size};
 
@@ -77,6 +77,13 @@ impl Pages {
         ensures { result ≡ unwritten_reads self.now }
     {
         self.namespace[33] & 7
+    }
+
+    /// Whether the namespace is write protected, so that no host can write to it now: bit 0 of NSATTR.
+    pub fn is_write_protected(&self) -> bool
+        ensures { result ≡ is_write_protected self.now }
+    {
+        self.namespace[99] & 1 == 1
     }
 
     /// MS: the bytes of metadata of a block.

@@ -19,8 +19,8 @@ pub trait Passthrough {
     /// Whether all that was appended is flushed, so that a loss of power keeps it.
     ghost flushed: { Self → Bool };
 
-    /// The zones before the last command, if that was an Append or an action, and was answered by an error. A report that
-    /// comes next, and shows these, is believed, too. A way may say none if its reports always show what is there.
+    /// The zones before the last command, if that was an Append or an action, and was answered by an error. A report
+    /// that comes next, and shows these, is believed, too. A way may say none if its reports always show what is there.
     ghost before: { Self → Option (List Zone) };
 
     /// The shape of the drive, which never changes.
@@ -29,8 +29,9 @@ pub trait Passthrough {
         ensures lawful { AreLawful (shape self.now) (zones self.now) };
 
     /// Sends a command to the drive. The answer is its status without the bits Do Not Retry and More, so 0 for Success.
-    /// If there is no answer, it is a number from 2^11 on. What a Read or a report returns fills the room. An Append that
-    /// succeeds gives the address of its first block as the value. A Read may go on up to `end`: a way may read ahead.
+    /// If there is no answer, it is a number from 2^11 on. What a Read or a report returns fills the room. An Append
+    /// that succeeds gives the address of its first block as the value. A Read may go on up to `end`: a way may read
+    /// ahead.
     fn submit(
         &mut self,
         command: &Command,

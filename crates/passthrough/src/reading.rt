@@ -30,8 +30,8 @@ fn is_one_transfer(geometry: Geometry, slba: u64, blocks: u32) -> bool
     slba % u64::from(geometry.size) + u64::from(blocks) <= u64::from(geometry.size)
 }
 
-/// How many blocks of a Read the drive is asked for, if it is not refused: all that are written, as far as is known. With
-/// the address up to which the zone can be read.
+/// How many blocks of a Read the drive is asked for, if it is not refused: all that are written, as far as is known.
+/// With the address up to which the zone can be read.
 fn asked_for(geometry: Geometry, seen: &[SeenZone], slba: u64, blocks: u32) -> Option<(u32, u64)>
     requires in_range { IsInRange geometry }
     requires some { 1 ≤ blocks }

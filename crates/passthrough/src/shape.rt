@@ -4,6 +4,7 @@ ghost use Rattle.zone_states.specs.Geometry.{IsInRange};
 ghost use Rattle.passthrough.specs.Fields.{block_exponent, namespace_size, zone_size};
 ghost use Rattle.passthrough.specs.Shape.{HasPlainBlocks, HasPlainZones, IsShapeOf};
 ghost use Rattle.passthrough.specs.Faults.{block_checks, capacity_checks, identify_checks, layout_checks};
+ghost use Rattle.passthrough.specs.Faults.{writing_checks};
 
 use crate::identify_fault::IdentifyFault;
 use crate::limits::{active_of, transfer_of, zone_limit};
@@ -115,4 +116,16 @@ pub fn geometry_of(pages: &Pages, capacity: u64, limit: u64) -> Result<Geometry,
         active,
         open: zone_limit(pages.open_field()).min(active),
     })
+}
+
+/// Refuses a namespace that is write protected, which no host can write to now. A disk that is only read works on it,
+/// as long as its mount has nothing to change.
+pub fn check_writable(pages: &Pages) -> Result<(), IdentifyFault>
+    ensures passed { OnOk result (first_failing (writing_checks pages.now) ≡ None) }
+    ensures err { IfErr result (λ fault. first_failing (writing_checks pages.now) ≡ Some fault) }
+{
+    if pages.is_write_protected() {
+        return Err(IdentifyFault::WriteProtected);
+    }
+    Ok(())
 }

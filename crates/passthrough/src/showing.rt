@@ -44,7 +44,8 @@ fn shows_pointer(
     state: ZoneState,
     bytes: &[u8; 64],
 ) -> bool
-    ensures { result ≡ true → (next : ℕ) → pointer_of state (number * geometry.size + unwrap_or seen.written 0) ≡ Some next
+    ensures { result ≡ true → (next : ℕ)
+        → pointer_of state (number * geometry.size + unwrap_or seen.written 0) ≡ Some next
         → pointer_in bytes.now ≡ next }
 {
     let start = geometry.start_of(number);

@@ -81,7 +81,7 @@ pub record Mends (old : DriveState) (mended : Mended) (new : DriveState) : Type 
   pub moved : AreRepaired old mended.moved.items
   pub idle : mended.moved.items ≡ [] → SameContents old drive
   pub there : All (AreWhereTold old drive) mended.moved.items
-  pub faults : IfOk mended.found (AreFindings drive 1)
+  pub faults : IfOk mended.found (AreFindings drive new 1)
   pub halted : IfErr mended.found (λ halt. IsTold new (repair.Halted halt))
   pub looks : KeepsZones drive new
 

@@ -17,9 +17,10 @@
 //! * [`list_tails`] finds just the zones that end in something foreign, and says whether there is none. No zone is
 //!   changed, but that the controller may close some. [`list_file`] does so on the drive in a file, restarted.
 //! * [`mend`] loses no batch with which a zone began, whatever ends it. Done, each zone holds a log, and all faults are
-//!   found that the drive has then. It names just the zones that ended in something foreign, how many blocks the batches
-//!   of each take, and where these are then. A refusal changes no zone, nor does a repair that names none. A fault has
-//!   its cause (`RepairFails`), and one of [`list_tails`], too (`ListFails`). So has what ends the search for faults.
+//!   found that the drive has then. It names just the zones that ended in something foreign, how many blocks the
+//!   batches of each take, and where these are then. A refusal changes no zone, nor does a repair that names none. A
+//!   fault has its cause (`RepairFails`), and one of [`list_tails`], too (`ListFails`). So has what ends the search for
+//!   faults.
 //! * [`mend_file`] does so on the drive in a file: the store holds the drive that is left, and of it the same is true.
 //! * After a refusal nothing is saved ([`left_to_save`]): the file stays as it is.
 //! * [`repair_fault_line`] is the line of a fault: its number, its name, and the zone and the block that it names.

@@ -61,7 +61,7 @@ pub fn list_tails<D: Device + Honest, W: Write>(
 
 /// All faults of a drive, as a check finds them.
 fn find_faults<D: Device + Honest>(alloc: Global, device: &mut D) -> Result<Findings, Halt>
-    ensures ok { IfOk result (AreFindings (D.drive device.old) 1) }
+    ensures ok { IfOk result (AreFindings (D.drive device.old) (D.drive device.new) 1) }
     ensures err { IfErr result (λ halt. IsTold (D.drive device.new) (RepairFault.Halted halt)) }
     ensures kept { KeepsZones (D.drive device.old) (D.drive device.new) }
 {

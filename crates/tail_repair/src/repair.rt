@@ -1,12 +1,15 @@
 ghost use Rattle.std.specs.List.{All};
-ghost use Rattle.std.specs.Prelude.{◌≡◌, ◌≢◌, ◌<◌, ◌≤◌, ◌^◌, [], false, length, IfErr, IfNone, IfOk, IfSome, IsTrue, OnOk};
+ghost use Rattle.std.specs.Prelude.{◌≡◌, ◌≢◌, ◌<◌, ◌≤◌, ◌^◌, [], false, length, IfErr, IfNone, IfOk, IfSome, IsTrue};
+ghost use Rattle.std.specs.Prelude.{OnOk};
 ghost use Rattle.std.specs.Prelude.{unwrap_or};
 ghost use Rattle.drive_port.specs.Contents.{SameContents, usage_of};
 ghost use Rattle.drive_port.specs.Drive.{IsLawful};
 ghost use Rattle.drive_survey.specs.Reported.{IsKnown, KeepsZones};
 ghost use Rattle.drive_survey.specs.Scan.{AreKnown};
-ghost use Rattle.tail_repair.specs.Repair.{AreIn, AreRepaired, AreWhereTold, Ascends, BatchesEnd, HaveLogs, IsElsewhere};
-ghost use Rattle.tail_repair.specs.Repair.{IsMoved, IsNoneAbove, IsTold, KeepsBeside, KeepsDrive, LookFails, NoOtherEmpty};
+ghost use Rattle.tail_repair.specs.Repair.{AreIn, AreRepaired, AreWhereTold, Ascends, BatchesEnd, HaveLogs};
+ghost use Rattle.tail_repair.specs.Repair.{IsElsewhere};
+ghost use Rattle.tail_repair.specs.Repair.{IsMoved, IsNoneAbove, IsTold, KeepsBeside, KeepsDrive, LookFails};
+ghost use Rattle.tail_repair.specs.Repair.{NoOtherEmpty};
 ghost use Rattle.tail_repair.specs.Repair.{RepairFails, is_empty, may_change, moved_tails};
 ghost use Rattle.tail_repair.specs.Repair.{place, tail_at, tail_of};
 ghost use Rattle.zone_states.specs.Geometry.{IsInRange};

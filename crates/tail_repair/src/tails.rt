@@ -3,7 +3,8 @@ ghost use Rattle.drive_port.specs.Contents.{is_usable, usage_of};
 ghost use Rattle.drive_survey.specs.Reported.{IsKnown, KeepsZones};
 ghost use Rattle.drive_survey.specs.Scan.{AreKnown};
 ghost use Rattle.drive_survey.specs.Survey.{AreReportedUsable, IsLowestReported};
-ghost use Rattle.tail_repair.specs.Repair.{AreTails, EndsAt, FindFails, HeadersEnd, LogEnds, NotesTail, TailIs, foreign_end};
+ghost use Rattle.tail_repair.specs.Repair.{AreTails, EndsAt, FindFails, HeadersEnd, LogEnds, NotesTail, TailIs};
+ghost use Rattle.tail_repair.specs.Repair.{foreign_end};
 ghost use Rattle.zone_states.specs.Geometry.{IsInRange};
 
 use crate::fault::RepairFault;

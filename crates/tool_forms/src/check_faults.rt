@@ -80,6 +80,19 @@ fn add_states(
     Ok(())
 }
 
+/// Adds each zone in which the drive failed at a command.
+fn add_unread(
+    alloc: Global,
+    findings: &Findings,
+    faults: &mut Vec<FoundFault>,
+) -> Result<(), AllocError> {
+    for zone in &findings.unread {
+        let text = format!(in alloc; "zone {zone} cannot be read: the drive failed at a command")?;
+        faults.push(in_zone(MountFault::Failed, *zone, text))?;
+    }
+    Ok(())
+}
+
 /// Adds each zone whose batches have a fault. Of a block that begins no batch the fault itself names the zone.
 fn add_batches(
     alloc: Global,
@@ -144,10 +157,11 @@ fn add_torn(
     Ok(())
 }
 
-/// The faults that zones show: those of their states, then of batches, and then torn zones.
+/// The faults that zones show: those of their states, then of reads, then of batches, and then torn zones.
 fn zone_faults(alloc: Global, findings: &Findings) -> Result<Vec<FoundFault>, AllocError> {
     let mut faults = Vec::new(alloc);
     add_states(alloc, findings, &mut faults)?;
+    add_unread(alloc, findings, &mut faults)?;
     add_batches(alloc, findings, &mut faults)?;
     add_repeated(alloc, findings, &mut faults)?;
     add_past_end(alloc, findings, &mut faults)?;

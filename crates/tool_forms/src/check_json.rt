@@ -1,5 +1,6 @@
 use crate::check_faults::{FoundFault, found_faults};
 use drive_inspection::Findings;
+use drive_survey::MountFault;
 use serde_json::{Value, json};
 use std::alloc::{AllocError, Global};
 
@@ -69,35 +70,56 @@ fn faults_json(alloc: Global, findings: &Findings) -> Result<Value, AllocError> 
     Ok(Value::Array(list))
 }
 
-/// Why a mount is refused, or null.
-fn refusal_json(alloc: Global, findings: &Findings) -> Result<Value, AllocError> {
-    let Some(refusal) = findings.refusal else {
-        return Ok(Value::Null);
-    };
-    let text = format!(in alloc; "{refusal}")?;
-    Value::try_from_str(alloc, text.as_str())
+/// The findings of a drive that can be mounted.
+fn mountable_json(alloc: Global) -> Result<Value, AllocError> {
+    json!(in alloc; {
+        "mountable": true,
+        "faults": [],
+        "refusal": null,
+        "unusable": [],
+        "partly_written": 0u64,
+        "batches": [],
+        "repeated": [],
+        "past_end": [],
+        "torn": [],
+    })
 }
 
-/// The findings as JSON: an object with `mountable`, `refusal`, all `faults`, and what they are in lists by
-/// their kinds.
-pub fn findings_json(alloc: Global, findings: &Findings) -> Result<String, AllocError> {
-    let refusal = refusal_json(alloc, findings)?;
+/// The findings of a drive that is refused.
+fn refused_json(
+    alloc: Global,
+    findings: &Findings,
+    refusal: MountFault,
+) -> Result<Value, AllocError> {
+    let refusal = format!(in alloc; "{refusal}")?;
     let unusable = zones_json(alloc, &findings.unusable)?;
     let batches = batches_json(alloc, findings)?;
     let repeated = repeated_json(alloc, findings)?;
     let past_end = past_end_json(alloc, findings)?;
     let torn = zones_json(alloc, &findings.torn)?;
+    let unread = zones_json(alloc, &findings.unread)?;
     let faults = faults_json(alloc, findings)?;
-    let all = json!(in alloc; {
-        "mountable": findings.refusal.is_none(),
+    json!(in alloc; {
+        "mountable": false,
         "faults": faults,
-        "refusal": refusal,
+        "refusal": refusal.as_str(),
         "unusable": unusable,
         "partly_written": findings.partly_written as u64,
         "batches": batches,
         "repeated": repeated,
         "past_end": past_end,
         "torn": torn,
-    })?;
+        "unread": unread,
+        "readable": findings.readable as u64,
+    })
+}
+
+/// The findings as JSON: an object with `mountable`, `refusal`, all `faults`, and what they are in lists by
+/// their kinds. Of a drive that is refused it also says which zones could not be read, and how many could.
+pub fn findings_json(alloc: Global, findings: &Findings) -> Result<String, AllocError> {
+    let all = match findings.refusal {
+        Some(refusal) => refused_json(alloc, findings, refusal)?,
+        None => mountable_json(alloc)?,
+    };
     all.to_string_pretty(alloc)
 }

@@ -20,19 +20,20 @@ fn write_refusal(
     Ok(())
 }
 
-/// Adds that no batch was checked, if a zone is Read Only or Offline.
-fn write_unchecked(text: &mut String, unusable: &[u32]) -> Result<(), AllocError> {
-    if unusable.is_empty() {
+/// Adds how many zones could be read, if not all could.
+fn write_readable(text: &mut String, findings: &Findings) -> Result<(), AllocError> {
+    if findings.unusable.is_empty() && findings.unread.is_empty() {
         return Ok(());
     }
+    let count = findings.readable;
     writeln!(
         text,
-        "no batch was checked, since a zone is Read Only or Offline: zonedisk rescue reads what can be read"
+        "zones that were read without a fault: {count}; zonedisk rescue gives what can be read"
     )
 }
 
 /// The findings as lines. The first says why a mount is refused, or that the drive can be mounted, and each of the
-/// others says one more fault. If a zone is Read Only or Offline, the last one says that no batch was checked.
+/// others says one more fault. If not all zones could be read, the last one says how many were.
 pub fn findings_text(alloc: Global, findings: &Findings) -> Result<String, AllocError> {
     let Some(refusal) = findings.refusal else {
         return String::from_str(alloc, "the drive can be mounted\n");
@@ -45,6 +46,6 @@ pub fn findings_text(alloc: Global, findings: &Findings) -> Result<String, Alloc
             writeln!(text, "{}", fault.text)?;
         }
     }
-    write_unchecked(&mut text, &findings.unusable)?;
+    write_readable(&mut text, findings)?;
     Ok(text)
 }

@@ -127,7 +127,16 @@ fn refused_json(alloc: Global, drive: &DriveInfo, fault: MountFault) -> Result<V
     let geometry = geometry_json(alloc, &drive.geometry)?;
     let refusal = format!(in alloc; "{fault}")?;
     let zones = all_reported_json(alloc, drive)?;
-    json!(in alloc; {"geometry": geometry, "refusal": refusal.as_str(), "zones": zones})
+    let unusable = numbers_json(alloc, &drive.faults.unusable)?;
+    let unread = numbers_json(alloc, &drive.faults.unread)?;
+    json!(in alloc; {
+        "geometry": geometry,
+        "refusal": refusal.as_str(),
+        "unusable": unusable,
+        "unread": unread,
+        "readable": drive.faults.readable as u64,
+        "zones": zones,
+    })
 }
 
 /// The object of a drive, with its mount if that was rehearsed.

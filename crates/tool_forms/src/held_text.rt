@@ -4,7 +4,7 @@ use crate::held_sums::{
 };
 use crate::zone_states_named::STATES;
 use drive_counter::Counts;
-use drive_inspection::{DriveInfo, Info, InspectedDrive, MountWork, Rehearsal};
+use drive_inspection::{DriveInfo, Findings, Info, InspectedDrive, MountWork, Rehearsal};
 use drive_survey::MountFault;
 use std::alloc::{AllocError, Global};
 use zone_report::state_text;
@@ -109,6 +109,21 @@ fn write_info(
     write_bars(text, &drive.geometry, &info.holdings)
 }
 
+/// Adds the lines of a drive that cannot be mounted: its zones that cannot be read, if there are any, and why it is
+/// refused.
+fn write_refused(
+    text: &mut String,
+    faults: &Findings,
+    refusal: MountFault,
+) -> Result<(), AllocError> {
+    if !faults.unusable.is_empty() || !faults.unread.is_empty() {
+        write_zones(text, "unusable zones", &faults.unusable)?;
+        write_zones(text, "unread zones", &faults.unread)?;
+        writeln!(text, "readable zones {}", faults.readable)?;
+    }
+    writeln!(text, "refused: {refusal}")
+}
+
 /// The lines of a drive, with those of its mount if that was rehearsed.
 fn drive_text(
     alloc: Global,
@@ -123,7 +138,7 @@ fn drive_text(
     write_states(&mut text, drive)?;
     match &drive.found {
         Ok(info) => write_info(alloc, &mut text, drive, info, rehearsed)?,
-        Err(fault) => writeln!(text, "refused: {fault}")?,
+        Err(fault) => write_refused(&mut text, &drive.faults, *fault)?,
     }
     Ok(text)
 }

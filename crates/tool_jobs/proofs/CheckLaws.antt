@@ -20,11 +20,13 @@ module _ (file : Bytes) (habit : Habit) (begun : Begun) (begins : IsRestarted fi
   read-in = record { whole = begun.whole; sum = begun.sum; is_file = begins.is_file }
 
   -- all of its faults are found
-  pub faults-found : (blocks : ℕ) (findings : Findings) → AreFindings begun.drive.state blocks findings → FindsFaults file blocks findings
-  faults-found blocks findings are = record {
+  pub faults-found : (last : DriveState) (blocks : ℕ) (findings : Findings) → KeepsZones begun.drive.state last → AreFindings begun.drive.state last blocks findings → FindsFaults file blocks findings
+  faults-found last blocks findings keeps are = record {
     saved = begins.opened;
     is_read = read-in;
-    are = subst (λ (drive : MemoryDrive). AreFindings drive.state blocks findings) begins.drive_is are;
+    last = last;
+    keeps = subst (λ (drive : MemoryDrive). KeepsZones drive.state last) begins.drive_is keeps;
+    are = subst (λ (drive : MemoryDrive). AreFindings drive.state last blocks findings) begins.drive_is are;
   }
 
   halts-in : (Halts : DriveState → Type 0) (last : DriveState) → KeepsZones begun.drive.state last → Halts last → HaltsInFile Halts file

@@ -27,7 +27,7 @@ of-zone [] zone blocks is = absurd (cc is)
 of-zone (info ∷ zones) zero blocks is = (info, refl, cc is)
 of-zone (info ∷ zones) (suc zone) blocks is = of-zone zones zone blocks is
 
-module _ (drive : DriveState) (n : ℕ) where
+module _ (drive last : DriveState) (n : ℕ) where
   counted-in : (info : Info) → IsInfo drive n info → CountsLive drive n (live_counts (Ok info))
   counted-in info is = record {
     count = length-counts info.holdings.zones.items ∙ is.holds.count;
@@ -37,17 +37,17 @@ module _ (drive : DriveState) (n : ℕ) where
   }
 
   -- the live blocks are counted, or a mount is refused
-  live-or-refused : (found : Result Info MountFault) (live : List ℕ) → InfoOrRefusal drive n found → live ≡ live_counts found → CountsLive drive n live ⊎ CountsNone drive n live
+  live-or-refused : (found : Result Info MountFault) (live : List ℕ) → InfoOrRefusal drive last n found → live ≡ live_counts found → CountsLive drive n live ⊎ CountsNone drive last n live
   live-or-refused (Ok info) live is same = rw same (inl (counted-in info is))
   live-or-refused (Err fault) live fails same = rw same (inr (refl, (fault, fails)))
 
 -- it is done with the number of blocks that the drive is taken to have
-pub counted : (drive : DriveState) (geometry : Geometry) (blocks : ℕ) (found : Result Info MountFault) (live : List ℕ) → geometry ≡ drive.geometry → (IsInRange geometry → blocks ≡ most_size geometry)
-    → InfoOrRefusal drive blocks found → live ≡ live_counts found → FindsLive drive live
-counted drive geometry blocks found live same most is counts = record {
+pub counted : (drive last : DriveState) (geometry : Geometry) (blocks : ℕ) (found : Result Info MountFault) (live : List ℕ) → geometry ≡ drive.geometry → (IsInRange geometry → blocks ≡ most_size geometry)
+    → InfoOrRefusal drive last blocks found → live ≡ live_counts found → FindsLive drive last live
+counted drive last geometry blocks found live same most is counts = record {
   blocks = blocks;
   most = subst (λ (g : Geometry). IsInRange g → blocks ≡ most_size g) same most;
-  counts = live-or-refused drive blocks found live is counts;
+  counts = live-or-refused drive last blocks found live is counts;
 }
 
 -- a drive that was not looked at to its end

@@ -23,7 +23,9 @@ IsInterrupted cause fault = fault ≡ Stopped
 pub record FindsFaults (file : Bytes) (blocks : ℕ) (findings : Findings) : Type 0 where
   pub saved : DriveState
   pub is_read : IsReadIn file saved
-  pub are : AreFindings (restarted saved) blocks findings
+  pub last : DriveState
+  pub keeps : KeepsZones (restarted saved) last
+  pub are : AreFindings (restarted saved) last blocks findings
 
 -- these are the faults, and this is whether a mount would be done
 abbrev pub FindsMountable : Bytes → ℕ → Bool → Findings → Type 0

@@ -8,7 +8,7 @@ use Rattle.drive_port.specs.Drive.{DriveState}
 use Rattle.drive_survey.specs.Reported.{KeepsZones}
 use Rattle.drive_survey.specs.Survey.{drive_size}
 use Rattle.drive_survey.specs.declared.fault.MountFault.{MountFault}
-use Rattle.remount.specs.Mount.{MountFails}
+use Rattle.drive_inspection.specs.Findings.{Refuses}
 use Rattle.drive_inspection.specs.declared.info.Info.{Info}
 use Rattle.drive_inspection.specs.declared.info.ZoneInfo.{ZoneInfo}
 use Rattle.job_drives.specs.Kept.{IsReadIn}
@@ -33,22 +33,22 @@ pub record CountsLive (drive : DriveState) (n : ℕ) (live : List ℕ) : Type 0 
   pub zones : (zone blocks : ℕ) → slice_get live zone ≡ Some blocks → blocks ≡ live_data (drive_size drive n) (drive_logs drive) zone
 
 -- of a drive that cannot be mounted none are counted
-abbrev pub CountsNone : DriveState → ℕ → List ℕ → Type 0
-CountsNone drive n live = (live ≡ []) × ((fault : MountFault) × MountFails drive n fault)
+abbrev pub CountsNone : DriveState → DriveState → ℕ → List ℕ → Type 0
+CountsNone drive last n live = (live ≡ []) × ((fault : MountFault) × Refuses drive last n (Some fault))
 
 -- These are the live blocks of a drive that can be mounted; of another there are none. If no header says how many
--- logical blocks it has, it is taken to have as many as it can serve.
-pub record FindsLive (drive : DriveState) (live : List ℕ) : Type 0 where
+-- logical blocks it has, it is taken to have as many as it can serve. The drive is `last` then.
+pub record FindsLive (drive last : DriveState) (live : List ℕ) : Type 0 where
   pub blocks : ℕ
   pub most : IsInRange drive.geometry → blocks ≡ most_size drive.geometry
-  pub counts : CountsLive drive blocks live ⊎ CountsNone drive blocks live
+  pub counts : CountsLive drive blocks live ⊎ CountsNone drive last blocks live
 
 -- This is the drive in the file, with its live blocks. It is as it was saved, but the controller may have closed zones.
 pub record FindsPicture (file : Bytes) (pictured : PicturedDrive) : Type 0 where
   pub saved : DriveState
   pub is_read : IsReadIn file saved
   pub keeps : KeepsZones saved pictured.drive.state
-  pub live : FindsLive saved pictured.live.items
+  pub live : FindsLive saved pictured.drive.state pictured.live.items
 
 -- why a drive is not looked at to its end: it has stopped, or failed at a command, or memory ran out
 abbrev pub LooksNone : DriveState → ToolFault → Type 0

@@ -71,7 +71,7 @@ fn live_counts(alloc: Global, found: &Result<Info, MountFault>) -> Result<Vec<u3
 
 /// How many live blocks with data each zone of a drive has; none if a mount is refused.
 pub fn find_live<D: Device + Honest>(alloc: Global, device: &mut D) -> Result<Vec<u32>, ToolFault>
-    ensures ok { IfOk result (λ live. FindsLive (D.drive device.old) live.items) }
+    ensures ok { IfOk result (λ live. FindsLive (D.drive device.old) (D.drive device.new) live.items) }
     ensures err { IfErr result (LooksNone (D.drive device.new)) }
     ensures kept { KeepsZones (D.drive device.old) (D.drive device.new) }
 {

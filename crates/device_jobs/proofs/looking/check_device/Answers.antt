@@ -16,6 +16,6 @@ returns-in_err-tell-clause-err g c =
     let shows = g.F.Form.shows c.args.form.now in
     let old = g.W.Write.contents c.args.output.now in
     let new = g.W.Write.contents c.tell.new.output in
-    exit (λ (fault : ToolFault). TellsNothing (IsUnasked last) (AreFindings first c.args.blocks) shows fault old new)
+    exit (λ (fault : ToolFault). TellsNothing (IsUnasked last) (AreFindings first last c.args.blocks) shows fault old new)
     c.from_residual-in_err-tell.result c.in_err-tell.field-0.0 c.from_residual-in_err-tell.ensures.1
-    (untold (AreFindings first c.args.blocks) shows old new c.in_ok-findings.findings c.in_ok-findings.ensures.ok (IsUnasked last) c.in_err-tell.field-0.0 c.in_err-tell.ensures.err)
+    (untold (AreFindings first last c.args.blocks) shows old new c.in_ok-findings.findings c.in_ok-findings.ensures.ok (IsUnasked last) c.in_err-tell.field-0.0 c.in_err-tell.ensures.err)

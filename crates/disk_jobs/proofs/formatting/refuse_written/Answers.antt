@@ -11,7 +11,7 @@ returns-in-Ok-None-clause-ok g c =
 pub returns-in-Ok-Some-clause-err : goal.returns-in-Ok-Some-clause-err
 returns-in-Ok-Some-clause-err g c =
     let some : c.in-Ok-Some.field-0 ≡ Some c.in-Ok-Some.written = rw c.in-Ok-Some.is at c.in-Ok-Some.field-0-is in
-    holds-drive (g.I.Read.remaining c.args.bytes.now) Lazy c.in-Ok.begun c.in-Ok-Some.written c.in-Ok.ensures.ok (rw some at (rw c.in-Ok-Some.is at (c.find_written-found.ensures.some c.vouch.ensures)))
+    holds-drive (g.I.Read.remaining c.args.bytes.now) Lazy c.in-Ok.begun c.find_written-found.new.device.state c.in-Ok-Some.written c.in-Ok.ensures.ok (rw some at (rw c.in-Ok-Some.is at (c.find_written-found.ensures.some c.vouch.ensures)))
 
 pub returns-in-Err-clause-err : goal.returns-in-Err-clause-err
 returns-in-Err-clause-err g c = rw c.unread.ensures (unread-held (g.I.Read.remaining c.args.bytes.now) c.in-Err.fault c.in-Err.ensures.err)

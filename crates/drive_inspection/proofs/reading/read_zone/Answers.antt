@@ -1,15 +1,5 @@
-use Rattle.std.proofs.Common.{inl, inr, refl}
-use Rattle.drive_inspection.proofs.FaultLaws.{scan-interrupted}
+use Rattle.drive_survey.proofs.ReadLaws.{keeps-none}
 use Rattle.drive_inspection.proofs.reading.read_zone.Goals as goal
 
-pub returns-in-Err-Halted-clause-err : goal.returns-in-Err-Halted-clause-err
-returns-in-Err-Halted-clause-err g c clean =
-    scan-interrupted (g.D.Device.drive c.scan_zone.new.device) _ _ c.args.zone.number _ _ (inr (inl refl)) (rw c.in-Err-Halted.field-0-is at (c.in-Err-Halted.ensures.err clean))
-
-pub returns-in-Err-Failed-clause-err : goal.returns-in-Err-Failed-clause-err
-returns-in-Err-Failed-clause-err g c clean =
-    scan-interrupted (g.D.Device.drive c.scan_zone.new.device) _ _ c.args.zone.number _ _ (inr (inr (inl refl))) (rw c.in-Err-Failed.field-0-is at (c.in-Err-Failed.ensures.err clean))
-
-pub returns-in-Err-Damaged-clause-err : goal.returns-in-Err-Damaged-clause-err
-returns-in-Err-Damaged-clause-err g c clean =
-    scan-interrupted (g.D.Device.drive c.scan_zone.new.device) _ _ c.args.zone.number _ _ (inr (inr (inr refl))) (rw c.in-Err-Damaged.field-0-is at (c.in-Err-Damaged.ensures.err clean))
+pub returns-then-is_unusable-clause-kept : goal.returns-then-is_unusable-clause-kept
+returns-then-is_unusable-clause-kept g c = keeps-none _ c.requires.zone.lawful

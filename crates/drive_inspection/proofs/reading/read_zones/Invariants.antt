@@ -9,5 +9,5 @@ invariant-loop-number g l = record {
   kept : KeepsZones (g.D.Device.drive l.fn.device) (g.D.Device.drive l.device);
   count : length l.reads.items ≡ l.number;
   tell : AreTelling l.reads.items;
-  each : IsTrue (g.D.Device.drive l.device).clean → EachRead (g.D.Device.drive l.fn.device) l.reads.items;
+  each : IsTrue (g.D.Device.drive l.device).clean → EachRead (g.D.Device.drive l.fn.device) (g.D.Device.drive l.device) l.reads.items;
 }

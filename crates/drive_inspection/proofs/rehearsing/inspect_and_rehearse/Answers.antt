@@ -1,4 +1,4 @@
-use Rattle.std.proofs.Common.{IsTrue, ap, subst, arith}
+use Rattle.std.proofs.Common.{IsTrue, ap, refl, subst, arith}
 use Rattle.std.specs.Prelude.{IfErr, IfOk}
 use Rattle.drive_port.specs.Drive.{DriveState}
 use Rattle.drive_survey.specs.Scan.{FailsBy}
@@ -20,8 +20,10 @@ returns-in_default-clause-ok g c clean =
     let now : IsTrue last.clean = subst (λ (d : DriveState). IsTrue d.clean) c.into_inner-device.ensures clean in
     let was : IsTrue looked.clean = (subst (λ (d : DriveState). Stays d last) same c.rehearse_mount-mounted.ensures.stays).trusted now in
     record {
+      looked = looked;
       info = c.in-Ok.ensures.ok was;
       seen = seen;
+      uncounted = refl;
       keeps = keeps-uncounted (g.D.Device.drive c.args.device) looked c.inspect_drive.ensures.kept;
       last = last;
       mounted = rehearsed-so seen last n mounted

@@ -13,7 +13,7 @@ pub returns-clause-some : goal.returns-clause-some
 returns-clause-some g c clean =
     let old = g.D.Device.drive c.args.device.now in
     let range : IsInRange old.geometry = subst IsInRange c.geometry-geometry.ensures.value c.in-Ok.ensures.ok in
-    is-written old c.most_blocks-given.result c.in_ok-info.info range c.geometry-geometry.ensures.lawful
+    is-written old (g.D.Device.drive c.inspect_drive.new.device) c.most_blocks-given.result c.in_ok-info.info range c.geometry-geometry.ensures.lawful
     (subst (λ (one : Geometry). c.most_blocks-given.result ≡ most_size one) c.geometry-geometry.ensures.value c.most_blocks-given.ensures.is)
     (c.in_ok-info.ensures.ok clean) c.written_of.result c.written_of.ensures.some
 

@@ -3,7 +3,7 @@ use Rattle.tool_jobs.proofs.CheckLaws.{faults-found, not-asked}
 use Rattle.tool_jobs.proofs.checking.find_faults.Goals as goal
 
 pub returns-in-Ok-clause-ok : goal.returns-in-Ok-clause-ok
-returns-in-Ok-clause-ok g c = faults-found (g.I.Read.remaining c.args.bytes.now) Lazy c.in_ok-drive.field-0 c.in_ok-drive.ensures.ok c.args.blocks c.in-Ok.findings (c.in-Ok.ensures.ok c.vouch.ensures)
+returns-in-Ok-clause-ok g c = faults-found (g.I.Read.remaining c.args.bytes.now) Lazy c.in_ok-drive.field-0 c.in_ok-drive.ensures.ok c.check_drive-checked.new.device.state c.args.blocks c.in-Ok.findings c.in-Ok.ensures.kept (c.in-Ok.ensures.ok c.vouch.ensures)
 
 pub returns-clause-err : goal.returns-clause-err
 returns-clause-err g c =
