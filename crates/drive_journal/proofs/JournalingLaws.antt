@@ -22,7 +22,7 @@ use Rattle.drive_port.proofs.StopLaws.{may_harden-same, stops-already}
 use Rattle.zone_drive.specs.Foreseen.{CanGive}
 use Rattle.drive_journal.specs.Change.{Sum, beside_bytes, change_bytes, change_of, changes, next_sum, start, sum_for, written_for}
 use Rattle.drive_journal.specs.File.{IsStored, IsStoredWhole}
-use Rattle.drive_journal.specs.Journaling.{AnswersInStep, AreCutOff, IsInStep, Journaled, MayRenew, changed_data_in, changed_entry_in, is_lost, shown_drive, sum_by, written_by}
+use Rattle.drive_journal.specs.Journaling.{AnswersInStep, AreCutOff, IsInStep, Journaled, MayRenew, Writes, changed_data_in, changed_entry_in, is_lost, shown_drive, sum_by, written_by}
 use Rattle.drive_journal.specs.declared.loss.Loss.{Loss}
 use Rattle.drive_journal.specs.declared.loss.Loss.TheVariants as losses
 use Rattle.drive_journal.proofs.CutLaws.{cut-front}
@@ -136,6 +136,21 @@ written-not sum entry bytes completion good none code = record {
     stays false e true none = sum-no sum entry bytes e
     stays false e false none = refl
 
+-- the device within did not complete the command, and the store is as it was
+answers-unwritten : (inner new : DriveState) (contents : Option (List ℕ)) (sum : Sum) (entry bytes held items : List ℕ) (halt : Halt)
+    → IsLawful inner → IsLawful new → SubmitAdds inner entry bytes held (Err halt) items new
+    → Writes (going_on inner contents sum) contents sum entry bytes (Err halt) (going_on new contents sum)
+    → new ≡ inner → IsInStep (going_on inner contents sum)
+    → AnswersInStep (going_on inner contents sum) entry bytes held (Err halt) items (going_on new contents sum)
+answers-unwritten inner new contents sum entry bytes held items halt was lawful gives written same kept = record {
+  gives = gives;
+  was_lawful = was;
+  lawful = lawful;
+  writes = record { held = contents; sum = sum; renewed = inl (refl, refl); written = written };
+  was_kept = kept;
+  kept = rw same kept;
+}
+
 -- the device within answered, and nothing was to be written
 answers-plain : (inner new : DriveState) (contents : Option (List ℕ)) (sum : Sum) (entry bytes held items : List ℕ) (result : Result (List ℕ) Halt) → length entry ≡ 64 → inner.stopped ≡ false → IsLawful inner → IsLawful new
     → SubmitAdds inner entry bytes held result items new → IfOk result (WritesNothing sum entry bytes) → OnErr result (new ≡ inner) → IsInStep (going_on inner contents sum)
@@ -149,22 +164,10 @@ answers-plain inner new contents sum entry bytes held items (Ok completion) long
   kept = going-kept new contents sum (if-so contents (λ b. IsStoredWhole b inner sum) (λ b. IsStoredWhole b new sum)
       (λ b stored. rw (append-nil b) at (rw (none.none, none.sum_stays) at (stored-completed inner new sum entry bytes completion gives.returned b long gives.given.1 stored))) (kept.whole refl));
 }
-answers-plain inner new contents sum entry bytes held items (Err Memory) long runs was lawful gives none same kept = record {
-  gives = gives;
-  was_lawful = was;
-  lawful = lawful;
-  writes = record { held = contents; sum = sum; renewed = inl (refl, refl); written = (refl, refl, refl) };
-  was_kept = kept;
-  kept = rw same kept;
-}
-answers-plain inner new contents sum entry bytes held items (Err Failed) long runs was lawful gives none same kept = record {
-  gives = gives;
-  was_lawful = was;
-  lawful = lawful;
-  writes = record { held = contents; sum = sum; renewed = inl (refl, refl); written = (refl, refl, refl) };
-  was_kept = kept;
-  kept = rw same kept;
-}
+answers-plain inner new contents sum entry bytes held items (Err Memory) long runs was lawful gives none same kept =
+    answers-unwritten inner new contents sum entry bytes held items Memory was lawful gives (refl, refl, refl) same kept
+answers-plain inner new contents sum entry bytes held items (Err Failed) long runs was lawful gives none same kept =
+    answers-unwritten inner new contents sum entry bytes held items Failed was lawful gives (refl, refl, refl) same kept
 answers-plain inner new contents sum entry bytes held items (Err Stopped) long runs was lawful gives none same kept =
     absurd (true-false (sym gives.given.1.stopped ∙ ap (λ (d : DriveState). d.stopped) same ∙ runs))
 

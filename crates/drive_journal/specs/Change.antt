@@ -1,6 +1,8 @@
--- A change of a drive, as a file keeps it: a mark, the entry of the command that made it, a sum, the data of the entry, and a sum again.
--- The sums are one checksum that runs through all changes of the file, so each covers all that is before it.
-use Rattle.std.specs.Prelude.{◌≡◌, ℕ, suc, ◌-◌, ◌*◌, ◌<◌, ◌≤◌, ◌^◌, nat_lt, take, Bool, true, false, if◌then◌else◌, List, [], ◌∷◌, ◌++◌, length, Result, Ok}
+-- A change of a drive, as a file keeps it: a mark, the entry of the command that made it, a sum, the data of the entry,
+-- and a sum again. The sums are one checksum that runs through all changes of the file, so each covers all that is
+-- before it.
+use Rattle.std.specs.Prelude.{◌≡◌, ℕ, suc, ◌-◌, ◌*◌, ◌<◌, ◌≤◌, ◌^◌, nat_lt, take, Bool, true, false, if◌then◌else◌}
+use Rattle.std.specs.Prelude.{List, [], ◌∷◌, ◌++◌, length, Result, Ok}
 use Rattle.byteorder.specs.Endian.{little_bytes}
 use Rattle.sqlite_wal.specs.Format.{checksum}
 use Rattle.nvme_wire.specs.Entry.{decode_of}
@@ -82,8 +84,8 @@ pub record IsChange (geometry : Geometry) (change : Change) : Type 0 where
 
 -- ---- its bytes
 
--- `ZNSCHG02`. An image begins with other letters, and the head of a zone has zeros where this has letters.
--- So bytes that come after an image by accident, as the rest of a longer one, begin with it only where somebody wrote it.
+-- `ZNSCHG02`. An image begins with other letters, and the head of a zone has zeros where this has letters. So bytes
+-- that come after an image by accident, as the rest of a longer one, begin with it only where somebody wrote it.
 abbrev pub mark : List ℕ
 mark = 0x5a ∷ 0x4e ∷ 0x53 ∷ 0x43 ∷ 0x48 ∷ 0x47 ∷ 0x30 ∷ 0x32 ∷ []
 
@@ -91,7 +93,8 @@ mark = 0x5a ∷ 0x4e ∷ 0x53 ∷ 0x43 ∷ 0x48 ∷ 0x47 ∷ 0x30 ∷ 0x32 ∷ [
 abbrev pub earlier_mark : List ℕ
 earlier_mark = 0x5a ∷ 0x4e ∷ 0x53 ∷ 0x43 ∷ 0x48 ∷ 0x47 ∷ 0x30 ∷ 0x31 ∷ []
 
--- The head of a change that goes on from a sum: the mark, the entry, and the sum after it. So the entry is known without the data.
+-- The head of a change that goes on from a sum: the mark, the entry, and the sum after it. So the entry is known
+-- without the data.
 abbrev pub sealed_entry : Sum → List ℕ → List ℕ
 sealed_entry sum entry = entry ++ sum_bytes (sum_over sum entry)
 
@@ -119,7 +122,8 @@ sum_for sum entry bytes = if changes (decode_of entry) then next_sum sum (change
 
 -- no whole change that goes on from this sum is at the front
 abbrev pub HasNoChange : Geometry → Sum → List ℕ → Type 0
-HasNoChange geometry sum bytes = (change : Change) (rest : List ℕ) → IsChange geometry change → bytes ≡ change_bytes sum change ++ rest → ⊥
+HasNoChange geometry sum bytes =
+    (change : Change) (rest : List ℕ) → IsChange geometry change → bytes ≡ change_bytes sum change ++ rest → ⊥
 
 -- ---- changes that were cut off
 

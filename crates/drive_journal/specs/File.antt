@@ -55,7 +55,8 @@ pub record IsDriveFile (bytes : List ℕ) (drive : DriveState) (whole : ℕ) (su
 
 -- ---- a file that stores a drive
 
--- These bytes store this drive: the changes make its zones of those in the image, up to which of them are open, and a restart closes these.
+-- These bytes store this drive: the changes make its zones of those in the image, up to which of them are open, and a
+-- restart closes these.
 pub record IsStored (bytes : List ℕ) (drive : DriveState) : Type 0 where
   pub parts : Parts
   pub has : HasParts bytes parts

@@ -18,7 +18,8 @@ use Rattle.drive_journal.specs.Change.{Change}
 -- what a command that succeeds makes of the zones
 abbrev pub changed : Geometry → List Zone → Result Command DecodeFault → List ℕ → List Zone
 changed geometry zones (Ok (Write slba blocks)) bytes = write_effect geometry zones (slba / geometry.size) blocks bytes
-changed geometry zones (Ok (Append zslba blocks)) bytes = write_effect geometry zones (zslba / geometry.size) blocks bytes
+changed geometry zones (Ok (Append zslba blocks)) bytes =
+    write_effect geometry zones (zslba / geometry.size) blocks bytes
 changed geometry zones (Ok (Send slba action true)) bytes = map (sent_zone action) zones
 changed geometry zones (Ok (Send slba action false)) bytes =
     let index = slba / geometry.size in
@@ -28,7 +29,8 @@ changed geometry zones command bytes = zones
 
 abbrev pub replayed : Geometry → List Zone → List Change → List Zone
 replayed geometry zones [] = zones
-replayed geometry zones (change ∷ changes) = replayed geometry (changed geometry zones (decode_of change.entry) change.bytes) changes
+replayed geometry zones (change ∷ changes) =
+    replayed geometry (changed geometry zones (decode_of change.entry) change.bytes) changes
 
 -- the zones as a restart leaves them: none is open
 abbrev pub at_rest : List Zone → List Zone
@@ -52,4 +54,5 @@ stored_changed geometry zones command bytes = zones
 
 abbrev pub stored_replayed : Geometry → List StoredZone → List Change → List StoredZone
 stored_replayed geometry zones [] = zones
-stored_replayed geometry zones (change ∷ changes) = stored_replayed geometry (stored_changed geometry zones (decode_of change.entry) change.bytes) changes
+stored_replayed geometry zones (change ∷ changes) =
+    stored_replayed geometry (stored_changed geometry zones (decode_of change.entry) change.bytes) changes

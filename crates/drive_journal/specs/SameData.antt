@@ -25,9 +25,13 @@ outcome-data geometry zones (Ok (Send slba action true)) bytes = refl
 outcome-data geometry zones (Ok (Send slba action false)) bytes = refl
 outcome-data geometry zones (Ok (Receive slba dwords options partial)) bytes = refl
 
-performed-data : (habit : Habit) (geometry : Geometry) (zones : List Zone) (command : Result Command DecodeFault) (bytes : List ℕ)
+performed-data : (habit : Habit) (geometry : Geometry) (zones : List Zone) (command : Result Command DecodeFault)
+    (bytes : List ℕ)
     → performed habit geometry zones command (beside_bytes command bytes) ≡ performed habit geometry zones command bytes
-performed-data habit geometry zones command bytes = rw (outcome-data geometry zones command bytes) (outcome-data geometry _ command bytes)
+performed-data habit geometry zones command bytes =
+    rw (outcome-data geometry zones command bytes) (outcome-data geometry _ command bytes)
 
-pub foreseen-data : (drive : MemoryDrive) (entry bytes : List ℕ) → foreseen drive entry (beside_bytes (decode_of entry) bytes) ≡ foreseen drive entry bytes
-foreseen-data drive entry bytes = performed-data drive.habit drive.state.geometry drive.state.zones (decode_of entry) bytes
+pub foreseen-data : (drive : MemoryDrive) (entry bytes : List ℕ)
+    → foreseen drive entry (beside_bytes (decode_of entry) bytes) ≡ foreseen drive entry bytes
+foreseen-data drive entry bytes =
+    performed-data drive.habit drive.state.geometry drive.state.zones (decode_of entry) bytes

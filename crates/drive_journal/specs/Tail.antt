@@ -33,8 +33,9 @@ pub record IsCutOff (geometry : Geometry) (sum : Sum) (bytes : List ℕ) : Type 
 
 -- ---- a fault
 
--- What is wrong with bytes at a place of a file, whose changes would begin at `from`, if no whole change is at their front.
--- Directly after the image come changes of the version before, or other bytes. All else that was not cut off is damaged.
+-- What is wrong with bytes at a place of a file, whose changes would begin at `from`, if no whole change is at their
+-- front. Directly after the image come changes of the version before, or other bytes. All else that was not cut off is
+-- damaged.
 abbrev pub IsTailFault : Geometry → Sum → ℕ → ℕ → List ℕ → ReadFault → Type 0
 IsTailFault geometry sum from at bytes (Earlier place) = (place ≡ at) × (at ≡ from) × (take 8 bytes ≡ earlier_mark)
 IsTailFault geometry sum from at bytes (Long place) =

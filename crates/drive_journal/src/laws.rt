@@ -78,8 +78,8 @@ pub fn opened_is_stored()
         IsDriveFile bytes drive whole sum → IsStoredWhole (take whole bytes) drive sum }
 {}
 
-/// What a file stores is read in it: the drive that is read is the stored one, up to a restart of both, and says nothing
-/// of a loss of power. No byte after the whole ones is taken for a change.
+/// What a file stores is read in it: the drive that is read is the stored one, up to a restart of both, and says
+/// nothing of a loss of power. No byte after the whole ones is taken for a change.
 pub fn stored_is_read()
     ensures drive { (bytes : List ℕ) (drive opened : DriveState) (whole : ℕ) (sum : Sum) →
         IsStored bytes drive → IsDriveFile bytes opened whole sum →

@@ -27,8 +27,8 @@
 //! * Where the store fails, the device has stopped, and shows the drive as it was before the command. If the store has
 //!   the change and there is no memory to do the command, it has stopped too, and shows the drive with the command
 //!   done. A store says whether it failed.
-//! * A store may write its bytes anew, as the image of the drive, before a change is written (`ChangeStore::renew`). Then
-//!   the sum starts again.
+//! * A store may write its bytes anew, as the image of the drive, before a change is written (`ChangeStore::renew`).
+//!   Then the sum starts again.
 //! * [`open_drive`] reads the drive that a file holds (`IsDriveFile` in `specs/File.antt`), restarted if changes
 //!   follow the image, with how many of its bytes are whole and the sum that they end with; or it tells its first
 //!   fault (`IsFileFault`). It tells exactly whether all bytes of the file are the image of the restarted drive.

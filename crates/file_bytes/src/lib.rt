@@ -20,9 +20,9 @@
 //! * The room of a range can be given back (`release`). Then the range may hold any bytes, as if it were being
 //!   written.
 //! * A process that is killed leaves what a read would return. So a kill inside a call is a call that failed.
-//! * Until a sync fails, whoever opens the file later reads what a read returns (`may_show`). After that it may read all
-//!   that a loss of power may leave: the system may have dropped what was written. No sync may be called again. A word
-//!   can still be written, and whoever opens the file later reads it.
+//! * Until a sync fails, whoever opens the file later reads what a read returns (`may_show`). After that it may read
+//!   all that a loss of power may leave: the system may have dropped what was written. No sync may be called again. A
+//!   word can still be written, and whoever opens the file later reads it.
 //! * `MemoryFile` may leave and show all that this allows. It takes each of these outcomes by `lose_power` and
 //!   `open_again`.
 //! * `ReadAheadFile` reads ahead in another file. To a reader it is that file: it never returns bytes that have

@@ -21,9 +21,9 @@ pub struct Range {
     pub told: bool,
 }
 
-/// A file in memory, which may leave after a loss of power all that the contract of a file allows, and shows all that it
-/// allows to whoever opens it after a sync that failed. Its changes fail only where memory is missing, its syncs also
-/// where that was asked. Then only `lose_power` and `open_again` make it usable again.
+/// A file in memory, which may leave after a loss of power all that the contract of a file allows, and shows all that
+/// it allows to whoever opens it after a sync that failed. Its changes fail only where memory is missing, its syncs
+/// also where that was asked. Then only `lose_power` and `open_again` make it usable again.
 #[derive(Drop)]
 pub struct MemoryFile {
     bytes: Vec<u8>,
@@ -171,8 +171,8 @@ impl MemoryFile {
         self.may_leave(shown) && self.has_told(shown)
     }
 
-    /// Another program opens the file, and reads these bytes, if it may. A loss of power may leave the same as before. If
-    /// not, or where memory is missing, nothing changes.
+    /// Another program opens the file, and reads these bytes, if it may. A loss of power may leave the same as before.
+    /// If not, or where memory is missing, nothing changes.
     pub fn open_again(&mut self, shown: &[u8]) -> Result<bool, AllocError>
         ensures shown { IfOk result (λ done. IsTrue done ↔ MayShow self.old shown.now) }
         ensures opened { IfOk result (λ done. IsTrue done

@@ -80,8 +80,8 @@ fn read<F: FileBytes>(file: &mut F, kept: &mut Kept, at: u64, room: &mut [u8]) -
 /// Reads ahead in a file: small reads that follow each other closely are answered by few calls of the one within.
 ///
 /// The first reads what it is asked. One that begins where the last ended, or at most 64 KiB later, reads on to 16 KiB,
-/// and each later call of the file reads twice as much, up to 256 KiB. What was read is kept, until a change touches it.
-/// A read of more than 32 KiB is passed down as it is. So is every read where memory is missing.
+/// and each later call of the file reads twice as much, up to 256 KiB. What was read is kept, until a change touches
+/// it. A read of more than 32 KiB is passed down as it is. So is every read where memory is missing.
 #[derive(Drop)]
 pub struct ReadAheadFile<F: FileBytes + Drop> {
     inner: F,

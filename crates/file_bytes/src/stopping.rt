@@ -10,8 +10,8 @@ use crate::file::FileBytes;
 use std::io;
 
 /// Does a number of changes of a file, and then fails. Changes are: a write of a range, one of a word, a sync. If the
-/// first change that fails is a write of a range, its first `torn` bytes are written. Reads go on. The release of a range is
-/// done while changes are left, and is none of them.
+/// first change that fails is a write of a range, its first `torn` bytes are written. Reads go on. The release of a
+/// range is done while changes are left, and is none of them.
 #[derive(Drop)]
 pub struct StoppingFile<F: FileBytes + Drop> {
     inner: F,

@@ -156,18 +156,18 @@ module _ (g : Geometry) (boot : Boot) (file : List ℕ) (in_range : IsInRange g)
     ]
   ]
   no-head-fault (faults.Geometry part) is = absurd (cc (sym (passes g in_range) ∙ ap (λ (s : Geometry). first_failing (geometry_checks s)) (sym shape) ∙ is.1))
-  no-head-fault faults.Short is = elim is [
+  no-head-fault (faults.Short wanted) is = elim is [
     | inl short ↦ absurd (cc short.1)
     | inr rest ↦ elim rest [
       | inl none ↦ absurd none
-      | inr rest ↦ elim rest [ inl less ↦ absurd (omega (arith, subst (λ (s : Geometry). length file < file_length s) shape less.2, long)) | inr none ↦ none ]
+      | inr rest ↦ elim rest [ inl less ↦ absurd (omega (arith, subst (λ (s : Geometry). length file < file_length s) shape less.2.1, long)) | inr none ↦ none ]
     ]
   ]
-  no-head-fault faults.Long is = elim is [
+  no-head-fault (faults.Long wanted) is = elim is [
     | inl short ↦ absurd (cc short.1)
     | inr rest ↦ elim rest [
       | inl none ↦ absurd none
-      | inr rest ↦ elim rest [ inl more ↦ absurd (omega (arith, subst (λ (s : Geometry). file_length s < length file) shape more.2, long)) | inr none ↦ none ]
+      | inr rest ↦ elim rest [ inl more ↦ absurd (omega (arith, subst (λ (s : Geometry). file_length s < length file) shape more.2.1, long)) | inr none ↦ none ]
     ]
   ]
   no-head-fault (faults.Table number) is = elim is [
@@ -175,6 +175,10 @@ module _ (g : Geometry) (boot : Boot) (file : List ℕ) (in_range : IsInRange g)
     | inr rest ↦ elim rest [ inl none ↦ absurd none | inr rest ↦ elim rest [ inl past ↦ absurd past.2 | inr none ↦ none ] ]
   ]
   no-head-fault faults.Limits is = elim is [
+    | inl short ↦ absurd (cc short.1)
+    | inr rest ↦ elim rest [ inl none ↦ absurd none | inr rest ↦ elim rest [ inl past ↦ absurd past.2 | inr none ↦ none ] ]
+  ]
+  no-head-fault faults.Copied is = elim is [
     | inl short ↦ absurd (cc short.1)
     | inr rest ↦ elim rest [ inl none ↦ absurd none | inr rest ↦ elim rest [ inl past ↦ absurd past.2 | inr none ↦ none ] ]
   ]
@@ -190,13 +194,14 @@ module _ (g : Geometry) (boot : Boot) (file : List ℕ) (in_range : IsInRange g)
     no-table words table faults.NotADrive none = none
     no-table words table faults.Version none = none
     no-table words table (faults.Geometry part) none = none
-    no-table words table faults.Short none = none
-    no-table words table faults.Long none = none
+    no-table words table (faults.Short wanted) none = none
+    no-table words table (faults.Long wanted) none = none
     no-table words table (faults.Table number) past = elim past [
       | inl word ↦ absurd (word.1 (all-at (IsWord g) words number 0 table.each word.0))
       | inr entry ↦ absurd (entry.1 (all-at (Holds g) (map entry_of words) number no_entry table.hold entry.0))
     ]
     no-table words table faults.Limits past = absurd (past table.few)
+    no-table words table faults.Copied none = none
     no-table words table (faults.Input error) none = tt
     no-table words table (faults.Unsynced error) none = none
     no-table words table faults.OutOfMemory none = tt
@@ -209,10 +214,11 @@ module _ (g : Geometry) (boot : Boot) (file : List ℕ) (in_range : IsInRange g)
     opens faults.NotADrive is = no-head-fault faults.NotADrive is
     opens faults.Version is = no-head-fault faults.Version is
     opens (faults.Geometry part) is = no-head-fault (faults.Geometry part) is
-    opens faults.Short is = no-head-fault faults.Short is
-    opens faults.Long is = no-head-fault faults.Long is
+    opens (faults.Short wanted) is = no-head-fault (faults.Short wanted) is
+    opens (faults.Long wanted) is = no-head-fault (faults.Long wanted) is
     opens (faults.Table number) is = no-tables (faults.Table number) is
     opens faults.Limits is = no-tables faults.Limits is
+    opens faults.Copied is = no-head-fault faults.Copied is
     opens (faults.Input error) is = tt
     opens (faults.Unsynced error) is = no-head-fault (faults.Unsynced error) is
     opens faults.OutOfMemory is = tt

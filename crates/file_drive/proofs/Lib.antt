@@ -18,3 +18,4 @@ pub mod FindsLaws
 mod FormatLaws
 pub mod StoringLaws
 mod LoadLaws
+mod MarkLaws

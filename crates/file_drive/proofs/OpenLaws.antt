@@ -110,10 +110,11 @@ module _ (boot : Boot) (file : List ℕ) (head : Head) (tables : Tables) (is : I
   flushed-fault faults.NotADrive none = absurd none
   flushed-fault faults.Version none = absurd none
   flushed-fault (faults.Geometry part) none = absurd none
-  flushed-fault faults.Short none = absurd none
-  flushed-fault faults.Long none = absurd none
+  flushed-fault (faults.Short wanted) none = absurd none
+  flushed-fault (faults.Long wanted) none = absurd none
   flushed-fault (faults.Table number) past = table-fault (faults.Table number) past
   flushed-fault faults.Limits past = table-fault faults.Limits past
+  flushed-fault faults.Copied none = absurd none
   flushed-fault (faults.Input error) none = absurd none
   flushed-fault (faults.Unsynced error) none = absurd none
   flushed-fault faults.OutOfMemory past = inr (inr (inr tt))
@@ -123,10 +124,11 @@ module _ (boot : Boot) (file : List ℕ) (head : Head) (tables : Tables) (is : I
   read-fault faults.NotADrive none = absurd none
   read-fault faults.Version none = absurd none
   read-fault (faults.Geometry part) none = absurd none
-  read-fault faults.Short none = absurd none
-  read-fault faults.Long none = absurd none
+  read-fault (faults.Short wanted) none = absurd none
+  read-fault (faults.Long wanted) none = absurd none
   read-fault (faults.Table number) none = absurd none
   read-fault faults.Limits none = absurd none
+  read-fault faults.Copied none = absurd none
   read-fault (faults.Input error) past = inr (inr (inr past))
   read-fault (faults.Unsynced error) none = absurd none
   read-fault faults.OutOfMemory past = inr (inr (inr past))

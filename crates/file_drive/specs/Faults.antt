@@ -56,10 +56,10 @@ IsMagicFault word faults.NotADrive = name_of word ≢ name_of magic
 IsMagicFault word faults.Version = (name_of word ≡ name_of magic) × (word ≢ magic)
 IsMagicFault word fault = ⊥
 
--- a length that a drive of this shape has not
+-- a length that a drive of this shape has not; the length that it has is told
 abbrev pub IsLengthFault : Geometry → ℕ → OpenFault → Type 0
-IsLengthFault geometry long faults.Short = long < file_length geometry
-IsLengthFault geometry long faults.Long = file_length geometry < long
+IsLengthFault geometry long (faults.Short wanted) = (wanted ≡ file_length geometry) × (long < file_length geometry)
+IsLengthFault geometry long (faults.Long wanted) = (wanted ≡ file_length geometry) × (file_length geometry < long)
 IsLengthFault geometry long fault = ⊥
 
 -- Why a head is no drive's. The shape is looked at after the magic, and the length after the shape.

@@ -10,3 +10,4 @@ pub mod Opened
 pub mod Finds
 pub mod Storing
 pub mod Freed
+pub mod Mark

@@ -14,6 +14,7 @@ fn copy_zone<Z: HeldZones>(alloc: Global, held: &mut Z, index: usize) -> Result<
     requires { index < length (Z.stored held.old) }
     ensures ok { IfOk result (λ zone. zone ≡ stored_at (Z.stored held.old) index) }
     ensures kept { Z.stored held.new ≡ Z.stored held.old }
+    ensures fails { IsErrOf result Halt.Failed → IsTrue Z.may_stop }
     ensures stops { IsErrOf result Halt.Stopped → IsTrue Z.may_stop }
 {
     let state = held.state(index);
@@ -23,8 +24,8 @@ fn copy_zone<Z: HeldZones>(alloc: Global, held: &mut Z, index: usize) -> Result<
     Ok(Zone::from_parts(state, written))
 }
 
-/// The drive in memory of this shape with the zones that are held. It has completed no command, and its habit is `Lazy`.
-/// Each zone is read once. The zones that are held stay.
+/// The drive in memory of this shape with the zones that are held. It has completed no command, and its habit is
+/// `Lazy`. Each zone is read once. The zones that are held stay.
 pub fn copy_zones<Z: HeldZones>(
     alloc: Global,
     geometry: Geometry,
@@ -35,6 +36,7 @@ pub fn copy_zones<Z: HeldZones>(
     ensures ok { IfOk result (λ drive.
         drive ≡ made (unused geometry (zones_of geometry.block (Z.stored held.old)))) }
     ensures kept { Z.stored held.new ≡ Z.stored held.old }
+    ensures fails { IsErrOf result Halt.Failed → IsTrue Z.may_stop }
     ensures stops { IsErrOf result Halt.Stopped → IsTrue Z.may_stop }
 {
     let mut zones = Vec::new(alloc);

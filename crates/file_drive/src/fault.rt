@@ -15,19 +15,23 @@ pub enum OpenFault {
     /// The first part of the geometry that is out of range.
     #[error("{0}")]
     Geometry(GeometryFault),
-    /// It is shorter than its geometry wants.
-    #[error("the file is too short for its drive")]
-    Short,
-    /// It is longer.
-    #[error("the file is too long for its drive")]
-    Long,
-    /// The table of the last flush has a word that is none of a zone, or that the zone's state does not allow. The zone has
-    /// this number.
+    /// It is shorter than its geometry wants, which is this many bytes.
+    #[error("the file is too short for its drive: `truncate -s {0}` adds zeros, and rescue reads what is left")]
+    Short(u64),
+    /// It is longer than that many bytes.
+    #[error("the file is too long for its drive: `truncate -s {0}` removes what follows")]
+    Long(u64),
+    /// The table of the last flush has a word that is none of a zone, or that the zone's state does not allow. The zone
+    /// has this number.
     #[error("the table says of zone {0} what cannot be")]
     Table(u32),
     /// More zones are active or open than may be.
     #[error("more zones are active than may be")]
     Limits,
+    /// Its mark is that of another file. So it is a copy of one that a program had, or was killed with, and its blocks
+    /// may be of different moments.
+    #[error("a copy of a drive that was in use")]
+    Copied,
     /// A read or a write of the file failed.
     #[error("{0}")]
     Input(io::Error),

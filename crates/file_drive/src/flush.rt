@@ -47,8 +47,8 @@ impl<F: FileBytes + Drop, S: System + Drop> FileZones<F, S> {
         }
     }
 
-    /// Writes the words of the zones to both tables that are not picked, and syncs the file. So no word of a live table is
-    /// older than the flush.
+    /// Writes the words of the zones to both tables that are not picked, and syncs the file. So no word of a live table
+    /// is older than the flush.
     fn write_both(&mut self) -> Result<(), Halt>
         ensures shape { self.new.shape ≡ self.old.shape }
         ensures entries { self.new.entries ≡ self.old.entries }

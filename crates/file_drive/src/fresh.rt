@@ -48,7 +48,8 @@ fn put_words<F: FileBytes>(file: &mut F, at: u64, words: &[u64]) -> io::Result<(
     Ok(())
 }
 
-/// Writes zeros where a file of zeros has the tables, and the words that pick them. So the file system has room for them.
+/// Writes zeros where a file of zeros has the tables, and the words that pick them. So the file system has room for
+/// them.
 pub fn put_zeros<F: FileBytes>(file: &mut F, geometry: &Geometry) -> io::Result<()>
     requires in_range { IsInRange geometry.now }
     requires zeros { F.FileBytes.seen file.old ≡ replicate (file_length geometry.now) 0 }
@@ -95,8 +96,8 @@ pub fn put_head<F: FileBytes>(file: &mut F, geometry: &Geometry) -> io::Result<(
     Ok(())
 }
 
-/// Makes a file of zeros, which is as long as a drive of this shape wants, a drive of empty zones. Its tables are written,
-/// and the file is synced.
+/// Makes a file of zeros, which is as long as a drive of this shape wants, a drive of empty zones. Its tables are
+/// written, and the file is synced.
 ///
 /// After an error it is no drive or this one, whatever a kill or a loss of power leaves, if it was none before.
 pub fn format<F: FileBytes>(file: &mut F, geometry: &Geometry) -> io::Result<()>

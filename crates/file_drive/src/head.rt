@@ -77,10 +77,10 @@ fn check_length(geometry: &Geometry, length: u64) -> Result<(), OpenFault>
 {
     let wanted = file_length(geometry);
     if length < wanted {
-        return Err(OpenFault::Short);
+        return Err(OpenFault::Short(wanted));
     }
     if length > wanted {
-        return Err(OpenFault::Long);
+        return Err(OpenFault::Long(wanted));
     }
     Ok(())
 }

@@ -25,6 +25,7 @@ fn read_with_zeros<F: FileBytes>(
         ≡ into.old.items ++ with_zeros len (part (F.FileBytes.seen file.old) at count)) }
     ensures err { OnErr result (into.new.items ≡ into.old.items) }
     ensures memory { IsErrOf result Halt.Memory → file.new ≡ file.old }
+    ensures goes_on { IsErrOf result Halt.Stopped → ⊥ }
     ensures seen { F.FileBytes.seen file.new ≡ F.FileBytes.seen file.old }
     ensures leaves { (c : List ℕ) → F.FileBytes.may_leave file.new c → F.FileBytes.may_leave file.old c }
     ensures shows { (c : List ℕ) → F.FileBytes.may_show file.new c → F.FileBytes.may_show file.old c }
@@ -68,6 +69,7 @@ impl<F: FileBytes + Drop, S: System + Drop> FileZones<F, S> {
             ≡ into.old.items ++ with_zeros len (drop from (stored_at (filed F.seen self.old) index).bytes)) }
         ensures err { OnErr result (into.new.items ≡ into.old.items) }
         ensures memory { IsErrOf result Halt.Memory → self.new ≡ self.old }
+        ensures goes_on { IsErrOf result Halt.Stopped → ⊥ }
         ensures durable { self.new.durable ≡ self.old.durable }
     {
         let written = self.length_of(index);

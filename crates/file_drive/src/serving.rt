@@ -71,9 +71,9 @@ impl<F: FileBytes + Drop, S: System + Drop> FileZones<F, S> {
 
     /// The file. It is what a kill at this moment leaves. If no sync has failed, a system that is still in the same
     /// boot, and knows it, finds the zones as they are. So it does if the kill is inside of a call of the file, which
-    /// was not done (`cut`). If a sync has failed, and the head could be told, a system in any boot finds zones that are
-    /// durable (`lost`). After a loss of power a system in another boot finds such zones, too. One in any boot opens what
-    /// it left, and finds such zones or those of a live table that the file proves (`here`).
+    /// was not done (`cut`). If a sync has failed, and the head could be told, a system in any boot finds zones that
+    /// are durable (`lost`). After a loss of power a system in another boot finds such zones, too. One in any boot
+    /// opens what it left, and finds such zones or those of a live table that the file proves (`here`).
     pub fn into_file(self) -> F
         ensures file { result ≡ self.file }
         ensures kill { is_known S.boot ≡ true → IsTrue (F.is_usable self.file)

@@ -35,3 +35,23 @@ pub fn sync_file<F: FileBytes>(file: &mut F, named: &mut Boot) -> io::Result<()>
     }
     Err(error)
 }
+
+/// Syncs the file of a drive. If that fails, its head names no boot any more, as after [`sync_file`].
+pub fn sync_or_forget<F: FileBytes>(file: &mut F) -> io::Result<()>
+    requires long { 80 ≤ length (F.FileBytes.seen file.old) }
+    requires usable { IsTrue (F.FileBytes.is_usable file.old) }
+    ensures durable { OnOk result (Only (F.FileBytes.seen file.old) (F.FileBytes.may_leave file.new)) }
+    ensures seen { OnOk result (F.FileBytes.seen file.new ≡ F.FileBytes.seen file.old) }
+    ensures usable { F.FileBytes.is_usable file.new ≡ is_ok result }
+    ensures beside { SameBeside at_second 8 (F.FileBytes.seen file.old) (F.FileBytes.seen file.new) }
+    ensures leaves { Follows (SameBeside at_second 8) (F.FileBytes.may_leave file.old)
+        (F.FileBytes.may_leave file.new) }
+    ensures out { OnErr result (F.FileBytes.is_stuck file.new ≡ false
+        → TakesOut (F.FileBytes.may_leave file.old) (F.FileBytes.may_show file.new)) }
+{
+    let Err(error) = file.sync() else {
+        return Ok(());
+    };
+    let _ = file.write_word(AT_SECOND, 0);
+    Err(error)
+}

@@ -69,7 +69,7 @@ pub fn read_words<F: FileBytes>(
 }
 
 /// Reads one word.
-fn read_word<F: FileBytes>(alloc: Global, file: &mut F, at: u64) -> Result<u64, OpenFault>
+pub fn read_word<F: FileBytes>(alloc: Global, file: &mut F, at: u64) -> Result<u64, OpenFault>
     requires { at + 8 ≤ length (F.FileBytes.seen file.old) }
     ensures ok { IfOk result (λ word. word ≡ word_in (F.FileBytes.seen file.old) at) }
     ensures err { IfErr result IsReadFault }

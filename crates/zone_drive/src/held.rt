@@ -16,8 +16,8 @@ use zone_states::{Action, Geometry, ZoneState};
 
 /// What holds the zones of a drive: their states, and the bytes of their written blocks. It decides nothing: the drive
 /// asks only what its rules admit. An answer `Stopped` means that the zones are as they were, and that nothing more may
-/// be asked; where `Memory` is answered nothing changed. A read may answer `Failed`: what it asked for cannot be read now,
-/// and nothing changed.
+/// be asked; where `Memory` is answered nothing changed. A read may answer `Failed`: what it asked for cannot be read
+/// now, and nothing changed.
 pub trait HeldZones {
     /// The shape of the drive, which never changes.
     ghost shape: { Self → Geometry };
@@ -54,8 +54,8 @@ pub trait HeldZones {
     fn lowest_implicit(&self) -> Option<usize>
         ensures { result ≡ position is_implicit (stored self.now) };
 
-    /// Puts that many bytes of a zone, from an offset in it on, after what `into` holds: zeros where nothing is written.
-    /// No zone changes.
+    /// Puts that many bytes of a zone, from an offset in it on, after what `into` holds: zeros where nothing is
+    /// written. No zone changes.
     fn read(
         &mut self,
         index: usize,

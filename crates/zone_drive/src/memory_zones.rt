@@ -154,8 +154,8 @@ impl HeldZones for MemoryZones {
     }
 }
 
-/// Whether an action on all zones acts on those in this state: the others stay (Zoned Namespace Command Set 1.1, section
-/// 3.4.3).
+/// Whether an action on all zones acts on those in this state: the others stay (Zoned Namespace Command Set 1.1,
+/// section 3.4.3).
 pub fn selects(action: Action, state: ZoneState) -> bool
     ensures { result ≡ is_selected action state }
 {

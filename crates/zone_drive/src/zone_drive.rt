@@ -65,7 +65,8 @@ impl<Z: HeldZones + Drop> Model for ZoneDrive<Z> {
 }
 
 impl<Z: HeldZones + Drop> ZoneDrive<Z> {
-    /// A drive of this shape over these zones, which has completed no command. Its habit is `Lazy`. It allocates nothing.
+    /// A drive of this shape over these zones, which has completed no command. Its habit is `Lazy`. It allocates
+    /// nothing.
     pub fn new(alloc: Global, geometry: Geometry, zones: Z) -> ZoneDrive<Z>
         requires in_range { IsInRange geometry }
         requires zones { AreZones geometry (Z.stored zones) }
