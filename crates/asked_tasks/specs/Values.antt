@@ -1,6 +1,6 @@
 -- The values that options were given.
 use Rattle.std.specs.Prelude.{◌≡◌, ◌⊎◌, ◌<◌, ◌^◌, ℕ, Bool, true, false, if◌then◌else◌, List, Option, Some, None, IfErr, IfOk, IsSomeAnd, MatchOption}
-use Rattle.std.specs.Prelude.{Result, codes, is_none, length, min}
+use Rattle.std.specs.Prelude.{◌&&◌, Result, codes, is_none, length, min, not}
 use Rattle.std.specs.List.{list_all}
 use Rattle.std.specs.Char.{is_ascii_digit}
 use Rattle.std.specs.Str.{bytes_eq, str_eq_ignore_ascii_case}
@@ -81,6 +81,8 @@ pub record HasGeometry (rows : List Row) (geometry : Geometry) : Type 0 where
 pub record HasStop (rows : List Row) (stop : Stop) : Type 0 where
   pub commands : HasNumberOr 18446744073709551615 rows (codes "stop-after") stop.commands
   pub tear : (n : ℕ) × HasNumberOr 0 rows (codes "tear") n × (stop.tear ≡ min n 4294967295)
+  -- a drive that does not stop tears no Append
+  pub torn : (is_missing rows (codes "stop-after") && not (is_missing rows (codes "tear"))) ≡ false
 
 abbrev pub HasImage : List Row → Text → Type 0
 HasImage rows path = first_of (codes "image") rows ≡ Some path

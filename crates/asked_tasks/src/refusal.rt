@@ -19,10 +19,13 @@ const COMMANDS: &str = "append, read, write, flush, close, finish, open, reset, 
 
 const DIGITS: &str = "a whole number, as 4096";
 
-/// What the library that reads the words says of a value that is no number, and of an empty one.
+/// What the library that reads the words says of a value that is no number, of an empty one, and of one with too many
+/// digits.
 const NO_DIGITS: &str = "invalid digit found in string";
 
 const EMPTY: &str = "cannot parse integer from empty string";
+
+const TOO_LARGE: &str = "number too large to fit in target type";
 
 const SIZE: &str = "a number, then K, M, G or T, or none of them";
 
@@ -108,7 +111,10 @@ pub fn in_own_words(alloc: Global, words: &[String], error: Error) -> Result<Err
     ensures { IfOk result (λ own. kind_of own ≡ kind_of error) }
 {
     let text = format!(in alloc; "{error}")?;
-    let cut = text.split_once(NO_DIGITS).or(text.split_once(EMPTY));
+    let cut = text
+        .split_once(NO_DIGITS)
+        .or(text.split_once(EMPTY))
+        .or(text.split_once(TOO_LARGE));
     let Some((front, _)) = cut else {
         return Ok(error);
     };

@@ -1,4 +1,5 @@
-ghost use Rattle.std.specs.Prelude.{◌≡◌, ◌≢◌, ℕ, false, IfNone, IfOk, IfSome, IsSomeAnd, codes, map, option_map, string_bytes};
+ghost use Rattle.std.specs.Prelude.{◌≡◌, ◌≢◌, ℕ, false, IfNone, IfOk, IfSome, IsSomeAnd, codes, map, option_map};
+ghost use Rattle.std.specs.Prelude.{string_bytes};
 ghost use Rattle.std.specs.List.{list_all};
 ghost use Rattle.std.specs.Char.{is_ascii_digit};
 ghost use Rattle.clap.specs.Words.{first_of, found_of, rows_of, subcommand_rows_of};
@@ -148,10 +149,13 @@ pub fn number_if_given(
     Ok(Some(number(matches, name)?))
 }
 
-/// When the drive stops. No Append has more blocks than 32 bits can count.
+/// When the drive stops. One that does not stop tears no Append. No Append has more blocks than 32 bits can count.
 pub fn stop_of(matches: &ArgMatches<'_>) -> Result<Stop, WordFault>
     ensures { Finds (HasStop (rows_of (found_of matches.now))) result }
 {
+    if is_missing(matches, "stop-after") && !is_missing(matches, "tear") {
+        return Err(WordFault::Needs("tear", "stop-after"));
+    }
     let commands = number_or(matches, "stop-after", Stop::NEVER.commands)?;
     let tear = number_or(matches, "tear", 0)?;
     Ok(Stop {

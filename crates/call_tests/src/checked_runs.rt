@@ -67,6 +67,13 @@ impl Shape {
         }
     }
 
+    /// Whether so many records can be moved to an empty zone, with two of its blocks left. Each Move has a header.
+    pub fn can_be_moved(&self, records: u32) -> bool {
+        let moves = records.div_ceil(self.transfer.saturating_sub(1).max(1));
+        let needed = records.saturating_add(moves).saturating_add(2);
+        needed <= self.capacity
+    }
+
     /// A drive of this shape on which nothing is written.
     pub fn drive(&self, alloc: Global) -> Option<Drive> {
         Drive::new(alloc, self.geometry()).ok()

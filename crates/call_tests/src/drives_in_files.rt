@@ -10,7 +10,7 @@ use std::test::Fail;
 use zone_drive::{Drive, ZoneDrive};
 use zone_states::Geometry;
 
-const GEOMETRY: Geometry = Geometry {
+pub const GEOMETRY: Geometry = Geometry {
     block: 512,
     zones: 4,
     size: 8,
@@ -21,7 +21,7 @@ const GEOMETRY: Geometry = Geometry {
 };
 
 /// A file of a fresh drive.
-fn formatted(alloc: Global, geometry: &Geometry) -> Option<MemoryFile>
+pub fn formatted(alloc: Global, geometry: &Geometry) -> Option<MemoryFile>
     ensures { IfSome result (λ file. IsTrue file.usable) }
 {
     if geometry.check().is_err() {
@@ -47,7 +47,7 @@ fn opened_and_told<F: FileBytes + Drop, S: System + Drop>(
 }
 
 /// A drive over a file.
-fn opened<F: FileBytes + Drop, S: System + Drop>(
+pub fn opened<F: FileBytes + Drop, S: System + Drop>(
     alloc: Global,
     file: F,
     system: S,
@@ -101,7 +101,7 @@ fn put<D: Device>(alloc: Global, drive: &mut D, start: u64, byte: u8, blocks: us
 }
 
 /// Appends one block of one byte to a zone, and answers its address.
-fn put_one<D: Device>(alloc: Global, drive: &mut D, start: u64, byte: u8) -> Option<u64> {
+pub fn put_one<D: Device>(alloc: Global, drive: &mut D, start: u64, byte: u8) -> Option<u64> {
     let bytes = Vec::from_elem(alloc, byte, 512).ok()?;
     if drive.geometry().block != 512 {
         return None;
@@ -168,8 +168,8 @@ fn a_torn_word_is_not_looked_at(rt: HostRuntime) -> Result<(), Fail> {
 /// Where the file has the third block of the first zone.
 const THIRD: usize = 1_048_576 + 2 * 512;
 
-/// A block that is written after a flush, in a file that shows it or an older one, in the same boot: whether the zones are
-/// those after it, or else those of the flush, and whether the open says which.
+/// A block that is written after a flush, in a file that shows it or an older one, in the same boot: whether the zones
+/// are those after it, or else those of the flush, and whether the open says which.
 fn proves_its_blocks(alloc: Global, is_older: bool) -> Option<bool> {
     let mut drive = opened(alloc, formatted(alloc, &GEOMETRY)?, Before)?;
     let put_first = put(alloc, &mut drive, 0, 1, 2);
@@ -386,8 +386,8 @@ fn a_stored_drive_is_found(rt: HostRuntime) -> Result<(), Fail> {
     Ok(())
 }
 
-/// How many changes of the file a store of that drive takes: six blocks of zeros, the blocks of four zones, three words in
-/// each table, the seven words of the shape, a sync, the first word, and a sync.
+/// How many changes of the file a store of that drive takes: six blocks of zeros, the blocks of four zones, three words
+/// in each table, the seven words of the shape, a sync, the first word, and a sync.
 const CHANGES: u64 = 26;
 
 /// What an open says of a file in which that drive was stored up to a change.

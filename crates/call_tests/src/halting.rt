@@ -130,8 +130,8 @@ fn device(alloc: Global, halts: Halts) -> Option<HaltingDrive> {
     PassthroughDrive::new(alloc, ReadAhead::new(alloc, way), seen).ok()
 }
 
-/// Whether a command fails, and the device goes on. A Read and a report change nothing, so these always do. Of an Append
-/// or an action a report has to show that it was not done; a Close does no more than the drive may by itself.
+/// Whether a command fails, and the device goes on. A Read and a report change nothing, so these always do. Of an
+/// Append or an action a report has to show that it was not done; a Close does no more than the drive may by itself.
 fn is_failure(number: u32, halts: Halts) -> bool {
     let answered = halts.status != SILENT && halts.count == 1;
     let undone = halts.fault == Fault::Undone;

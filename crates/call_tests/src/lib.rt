@@ -19,6 +19,8 @@ mod chance;
 #[cfg(test)]
 mod checked_runs;
 #[cfg(test)]
+mod copied_files;
+#[cfg(test)]
 mod counts;
 #[cfg(test)]
 mod drive_benches;

@@ -45,7 +45,8 @@ fn stopped_after(alloc: Global, commands: u64) -> Option<Drive> {
 /// How many lies there are.
 const LIES: usize = 22;
 
-/// The bytes of a lie about a block: one byte in all places, the first block of a zone, or the same with one bit turned.
+/// The bytes of a lie about a block: one byte in all places, the first block of a zone, or the same with one bit
+/// turned.
 fn lie(alloc: Global, drive: &Drive, number: usize) -> Option<Vec<u8>> {
     let mut bytes = Vec::new(alloc);
     if number < 2 {

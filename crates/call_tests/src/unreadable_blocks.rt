@@ -1,9 +1,9 @@
 // Disks over a drive that fails at each Read of one of its blocks.
 //
 // A read of the logical block whose newest data are there fails, and the disk serves on. Written or trimmed anew, the
-// block is elsewhere. What the cleaner does today: it does not clean a zone with a live block that cannot be read. A
-// clean that has begun with such a zone stays at this block. No other zone is cleaned until the block is written or
-// trimmed. A write that finds room only by this clean fails.
+// block is elsewhere. A clean that meets the block is undone, and another zone is cleaned. A write fails only if no
+// other zone can be cleaned. Or the turns of one clean were not enough, or the clean that was undone had one of two
+// Empty zones: then it is done when it is asked again.
 
 use crate::checked_runs::{CALLS, Found, Run, SHAPES, Shape, found_after};
 use crate::random_calls::{Asked, Call};
@@ -53,7 +53,10 @@ impl Counts {
 #[derive(Drop)]
 struct Unreadable {
     run: Run<FailingDevice<Drive>>,
+    shape: Shape,
     address: u64,
+    /// How many writes failed one after the other while a clean ran.
+    unfinished: u32,
 }
 
 impl Unreadable {
@@ -75,15 +78,45 @@ impl Unreadable {
         states.filter(|state| state >> 4 != 0xe).count()
     }
 
-    /// A call failed in a clean, which stays at a live block that cannot be read. Unless the call is a turn, there is
-    /// no other room for it: all zones are Full but the one that the clean fills, and one that is kept empty.
+    /// How many zones are Empty.
+    fn empty(&mut self, rt: &impl Abort) -> usize {
+        let report = self.run.disk.report().expect(rt, "a report");
+        let zones = report.chunks(64).skip(1);
+        let states = zones.filter_map(|zone| zone.get(1).copied());
+        states.filter(|state| state >> 4 == 1).count()
+    }
+
+    /// How many zones could be cleaned, or are empty, beside the one that has the address.
+    fn others_to_clean(&self) -> u32 {
+        let mut count: u32 = 0;
+        for zone in 0..self.shape.zones {
+            let is_other = u64::from(zone) != self.address / 8;
+            if is_other && self.shape.can_be_moved(self.run.disk.live(zone)) {
+                count = count.saturating_add(1);
+            }
+        }
+        count
+    }
+
+    /// A call failed in a clean, which met a live block that cannot be read. After a turn the clean is still to be
+    /// undone. Any other call has tried other zones: none can be cleaned into the empty one, or it goes on next time.
     fn check_clean(&mut self, rt: &impl Abort, call: &Call) {
         let blocks = self.run.disk.blocks();
-        assert!(rt; self.run.disk.is_cleaning());
         assert!(rt; self.is_lost(0, blocks));
-        if call.asked != Asked::Idle {
-            assert!(rt; self.unfilled(rt) <= 2);
+        if call.asked == Asked::Idle {
+            assert!(rt; self.run.disk.is_cleaning());
+            return;
         }
+        assert!(rt; self.unfilled(rt) <= 2);
+        // If two zones are Empty now, since the clean was undone, the next call takes one of them.
+        if self.run.disk.is_cleaning() || self.empty(rt) == 2 {
+            self.unfinished = self.unfinished.saturating_add(1);
+            // The first one noted the block, the second one began with another zone.
+            assert!(rt; self.unfinished <= 2);
+            return;
+        }
+        assert_eq!(rt; self.others_to_clean(), 1);
+        self.unfinished = 0;
     }
 
     /// After a call that failed, all blocks can be read, but for one whose newest data are at the address. They show
@@ -128,6 +161,9 @@ impl Unreadable {
             return self.check_failed(rt, call);
         }
         assert!(rt; !was_lost || !call.reads());
+        if call.writes() || call.asked == Asked::Remount {
+            self.unfinished = 0;
+        }
         if was_lost && call.writes() {
             counts.replaced = counts.replaced.saturating_add(1);
         }
@@ -150,7 +186,12 @@ impl Sweep {
     fn run(&self, rt: &impl Abort, address: u64, counts: &mut Counts) -> Option<()> {
         let device = FailingDevice::unreadable(self.shape.drive(self.alloc)?, address);
         let run = Run::new(self.alloc, device, self.shape.blocks, self.seed)?;
-        let mut unreadable = Unreadable { run, address };
+        let mut unreadable = Unreadable {
+            run,
+            shape: self.shape,
+            address,
+            unfinished: 0,
+        };
         for _ in 0..CALLS {
             let call = unreadable.run.next_call();
             if self.remounts || call.asked != Asked::Remount {

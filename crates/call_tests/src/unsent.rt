@@ -219,8 +219,8 @@ fn one_report_shows_all_that_was_changed(rt: HostRuntime) {
     assert_eq!(rt; device.way().way().sent(), 3);
 }
 
-/// The first Reset waits for a Flush, since blocks may have been written before the device began. Later ones wait for one
-/// only after an Append.
+/// The first Reset waits for a Flush, since blocks may have been written before the device began. Later ones wait for
+/// one only after an Append.
 #[test]
 fn a_reset_waits_for_a_flush(rt: HostRuntime) {
     let alloc = rt.alloc();

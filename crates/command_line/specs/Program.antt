@@ -40,12 +40,16 @@ part needed name = record (number name (parsers.Signed (pos 0) (pos 4294967295))
 abbrev pub below_2_63 : ValueParser
 below_2_63 = parsers.Unsigned 0 9223372036854775807
 
+-- a path, which is not empty
+abbrev pub named_path : Text → Rule
+named_path name = with_parser parsers.NonEmptyString (valued name)
+
 -- where the drive is: in a file, or behind a device
 abbrev pub image : Rule
-image = optional (valued (codes "image"))
+image = optional (named_path (codes "image"))
 
 abbrev pub device : Rule
-device = optional (valued (codes "device"))
+device = optional (named_path (codes "device"))
 
 abbrev pub blocks : Rule
 blocks = number (codes "blocks") below_2_63
@@ -142,11 +146,11 @@ import_words = with_options (codes "import")
     (image ∷ device ∷ optional blocks ∷ optional (number (codes "first") below_2_63) ∷ flag (codes "sparse") ∷ flag (codes "progress") ∷ [])
 
 abbrev pub convert_words : Shape
-convert_words = with_options (codes "convert") (valued (codes "image") ∷ valued (codes "to") ∷ [])
+convert_words = with_options (codes "convert") (named_path (codes "image") ∷ named_path (codes "to") ∷ [])
 
 abbrev pub rescue_words : Shape
 rescue_words = with_options (codes "rescue")
-    (image ∷ device ∷ optional blocks ∷ optional (valued (codes "to")) ∷ optional (valued (codes "json")) ∷ flag (codes "progress") ∷ [])
+    (image ∷ device ∷ optional blocks ∷ optional (named_path (codes "to")) ∷ optional (named_path (codes "json")) ∷ flag (codes "progress") ∷ [])
 
 abbrev pub repair_words : Shape
 repair_words = with_options (codes "repair") (image ∷ device ∷ flag (codes "force") ∷ [])

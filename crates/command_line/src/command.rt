@@ -3,7 +3,7 @@ ghost use Rattle.clap.specs.Words.{Shape, app_of, rule_of};
 ghost use Rattle.command_line.specs.Program.{AddsOptions, AddsSubcommand, IsCommand, aims, below_2_63};
 ghost use Rattle.command_line.specs.Program.{blocks, check_words, convert_words, device, entry, entry_numbers, export_words, flag};
 ghost use Rattle.command_line.specs.Program.{fails, forgets, format, fresh_raw, fresh_words, given_first, habit, image};
-ghost use Rattle.command_line.specs.Program.{import_words, info_words, limits, nbd, number, nvme, optional};
+ghost use Rattle.command_line.specs.Program.{import_words, info_words, limits, named_path, nbd, number, nvme, optional};
 ghost use Rattle.command_line.specs.Program.{part, parts, percent, plan_words, program, repair_words, report_words};
 ghost use Rattle.command_line.specs.Program.{rescue_words, run, shape, stops, valued};
 
@@ -95,8 +95,8 @@ const STATISTICS_HELP: &str = "Shows what was written and moved after the replie
 
 const READ_ONLY_HELP: &str = "Changes nothing in the file, and refuses what would change the disk";
 
-/// An option that takes a number, and has to be given.
-fn number_option<'a>(
+/// An option that takes what its parser takes, and has to be given.
+fn parsed_option<'a>(
     alloc: Global,
     name: &'a str,
     letter: &'a str,
@@ -120,7 +120,7 @@ fn part<'a>(alloc: Global, name: &'a str, letter: &'a str, help: &'a str, requir
     ensures rule { rule_of result ≡ part required name.entry.now }
     ensures local { result.global ≡ false }
 {
-    number_option(alloc, name, letter, help, value_parser!(u32)).required(required)
+    parsed_option(alloc, name, letter, help, value_parser!(u32)).required(required)
 }
 
 /// The blocks and zones of a drive.
@@ -198,17 +198,20 @@ fn text_option<'a>(alloc: Global, name: &'a str, letter: &'a str, help: &'a str)
         .action(ArgAction::Set)
 }
 
-/// An option that takes a text, and has to be given.
-fn needed_option<'a>(alloc: Global, name: &'a str, letter: &'a str, help: &'a str) -> Arg<'a>
-    ensures rule { rule_of result ≡ valued name.entry.now }
+/// An option that takes a path, which is not empty, and has to be given.
+fn needed_path<'a>(alloc: Global, name: &'a str, letter: &'a str, help: &'a str) -> Arg<'a>
+    ensures rule { rule_of result ≡ named_path name.entry.now }
     ensures local { result.global ≡ false }
 {
-    Arg::new(alloc, name)
-        .long(name)
-        .value_name(letter)
-        .help(help)
-        .required(true)
-        .action(ArgAction::Set)
+    parsed_option(alloc, name, letter, help, ValueParser::NonEmptyString)
+}
+
+/// An option that takes a path, which is not empty, and may be left out.
+fn path_option<'a>(alloc: Global, name: &'a str, letter: &'a str, help: &'a str) -> Arg<'a>
+    ensures rule { rule_of result ≡ optional (named_path name.entry.now) }
+    ensures local { result.global ≡ false }
+{
+    needed_path(alloc, name, letter, help).required(false)
 }
 
 /// The path of an image file.
@@ -216,7 +219,7 @@ fn image_option<'a>(alloc: Global) -> Arg<'a>
     ensures rule { rule_of result ≡ image }
     ensures local { result.global ≡ false }
 {
-    text_option(alloc, "image", "P", "The file with the drive or its image")
+    path_option(alloc, "image", "P", "The file with the drive or its image")
 }
 
 /// The path of a device, which takes the place of a file.
@@ -226,7 +229,7 @@ fn device_option<'a>(alloc: Global) -> Arg<'a>
 {
     let help =
         "In the place of --image: a real drive, by the character device of its namespace, such as /dev/ng0n1";
-    text_option(alloc, "device", "D", help)
+    path_option(alloc, "device", "D", help)
 }
 
 /// What takes a number below 2^63.
@@ -242,7 +245,7 @@ fn blocks_option<'a>(alloc: Global) -> Arg<'a>
     ensures local { result.global ≡ false }
 {
     let help = "Logical blocks; where the drive has room for fewer, the refusal says for how many";
-    number_option(alloc, "blocks", "N", help, count_parser())
+    parsed_option(alloc, "blocks", "N", help, count_parser())
 }
 
 /// The same, for a drive that may say it.
@@ -251,7 +254,7 @@ fn blocks_if_fresh_option<'a>(alloc: Global) -> Arg<'a>
     ensures local { result.global ≡ false }
 {
     let help = "Logical blocks; a drive that was written says how many it has";
-    number_option(alloc, "blocks", "N", help, count_parser()).required(false)
+    parsed_option(alloc, "blocks", "N", help, count_parser()).required(false)
 }
 
 /// An option that takes a number below 2^63, and may be left out.
@@ -259,7 +262,7 @@ fn count_option<'a>(alloc: Global, name: &'a str, letter: &'a str, help: &'a str
     ensures rule { rule_of result ≡ optional (number name.entry.now below_2_63) }
     ensures local { result.global ≡ false }
 {
-    number_option(alloc, name, letter, help, count_parser()).required(false)
+    parsed_option(alloc, name, letter, help, count_parser()).required(false)
 }
 
 fn stop_options<'a>(alloc: Global, command: Command<'a>) -> Result<Command<'a>, AllocError>
@@ -277,7 +280,7 @@ fn percent_option<'a>(alloc: Global, name: &'a str, help: &'a str) -> Arg<'a>
     ensures rule { rule_of result ≡ optional (number name.entry.now percent) }
     ensures local { result.global ≡ false }
 {
-    number_option(alloc, name, "PERCENT", help, percent_parser()).required(false)
+    parsed_option(alloc, name, "PERCENT", help, percent_parser()).required(false)
 }
 
 /// What takes a percentage.
@@ -428,8 +431,8 @@ fn convert_command<'a>(alloc: Global) -> Result<Command<'a>, AllocError>
     Command::new(alloc, "convert")
         .about("Puts the drive of an image into a file in which it stays, or back into an image")
         .after_help(CONVERT_EXAMPLE)
-        .arg(needed_option(alloc, "image", "P", image))?
-        .arg(needed_option(alloc, "to", "Q", to))
+        .arg(needed_path(alloc, "image", "P", image))?
+        .arg(needed_path(alloc, "to", "Q", to))
 }
 
 fn rescue_command<'a>(alloc: Global) -> Result<Command<'a>, AllocError>
@@ -446,8 +449,8 @@ fn rescue_command<'a>(alloc: Global) -> Result<Command<'a>, AllocError>
         .arg(image_option(alloc))?
         .arg(device_option(alloc))?
         .arg(count_option(alloc, "blocks", "N", blocks))?
-        .arg(text_option(alloc, "to", "Q", to))?
-        .arg(text_option(alloc, "json", "F", json))?
+        .arg(path_option(alloc, "to", "Q", to))?
+        .arg(path_option(alloc, "json", "F", json))?
         .arg(flag(alloc, "progress", PROGRESS_HELP))
 }
 

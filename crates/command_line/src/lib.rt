@@ -15,8 +15,8 @@
 //!
 //! # What is not proved
 //!
-//! * The texts for help, and which subcommand [`subcommand_named`] gives: clap's contracts say nothing of texts. What is
-//!   told with refused words is tested in `job_tests`.
+//! * The texts for help, and which subcommand [`subcommand_named`] gives: clap's contracts say nothing of texts. What
+//!   is told with refused words is tested in `job_tests`.
 //!
 //! Tests: `job_tests`, and `tools/check_completions`.
 #![tactic(auto)]

@@ -1,10 +1,11 @@
 -- Reads of a flat disk, one after the other, as one read.
-use Rattle.std.proofs.Common.{◌≡◌, ℕ, zero, suc, ◌+◌, ◌<◌, ◌≤◌, Bool, true, false, List, [], ◌++◌, take, drop, Option, Some, None, Ok, Err, refl, sym, ap, subst, ◌∙◌, arith}
+use Rattle.std.proofs.Common.{◌≡◌, ◌≢◌, ℕ, zero, suc, ◌+◌, ◌<◌, ◌≤◌, Bool, true, false, List, [], ◌++◌, take, drop, Option, Some, None, Ok, Err, refl, sym, ap, subst, ◌∙◌, arith}
 use Rattle.zone_translator.specs.Calls.{Reads}
-use Rattle.std.specs.Prelude.{IsErrAnd, MatchOption, Result, nat_lt, ◌&&◌, ◌-◌}
+use Rattle.std.specs.Prelude.{IsErrAnd, MatchOption, OnOk, Result, nat_lt, ◌&&◌, ◌*◌, ◌-◌}
 use Rattle.std.specs.List.{concat}
 use Rattle.std.specs.Io.KnownBytes.{Appends}
 use Rattle.std.proofs.KnownBytes.{Appends-nil, Appends-trans}
+use Rattle.std.proofs.Math.Nat.{add-mul}
 use Rattle.std.proofs.Math.Seq.{take-add}
 use Rattle.std.proofs.lemmas.Bool.Decides.{nat_tests}
 use Rattle.std.proofs.lemmas.List.{drop-drop, length-append, take-append-le}
@@ -18,8 +19,8 @@ use Rattle.zone_translator.specs.declared.fault.DiskFault.TheVariants.{OutOfRang
 use Rattle.zone_translator.specs.declared.status.DiskStatus.{DiskStatus}
 use Rattle.zone_translator.specs.declared.status.DiskStatus.TheVariants as statuses
 use Rattle.disk_copies.specs.declared.stream_fault.ExportFault.{ExportFault}
-use Rattle.disk_copies.specs.declared.stream_fault.ExportFault.TheVariants.{Disk, Output}
-use Rattle.disk_copies.specs.Copies.{Exports, RefusesRange}
+use Rattle.disk_copies.specs.declared.stream_fault.ExportFault.TheVariants.{Disk, Output, Unread}
+use Rattle.disk_copies.specs.Copies.{Exports, GoesWhole, RefusesRest, ShowsRange}
 use Rattle.disk_copies.proofs.FlatWrites.{known-in, known-past, past-or-in}
 
 -- ---- a read that is done
@@ -169,28 +170,52 @@ exports-cut old mid new first m next n total written between contents e some par
     )
 
 -- the disk refused a piece
-exports-refused : (old mid new : DiskView) (first m next n total : ℕ) (fault : DiskFault) (written between contents : Option (List ℕ)) → next ≡ first + m → 0 < n → m + n ≤ total → first + total ≤ disk_size old
-    → Exports old first m written between (Ok tt) mid → RefusesRange mid next n fault between contents new → RefusesRange old first total fault written contents new
-exports-refused old mid new first m next n total fault written between contents e some part fits x r =
+exports-refused : (old mid new : DiskView) (first m next n total done : ℕ) (fault : DiskFault)
+    (written between contents : Option (List ℕ)) → next ≡ first + m → 0 < n → m + n ≤ total
+    → first + total ≤ disk_size old → Exports old first m written between (Ok tt) mid
+    → RefusesRest mid next n done fault between contents new
+    → RefusesRest old first total (m + done) fault written contents new
+exports-refused old mid new first m next n total done fault written between contents e some part fits x r =
     let before = showed (flat_of old) (flat_of mid) first m x.0 x.1 in
     let array : disk_array mid ≡ disk_array old = ap (λ (d : FlatDisk). d.array) before.same in
+    let size : disk_size mid ≡ disk_size old = ap (λ (d : FlatDisk). d.size) before.same in
+    let front = blocks_from (disk_array old) first m in
     record {
-      done = m + r.done;
-      within = omega (arith, r.within, part);
-      bytes = rw (ranges (disk_array old) first m next r.done e, concat-append (blocks_from (disk_array old) first m) (blocks_from (disk_array old) next r.done), ← before.shown_is, ← array)
-          (Appends-trans written between contents (concat x.0) (concat (blocks_from (disk_array mid) next r.done)) x.2 r.bytes);
+      bytes = rw (
+        ranges (disk_array old) first m next done e,
+        concat-append front (blocks_from (disk_array old) next done),
+        ← before.shown_is,
+        ← array,
+      )
+          (Appends-trans written between contents (concat x.0)
+          (concat (blocks_from (disk_array mid) next done)) x.2 r.bytes);
       flat = subst (λ (d : FlatDisk). FlatCall d (read first total) (with_nothing (Err fault)) (flat_of new)) before.same
-          (refused-as (flat_of mid) (flat_of new) first total next n fault (omega (arith, some, part)) (omega (arith, fits, ap (λ (d : FlatDisk). d.size) before.same)) some
-          (omega (arith, e, part, fits, ap (λ (d : FlatDisk). d.size) before.same)) r.flat);
+          (refused-as (flat_of mid) (flat_of new) first total next n fault (omega (arith, some, part))
+          (omega (arith, fits, size)) some (omega (arith, e, part, fits, size)) r.flat);
       cause = r.cause;
     }
 
 -- a fault of a piece
-pub exports-fail : (old mid new : DiskView) (first m next n total : ℕ) (fault : ExportFault) (written between contents : Option (List ℕ)) → next ≡ first + m → 0 < n → m + n ≤ total → first + total ≤ disk_size old
-    → Exports old first m written between (Ok tt) mid → Exports mid next n between contents (Err fault) new → Exports old first total written contents (Err fault) new
-exports-fail old mid new first m next n total Output written between contents e some part fits x y = exports-cut old mid new first m next n total written between contents e some part fits x y
-exports-fail old mid new first m next n total (Disk fault) written between contents e some part fits x r =
-    exports-refused old mid new first m next n total fault written between contents e some part fits x r
+pub exports-fail : (old mid new : DiskView) (first m next n total : ℕ) (fault : ExportFault)
+    (written between contents : Option (List ℕ)) → next ≡ first + m → 0 < n → m + n ≤ total
+    → first + total ≤ disk_size old → Exports old first m written between (Ok tt) mid
+    → Exports mid next n between contents (Err fault) new → Exports old first total written contents (Err fault) new
+exports-fail old mid new first m next n total Output written between contents e some part fits x y =
+    exports-cut old mid new first m next n total written between contents e some part fits x y
+exports-fail old mid new first m next n total (Disk fault) written between contents e some part fits x r = record {
+  done = m + r.done;
+  within = omega (arith, r.within, part);
+  other = r.other;
+  refuses = exports-refused old mid new first m next n total r.done fault written between contents e some part fits x
+      r.refuses;
+}
+exports-fail old mid new first m next n total (Unread block) written between contents e some part fits x r = record {
+  done = m + r.done;
+  within = omega (arith, r.within, part);
+  block_is = omega (arith, e, r.block_is);
+  refuses = exports-refused old mid new first m next n total r.done Failed written between contents e some part fits x
+      r.refuses;
+}
 
 -- a read that is refused shows nothing
 shown-none : (old new : FlatDisk) (first n : ℕ) (fault : DiskFault) (shown : List (List ℕ)) → FlatCall old (read first n) (record { result = Err fault; shown = shown }) new → shown ≡ []
@@ -207,15 +232,37 @@ exports-err old new first n written contents (Ok done) fault is x = absurd is
 exports-err old new first n written contents (Err e) fault is x = rw is x
 
 -- the disk refused before anything was written
-pub exports-unread : (old new : DiskView) (first n : ℕ) (written : Option (List ℕ)) (fault : DiskFault) (bytes : List ℕ) → Reads (flat_of old) first n (Err fault) bytes (flat_of new) → DiskCause new fault
-    → Exports old first n written written (Err (Disk fault)) new
-exports-unread old new first n written fault bytes reads cause = record {
-  done = 0;
-  within = omega arith;
+refused-first : (old new : DiskView) (first n : ℕ) (written : Option (List ℕ)) (fault : DiskFault) (bytes : List ℕ)
+    → Reads (flat_of old) first n (Err fault) bytes (flat_of new) → DiskCause new fault
+    → RefusesRest old first n 0 fault written written new
+refused-first old new first n written fault bytes reads cause = record {
   bytes = Appends-nil written;
-  flat = subst (λ (shown : List (List ℕ)). FlatCall (flat_of old) (read first n) (record { result = Err fault; shown = shown }) (flat_of new))
+  flat = subst (λ (shown : List (List ℕ)).
+      FlatCall (flat_of old) (read first n) (record { result = Err fault; shown = shown }) (flat_of new))
       (shown-none (flat_of old) (flat_of new) first n fault reads.shown reads.flat) reads.flat;
   cause = cause;
+}
+
+-- for another reason than that its drive failed
+pub exports-unread : (old new : DiskView) (first n : ℕ) (written : Option (List ℕ)) (fault : DiskFault) (bytes : List ℕ)
+    → Reads (flat_of old) first n (Err fault) bytes (flat_of new) → DiskCause new fault → fault ≢ Failed
+    → Exports old first n written written (Err (Disk fault)) new
+exports-unread old new first n written fault bytes reads cause other = record {
+  done = 0;
+  within = omega arith;
+  other = other;
+  refuses = refused-first old new first n written fault bytes reads cause;
+}
+
+-- because its drive failed at the block
+pub exports-lost : (old new : DiskView) (block : ℕ) (written : Option (List ℕ)) (bytes : List ℕ)
+    → Reads (flat_of old) block 1 (Err Failed) bytes (flat_of new) → DiskCause new Failed
+    → Exports old block 1 written written (Err (Unread block)) new
+exports-lost old new block written bytes reads cause = record {
+  done = 0;
+  within = omega arith;
+  block_is = omega arith;
+  refuses = refused-first old new block 1 written Failed bytes reads cause;
 }
 
 -- all was read, and the writer failed
@@ -227,3 +274,93 @@ exports-unsent old new first n written contents bytes reads front = (reads.shown
 pub exports-all : (old new : DiskView) (first n : ℕ) (written contents : Option (List ℕ)) (bytes : List ℕ) → Reads (flat_of old) first n (Ok tt) bytes (flat_of new) → Appends written contents bytes
     → Exports old first n written contents (Ok tt) new
 exports-all old new first n written contents bytes reads all = (reads.shown, reads.flat, subst (Appends written contents) reads.bytes_are all)
+
+-- ---- after a read that failed
+
+-- a read at which the drive failed leaves the disk as it was
+pub failed-same : (old new : FlatDisk) (first n : ℕ) (shown : List (List ℕ)) → 0 < n → first + n ≤ old.size
+    → FlatCall old (read first n) (record { result = Err Failed; shown = shown }) new → new ≡ old
+failed-same old new first n shown some fits flat = of old.status refl
+  where
+    back : {status : DiskStatus} → old.status ≡ status
+        → record { array = old.array; size = old.size; status = status; block = old.block; most = old.most } ≡ old
+    back s = ap (λ (d : DiskStatus). record { array = old.array; size = old.size; status = d; block = old.block; most = old.most }) (sym s)
+
+    of : (status : DiskStatus) → old.status ≡ status → new ≡ old
+    of statuses.Serving s =
+        let begun = rw (known-in old first n some fits, s) at flat in
+        begun.3
+        ∙ ap (λ (a : List (List ℕ)). record { array = a; size = old.size; status = statuses.Serving; block = old.block; most = old.most }) begun.2
+        ∙ back s
+    of statuses.Stopped s =
+        let known = rw (known-in old first n some fits, s) at flat in
+        known.1 ∙ back s
+    of statuses.Unmounted s =
+        let known = rw (known-in old first n some fits, s) at flat in
+        known.1 ∙ back s
+
+shows-from : (old mid new : DiskView) (first n : ℕ) (shown : List (List ℕ)) → flat_of mid ≡ flat_of old
+    → ShowsRange mid first n shown new → ShowsRange old first n shown new
+shows-from old mid new first n shown same x =
+    subst (λ (d : FlatDisk). FlatCall d (read first n) (record { result = Ok tt; shown = shown }) (flat_of new)) same x
+
+refuses-from : (old mid new : DiskView) (first n done : ℕ) (fault : DiskFault) (written contents : Option (List ℕ))
+    → flat_of mid ≡ flat_of old → RefusesRest mid first n done fault written contents new
+    → RefusesRest old first n done fault written contents new
+refuses-from old mid new first n done fault written contents same r = record {
+  bytes = subst (λ (d : FlatDisk). Appends written contents (concat (blocks_from d.array first done))) same r.bytes;
+  flat = subst (λ (d : FlatDisk). FlatCall d (read first n) (with_nothing (Err fault)) (flat_of new)) same r.flat;
+  cause = r.cause;
+}
+
+-- an export of a disk is also one of a disk that answers the same
+pub exports-from : (old mid new : DiskView) (first n : ℕ) (written contents : Option (List ℕ))
+    (result : Result (Unit {0}) ExportFault) → flat_of mid ≡ flat_of old
+    → Exports mid first n written contents result new → Exports old first n written contents result new
+exports-from old mid new first n written contents (Ok done) same x =
+    (x.0, shows-from old mid new first n x.0 same x.1, x.2)
+exports-from old mid new first n written contents (Err Output) same x =
+    (x.0, shows-from old mid new first n x.0 same x.1, x.2)
+exports-from old mid new first n written contents (Err (Disk fault)) same x = record {
+  done = x.done;
+  within = x.within;
+  other = x.other;
+  refuses = refuses-from old mid new first n x.done fault written contents same x.refuses;
+}
+exports-from old mid new first n written contents (Err (Unread block)) same x = record {
+  done = x.done;
+  within = x.within;
+  block_is = x.block_is;
+  refuses = refuses-from old mid new first n x.done Failed written contents same x.refuses;
+}
+
+-- ---- whatever the Reads returned
+
+-- at the start nothing is written
+pub goes-none : (block : ℕ) (written : Option (List ℕ)) → GoesWhole block written written 0
+goes-none block written = record { bytes = []; sent = Appends-nil written; whole = omega arith }
+
+-- a piece more is written
+pub goes-more : (block other count more sum : ℕ) (written between contents : Option (List ℕ)) → other ≡ block
+    → sum ≡ count + more → GoesWhole block written between count → GoesWhole other between contents more
+    → GoesWhole block written contents sum
+goes-more block other count more sum written between contents same sum_is first next = record {
+  bytes = first.bytes ++ next.bytes;
+  sent = Appends-trans written between contents first.bytes next.bytes first.sent next.sent;
+  whole = omega (
+    arith,
+    length-append first.bytes next.bytes,
+    first.whole,
+    next.whole,
+    ap (λ (k : ℕ). more * k) same,
+    add-mul count more block,
+    ap (λ (k : ℕ). k * block) sum_is,
+  );
+}
+
+-- blocks of a disk are those of another one of this shape
+pub goes-alike : (block other count : ℕ) (written contents : Option (List ℕ)) (result : Result (Unit {0}) ExportFault)
+    → other ≡ block → OnOk result (GoesWhole other written contents count)
+    → OnOk result (GoesWhole block written contents count)
+goes-alike block other count written contents result same goes =
+    subst (λ (b : ℕ). OnOk result (GoesWhole b written contents count)) same goes

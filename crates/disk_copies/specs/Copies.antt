@@ -1,5 +1,5 @@
 -- Copies of a disk's blocks as flat bytes: out of the disk to a writer, and into it from a reader.
-use Rattle.std.specs.Prelude.{◌≡◌, ℕ, ◌+◌, ◌*◌, ◌/◌, ◌<◌, ◌≤◌, max, List, [], ◌++◌, length, Result, Ok, Err}
+use Rattle.std.specs.Prelude.{◌≡◌, ◌≢◌, ℕ, ◌+◌, ◌*◌, ◌/◌, ◌<◌, ◌≤◌, max, List, [], ◌++◌, length, Result, Ok, Err}
 use Rattle.std.specs.Io.KnownBytes.{Appends, Consumes, IsAtEnd}
 use Rattle.std.specs.List.{AllByRecursion, concat}
 use Rattle.disk_files.specs.Input.{Known}
@@ -7,7 +7,7 @@ use Rattle.disk_files.specs.Output.{AppendsFront}
 use Rattle.zone_translator.specs.Flat.{FlatCall, blocks_from, read, with_nothing, write}
 use Rattle.zone_translator.specs.View.{DiskCause, DiskView, disk_array, disk_size, flat_of}
 use Rattle.zone_translator.specs.declared.fault.DiskFault.{DiskFault}
-use Rattle.zone_translator.specs.declared.fault.DiskFault.TheVariants.{OutOfRange}
+use Rattle.zone_translator.specs.declared.fault.DiskFault.TheVariants.{Failed, OutOfRange}
 use Rattle.disk_copies.specs.declared.stream_fault.ExportFault.{ExportFault}
 use Rattle.disk_copies.specs.declared.stream_fault.ExportFault.TheVariants as exports
 use Rattle.disk_copies.specs.declared.stream_fault.ImportFault.{ImportFault}
@@ -21,23 +21,43 @@ piece_blocks block = max 1 (1048576 / block)
 
 -- all n blocks of a range are shown by one read of a flat disk
 abbrev pub ShowsRange : DiskView → ℕ → ℕ → List (List ℕ) → DiskView → Type 0
-ShowsRange old first n shown new = FlatCall (flat_of old) (read first n) (record { result = Ok tt; shown = shown }) (flat_of new)
+ShowsRange old first n shown new =
+    FlatCall (flat_of old) (read first n) (record { result = Ok tt; shown = shown }) (flat_of new)
 
--- the disk refuses such a read; its first blocks may have been written before
-pub record RefusesRange (old : DiskView) (first n : ℕ) (fault : DiskFault) (written contents : Known) (new : DiskView) : Type 0 where
-  pub done : ℕ
-  pub within : done ≤ n
+-- the disk refuses such a read; its first blocks, so many, were written before, and no other byte
+pub record RefusesRest (old : DiskView) (first n done : ℕ) (fault : DiskFault) (written contents : Known)
+    (new : DiskView) : Type 0 where
   pub bytes : Appends written contents (concat (blocks_from (disk_array old) first done))
   pub flat : FlatCall (flat_of old) (read first n) (with_nothing (Err fault)) (flat_of new)
   pub cause : DiskCause new fault
 
--- An export of n blocks from a given one on. Done, the writer holds the bytes of these blocks more, and no other. Where the writer fails it holds a
--- beginning of them; where the disk refuses, the first blocks.
+-- the drive failed at the command that reads this block of the range: all blocks before it were written
+pub record LeavesUnread (old : DiskView) (first n block : ℕ) (written contents : Known) (new : DiskView) : Type 0 where
+  pub done : ℕ
+  pub within : done < n
+  pub block_is : block ≡ first + done
+  pub refuses : RefusesRest old first n done Failed written contents new
+
+-- the disk refused for another reason: the first blocks may have been written
+pub record RefusesRange (old : DiskView) (first n : ℕ) (fault : DiskFault) (written contents : Known)
+    (new : DiskView) : Type 0 where
+  pub done : ℕ
+  pub within : done ≤ n
+  pub other : fault ≢ Failed
+  pub refuses : RefusesRest old first n done fault written contents new
+
+-- An export of n blocks from a given one on. Done, the writer holds the bytes of these blocks more, and no other. Where
+-- the writer fails it holds a beginning of them; where the drive fails at a block, all blocks before it; where the disk
+-- refuses, the first blocks.
 abbrev pub Exports : DiskView → ℕ → ℕ → Known → Known → Result (Unit {0}) ExportFault → DiskView → Type 0
-Exports old first n written contents (Ok done) new = (shown : List (List ℕ)) × ShowsRange old first n shown new × Appends written contents (concat shown)
+Exports old first n written contents (Ok done) new =
+    (shown : List (List ℕ)) × ShowsRange old first n shown new × Appends written contents (concat shown)
 Exports old first n written contents (Err exports.Output) new =
     (shown : List (List ℕ)) × ShowsRange old first n shown new × AppendsFront written contents (concat shown)
-Exports old first n written contents (Err (exports.Disk fault)) new = RefusesRange old first n fault written contents new
+Exports old first n written contents (Err (exports.Disk fault)) new =
+    RefusesRange old first n fault written contents new
+Exports old first n written contents (Err (exports.Unread block)) new =
+    LeavesUnread old first n block written contents new
 
 -- ---- into the disk
 
@@ -47,9 +67,10 @@ write_result (Ok count) = Ok tt
 write_result (Err (imports.Disk fault)) = Err fault
 write_result (Err fault) = Ok tt
 
--- Blocks were taken from a reader, and then bytes of which nothing came. The disk answered as a flat one answers one write of these blocks, from a given
--- one on: it has them all or, where it refused, a front of them.
-pub record TakesBlocks {V : Type 0} (old : DiskView) (first : ℕ) (input rest : Known) (result : Result V ImportFault) (new : DiskView) : Type 0 where
+-- Blocks were taken from a reader, and then bytes of which nothing came. The disk answered as a flat one answers one
+-- write of these blocks, from a given one on: it has them all or, where it refused, a front of them.
+pub record TakesBlocks {V : Type 0} (old : DiskView) (first : ℕ) (input rest : Known) (result : Result V ImportFault)
+    (new : DiskView) : Type 0 where
   pub blocks : List (List ℕ)
   pub whole : AllByRecursion (λ (block : List ℕ). length block ≡ old.drive.geometry.block) blocks
   pub within : 0 < length blocks → first + length blocks ≤ disk_size old
@@ -57,10 +78,13 @@ pub record TakesBlocks {V : Type 0} (old : DiskView) (first : ℕ) (input rest :
   pub read : Consumes input rest (concat blocks ++ left)
   pub flat : FlatCall (flat_of old) (write first blocks) (with_nothing (write_result result)) (flat_of new)
 
--- Why an import stopped that ended at this block, by the bytes of which nothing came. Where the reader fails they are less than a piece.
+-- Why an import stopped that ended at this block, by the bytes of which nothing came. Where the reader fails they are
+-- less than a piece.
 abbrev pub StopsImport : ImportFault → DiskView → ℕ → List ℕ → Known → DiskView → Type 0
-StopsImport imports.Input old end left rest new = length left < piece_blocks old.drive.geometry.block * old.drive.geometry.block
-StopsImport imports.Rest old end left rest new = (0 < length left) × (length left < old.drive.geometry.block) × IsAtEnd rest
+StopsImport imports.Input old end left rest new =
+    length left < piece_blocks old.drive.geometry.block * old.drive.geometry.block
+StopsImport imports.Rest old end left rest new =
+    (0 < length left) × (length left < old.drive.geometry.block) × IsAtEnd rest
 StopsImport imports.PastEnd old end left rest new = (old.drive.geometry.block ≤ length left) × (disk_size old ≤ end)
 StopsImport (imports.Disk fault) old end left rest new = DiskCause new fault
 StopsImport imports.Memory old end left rest new = (left ≡ []) × (new ≡ old)
@@ -71,7 +95,8 @@ EndsImport (Ok count) old first taken left rest new = (count ≡ taken) × (left
 EndsImport (Err fault) old first taken left rest new = StopsImport fault old (first + taken) left rest new
 
 -- An import, from a given block on.
-pub record Imports (old : DiskView) (first : ℕ) (input rest : Known) (result : Result ℕ ImportFault) (new : DiskView) : Type 0 where
+pub record Imports (old : DiskView) (first : ℕ) (input rest : Known) (result : Result ℕ ImportFault)
+    (new : DiskView) : Type 0 where
   pub takes : TakesBlocks old first input rest result new
   pub ends : EndsImport result old first (length takes.blocks) takes.left rest new
 
@@ -83,7 +108,8 @@ EndsPiece (Ok count) old first taken left rest new = (count ≡ taken) × (left 
 EndsPiece (Err imports.Memory) old first taken left rest new = ⊥
 EndsPiece (Err fault) old first taken left rest new = StopsImport fault old (first + taken) left rest new
 
-pub record ImportsPiece (old : DiskView) (first : ℕ) (input rest : Known) (result : Result ℕ ImportFault) (new : DiskView) : Type 0 where
+pub record ImportsPiece (old : DiskView) (first : ℕ) (input rest : Known) (result : Result ℕ ImportFault)
+    (new : DiskView) : Type 0 where
   pub takes : TakesBlocks old first input rest result new
   pub ends : EndsPiece result old first (length takes.blocks) takes.left rest new
 
@@ -103,6 +129,13 @@ PieceComes block input rest count = ComesWhole block input rest count × (count 
 abbrev pub AllComes : ℕ → Known → Known → ℕ → Type 0
 AllComes block input rest count = ComesWhole block input rest count × IsAtEnd rest
 
+-- the writer was given so many whole blocks, and no other byte
+pub record GoesWhole (block : ℕ) (written contents : Known) (count : ℕ) : Type 0 where
+  pub bytes : List ℕ
+  pub sent : Appends written contents bytes
+  pub whole : length bytes ≡ count * block
+
 -- a range past the end of the disk is refused, and nothing is written
 abbrev pub RefusesPast : DiskView → Known → Known → Result (Unit {0}) ExportFault → DiskView → Type 0
-RefusesPast old written contents result new = (result ≡ Err (exports.Disk OutOfRange)) × (contents ≡ written) × (new ≡ old)
+RefusesPast old written contents result new =
+    (result ≡ Err (exports.Disk OutOfRange)) × (contents ≡ written) × (new ≡ old)

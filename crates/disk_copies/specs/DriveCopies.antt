@@ -20,13 +20,15 @@ use Rattle.disk_copies.specs.declared.job.ImportJob.{ImportJob}
 
 -- ---- an export
 
--- how many blocks are asked for: all from the first one on if no number was given, but one at least, so that a first one past the end is refused
+-- how many blocks are asked for: all from the first one on if no number was given, but one at least, so that a first
+-- one past the end is refused
 abbrev pub blocks_asked : Option ℕ → ℕ → ℕ → ℕ
 blocks_asked (Some count) first size = count
 blocks_asked None first size = max 1 (size - first)
 
 -- the drive in the file is restarted and mounted, and its blocks are exported
-pub record ExportsDrive (job : ExportJob) (file written contents : Known) (result : Result (Unit {0}) ExportFault) : Type 0 where
+pub record ExportsDrive (job : ExportJob) (file written contents : Known)
+    (result : Result (Unit {0}) ExportFault) : Type 0 where
   pub begun : Begun
   pub begins : IsRestarted file Lazy begun
   pub disk : DiskView
@@ -52,7 +54,8 @@ ExportsFile job file written contents (Err fault) = ⊥
 -- ---- an import
 
 -- a drive is mounted, and blocks are imported; what is left can be mounted again
-pub record ImportsDisk (job : ImportJob) (input rest : Known) (old : DriveState) (taken : Result ℕ ImportFault) (new : DriveState) : Type 0 where
+pub record ImportsDisk (job : ImportJob) (input rest : Known) (old : DriveState) (taken : Result ℕ ImportFault)
+    (new : DriveState) : Type 0 where
   pub disk : DiskView
   pub served : IsServed old job.blocks disk
   pub last : DiskView

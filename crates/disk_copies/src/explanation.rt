@@ -14,8 +14,8 @@ pub fn explain(alloc: Global, job: &CopyJob, fault: CopyFault) -> Result<String,
         }
         (CopyJob::Export(_), CopyFault::Mount(NoDiskFault::NoSize { most })) => {
             format!(in alloc;
-                "{path}: the drive was written, but its headers say no size: a write by `run --blocks N`, N from 1 to {most}, \
-                makes them say it"
+                "{path}: the drive was written, but its headers say no size: a write by `run --blocks N`, \
+                N from 1 to {most}, makes them say it"
             )
         }
         (_, CopyFault::File(fault)) => fault.explain(alloc, path),

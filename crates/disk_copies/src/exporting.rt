@@ -1,10 +1,10 @@
 // Blocks of a disk as flat bytes.
 
-ghost use Rattle.std.specs.Prelude.{◌≡◌, ◌+◌, ◌≤◌, ◌<◌, ◌&&◌, nat_lt, max, length, IsTrue};
+ghost use Rattle.std.specs.Prelude.{◌≡◌, ◌+◌, ◌^◌, ◌≤◌, ◌<◌, ◌&&◌, nat_lt, max, length, IsTrue, OnOk};
 ghost use Rattle.zone_translator.specs.Keeping.{KeepsServed};
 ghost use Rattle.zone_translator.specs.View.{StaysAlike, disk_array, disk_size};
 ghost use Rattle.zone_translator.specs.declared.status.DiskStatus.TheVariants.{Serving};
-ghost use Rattle.disk_copies.specs.Copies.{Exports, RefusesPast};
+ghost use Rattle.disk_copies.specs.Copies.{Exports, GoesWhole, RefusesPast};
 
 use crate::piece::{block_of, piece_blocks};
 use crate::stream_fault::ExportFault;
@@ -21,7 +21,56 @@ fn is_past_end(size: u64, first: u64, blocks: u64) -> bool
     blocks > 0 && (blocks > size || first > size - blocks)
 }
 
-/// Writes one piece of an export.
+/// Writes one block of an export.
+fn export_block<D: Device + Drop, W: Write>(
+    disk: &mut AnyDisk<D>,
+    writer: &mut W,
+    block: u64,
+    bytes: &mut Vec<u8>,
+) -> Result<(), ExportFault>
+    ensures exports { IsTrue disk.new.drive.clean
+        → Exports disk.old block 1 (W.contents writer.old) (W.contents writer.new) result disk.new }
+    ensures keeps { IsTrue disk.new.drive.clean → KeepsServed disk.old disk.new }
+    // Whatever the Read returned, shape and size stay. Done, a whole block is written.
+    ensures alike { StaysAlike disk.old disk.new }
+    ensures whole { OnOk result
+        (GoesWhole disk.old.drive.geometry.block (W.contents writer.old) (W.contents writer.new) 1) }
+{
+    if let Err(fault) = disk.read(block, 1, bytes) {
+        match fault {
+            DiskFault::Failed => return Err(ExportFault::Unread(block)),
+            _ => return Err(ExportFault::Disk(fault)),
+        }
+    }
+    write_out(writer, bytes)?;
+    Ok(())
+}
+
+/// Writes a piece of an export block by block.
+fn export_singly<D: Device + Drop, W: Write>(
+    disk: &mut AnyDisk<D>,
+    writer: &mut W,
+    first: u64,
+    blocks: u64,
+    bytes: &mut Vec<u8>,
+) -> Result<(), ExportFault>
+    requires in_range { first + blocks ≤ disk_size disk.old }
+    requires fits { first + blocks < 2 ^ 64 }
+    ensures exports { IsTrue disk.new.drive.clean
+        → Exports disk.old first blocks (W.contents writer.old) (W.contents writer.new) result disk.new }
+    ensures keeps { IsTrue disk.new.drive.clean → KeepsServed disk.old disk.new }
+    // Whatever the Reads returned, shape and size stay. Done, that many whole blocks are written.
+    ensures alike { StaysAlike disk.old disk.new }
+    ensures whole { OnOk result
+        (GoesWhole disk.old.drive.geometry.block (W.contents writer.old) (W.contents writer.new) blocks) }
+{
+    for i in 0..blocks {
+        export_block(disk, writer, first + i, bytes)?;
+    }
+    Ok(())
+}
+
+/// Writes one piece of an export. Where the drive fails at one of its blocks, those before it are written.
 fn export_piece<D: Device + Drop, W: Write>(
     disk: &mut AnyDisk<D>,
     writer: &mut W,
@@ -29,13 +78,23 @@ fn export_piece<D: Device + Drop, W: Write>(
     blocks: u64,
     piece: &mut Vec<u8>,
 ) -> Result<(), ExportFault>
+    requires some { 0 < blocks }
+    requires in_range { first + blocks ≤ disk_size disk.old }
+    requires fits { first + blocks < 2 ^ 64 }
     ensures exports { IsTrue disk.new.drive.clean
         → Exports disk.old first blocks (W.contents writer.old) (W.contents writer.new) result disk.new }
     ensures keeps { IsTrue disk.new.drive.clean → KeepsServed disk.old disk.new }
-    // Whatever the Reads returned, shape and size stay.
+    // Whatever the Reads returned, shape and size stay. Done, that many whole blocks are written.
     ensures alike { StaysAlike disk.old disk.new }
+    ensures whole { OnOk result
+        (GoesWhole disk.old.drive.geometry.block (W.contents writer.old) (W.contents writer.new) blocks) }
 {
-    disk.read_joined(first, blocks, piece)?;
+    if let Err(fault) = disk.read_joined(first, blocks, piece) {
+        match fault {
+            DiskFault::Failed => return export_singly(disk, writer, first, blocks, piece),
+            _ => return Err(ExportFault::Disk(fault)),
+        }
+    }
     write_out(writer, piece)?;
     Ok(())
 }
@@ -43,8 +102,9 @@ fn export_piece<D: Device + Drop, W: Write>(
 /// Writes the bytes of `blocks` blocks from the block `first` on, and nothing else.
 ///
 /// A range past the end is refused before anything is written. After another fault the first blocks are written, and
-/// where the writer failed a beginning of the next ones. A block that the drive does not read ends the export: of the
-/// piece of up to 1 MiB that it is in nothing is written.
+/// where the writer failed a beginning of the next ones. A block that the drive does not read ends the export: all
+/// blocks before it are written, and the fault names it. Blocks are read in pieces of up to 1 MiB, and one by one where
+/// the drive fails in a piece.
 pub fn export_blocks<D: Device + Drop, W: Write>(
     alloc: Global,
     disk: &mut AnyDisk<D>,
@@ -57,8 +117,10 @@ pub fn export_blocks<D: Device + Drop, W: Write>(
         → Exports disk.old first blocks (W.contents writer.old) (W.contents writer.new) result disk.new }
     ensures array { IsTrue disk.new.drive.clean → disk_array disk.new ≡ disk_array disk.old }
     ensures keeps { IsTrue disk.new.drive.clean → KeepsServed disk.old disk.new }
-    // Whatever the Reads returned, shape and size stay.
+    // Whatever the Reads returned, shape and size stay. Done, that many whole blocks are written.
     ensures alike { StaysAlike disk.old disk.new }
+    ensures whole { OnOk result
+        (GoesWhole disk.old.drive.geometry.block (W.contents writer.old) (W.contents writer.new) blocks) }
     // Whatever they returned, a range past the end is refused before anything is written.
     ensures past { 0 < blocks → disk_size disk.old < first + blocks
         → RefusesPast disk.old (W.contents writer.old) (W.contents writer.new) result disk.new }

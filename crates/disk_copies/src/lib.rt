@@ -18,7 +18,9 @@
 //! (`specs/Copies.antt`):
 //!
 //! * [`export_blocks`] writes exactly the bytes that one read of these blocks shows. If the writer fails, a beginning
-//!   of them is written; if the disk refuses, the bytes of the first blocks. The array stays as it is (`Exports`).
+//!   of them is written; if the disk refuses, the bytes of the first blocks. The array stays as it is (`Exports`). If
+//!   the drive fails at a block, all blocks before it are written, no other byte, and the fault names it
+//!   (`LeavesUnread`). That comes only if the drive has failed at a command.
 //! * [`import_blocks`] does what one write of the blocks that it took does: the array has them all or, if the disk
 //!   refused, a front of them (`TakesBlocks`). They are whole, and below the size of the disk. `Ok(n)` says that the
 //!   reader was at its end, and gave n whole blocks and no other byte (`EndsImport`).
@@ -30,8 +32,8 @@
 //!   and refused no command.
 //!
 //! The bytes are promised where reader and writer say by contract which bytes they have left and hold. Whatever the
-//! Reads returned, each copy ends, and geometry and size stay (`StaysAlike`). A [`DiskWriter`] is for a device that is
-//! always clean.
+//! Reads returned, each copy ends, and geometry and size stay (`StaysAlike`). An export that is done has written as
+//! many bytes as its blocks have (`GoesWhole`). A [`DiskWriter`] is for a device that is always clean.
 //!
 //! Over every file and store, too (`specs/DriveCopies.antt`):
 //!

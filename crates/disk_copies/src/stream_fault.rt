@@ -13,6 +13,9 @@ pub enum ExportFault {
     /// The disk refused to show the blocks.
     #[error("{0}")]
     Disk(DiskFault),
+    /// The drive failed at the command that reads this block. All blocks before it are written.
+    #[error("block {0} cannot be read: the drive failed at a command")]
+    Unread(u64),
     /// The writer failed.
     #[error("standard output failed")]
     Output,

@@ -127,7 +127,7 @@ fn reads_the_words_of_tools(rt: HostRuntime) {
 }
 
 /// What is told of refused words: the word, what is taken in its place, and the usage of the subcommand.
-const REFUSED_WORDS: [(&str, &str); 8] = [
+const REFUSED_WORDS: [(&str, &str); 11] = [
     (
         "zonedisk report --image a --state half",
         "error: invalid value 'half' for '--state'
@@ -152,6 +152,31 @@ For more information, try '--help'.
         "error: invalid value '4k' for '--blocks <N>': a whole number, as 4096
 
 Usage: zonedisk run [OPTIONS] --blocks <N>
+
+For more information, try '--help'.
+",
+    ),
+    (
+        "zonedisk run --image a --blocks 99999999999999999999",
+        "error: invalid value '99999999999999999999' for '--blocks <N>': a whole number, as 4096
+
+Usage: zonedisk run [OPTIONS] --blocks <N>
+
+For more information, try '--help'.
+",
+    ),
+    (
+        "zonedisk run --image a --blocks 9 --tear 2",
+        "error: the option '--tear' belongs to '--stop-after', which is not given
+
+Usage: zonedisk run [OPTIONS] --blocks <N>
+
+For more information, try '--help'.
+",
+    ),
+    (
+        "zonedisk run --image= --blocks 9",
+        "error: a value is required for '--image <P>' but none was supplied
 
 For more information, try '--help'.
 ",

@@ -8,12 +8,16 @@ const FRESH: &str =
     "zonedisk fresh --block 512 --zones 4 --size 8 --capacity 6 --transfer 4 --active 2 --open 2";
 
 /// Which words of the command line of a fresh disk are refused, and how.
-const WORDS: [(&str, Option<ErrorKind>); 19] = [
+const WORDS: [(&str, Option<ErrorKind>); 20] = [
     ("--blocks 9", None),
     ("--blocks=0009 --report", None),
     ("--statistics --blocks 9223372036854775807", None),
     ("--blocks 9 --habit strict", None),
     ("--blocks 9 --tear 2 --stop-after=5", None),
+    (
+        "--blocks 9 --tear 0",
+        Some(ErrorKind::MissingRequiredArgument),
+    ),
     ("--blocks +5", Some(ErrorKind::ValueValidation)),
     ("--blocks -5", Some(ErrorKind::UnknownArgument)),
     ("--blocks 0x5", Some(ErrorKind::ValueValidation)),
@@ -49,13 +53,21 @@ fn reads_the_words(rt: HostRuntime) -> Result<(), Fail> {
 }
 
 /// Which other words are refused, and how.
-const OTHER_WORDS: [(&str, Option<ErrorKind>); 35] = [
+const OTHER_WORDS: [(&str, Option<ErrorKind>); 41] = [
     ("zonedisk run --zones --blocks=9 --image=a/b", None),
     (
         "zonedisk run --image b --blocks 9 --statistics --zones",
         None,
     ),
     ("zonedisk run --read-only --image b --blocks 9", None),
+    (
+        "zonedisk run --image b --blocks 9 --tear 2",
+        Some(ErrorKind::MissingRequiredArgument),
+    ),
+    (
+        "zonedisk nbd --device b --tear 2",
+        Some(ErrorKind::MissingRequiredArgument),
+    ),
     ("zonedisk nbd --image b --read-only", None),
     (
         "zonedisk nbd --image b --blocks 9 --idle --stop-after 7",
@@ -145,6 +157,16 @@ const OTHER_WORDS: [(&str, Option<ErrorKind>); 35] = [
         Some(ErrorKind::UnknownArgument),
     ),
     ("zonedisk report", Some(ErrorKind::MissingRequiredArgument)),
+    ("zonedisk report --image=", Some(ErrorKind::InvalidValue)),
+    ("zonedisk check --device=", Some(ErrorKind::InvalidValue)),
+    (
+        "zonedisk convert --image b --to=",
+        Some(ErrorKind::InvalidValue),
+    ),
+    (
+        "zonedisk rescue --image b --json=",
+        Some(ErrorKind::InvalidValue),
+    ),
     (
         "zonedisk report --image b --habit lazy",
         Some(ErrorKind::UnknownArgument),

@@ -86,8 +86,8 @@ fn find_disk<S: Source>(
     Ok(findings)
 }
 
-/// Writes the disk of a broken drive to a writer, as flat bytes. `given` is how many blocks it has if no header says how
-/// many. The drive is only read.
+/// Writes the disk of a broken drive to a writer, as flat bytes. `given` is how many blocks it has if no header says
+/// how many. The drive is only read.
 pub fn rescue_out<S: Source, W: Write>(
     alloc: Global,
     given: u32,

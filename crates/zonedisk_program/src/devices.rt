@@ -18,7 +18,8 @@ use device_jobs::{
 use disk_copies::{CopyFault, CopyJob, ExportFault, ExportJob, ImportJob, import_mounted};
 use disk_files::write_out;
 use disk_jobs::{
-    Counted, Explained, Gate, Habit, JobInput, LineCount, ProgramFault, Stop, Watched, run_told,
+    Counted, Explained, Gate, Habit, JobInput, LineCount, ProgramFault, Stop, Watched,
+    explain_geometry, run_told,
 };
 use disk_runs::{RunFault, Taking};
 use drive_port::{Device, Geometry, Honest};
@@ -63,10 +64,10 @@ fn send<W: Write>(output: &mut W) -> Result<(), ProgramFault> {
     output.flush().or(Err(ProgramFault::Run(RunFault::Output)))
 }
 
-/// Says that what a drive has completed may not be durable.
+/// Says that what a drive has completed may not be durable. Why its sync failed is told by the way to it.
 fn tell_unsynced<R: Eprint>(rt: &R, path: &str) {
     let _ = eprintln!(rt;
-        "zonedisk: {path}: the sync at the end failed: a loss of power may lose what was done"
+        "zonedisk: {path}: not all that was done is synced: a loss of power may lose it"
     );
 }
 
@@ -154,9 +155,32 @@ pub(crate) fn end_made<R: Eprint, W: Write>(rt: &R, path: &str, output: &mut W) 
     ExitCode::FAILURE
 }
 
+/// Says why no drive is made in the file of this path. A shape that is out of range is told by its options.
+fn refuse_create<R: Eprint, W: Write>(
+    rt: &R,
+    alloc: Global,
+    path: &str,
+    geometry: &Geometry,
+    fault: DeviceFault,
+    output: &mut W,
+) -> ExitCode
+    ensures { exit_status result ≡ 1 }
+{
+    let DeviceFault::Shape(shape) = fault else {
+        return refuse_lines(rt, path, fault, output);
+    };
+    let _ = write_device_fault(output);
+    let _ = output.flush();
+    if let Ok(text) = explain_geometry(alloc, *geometry, shape) {
+        let _ = eprintln!(rt; "zonedisk: {text}");
+    }
+    ExitCode::FAILURE
+}
+
 /// Makes a new drive that stays in its file.
 fn do_create<R: Eprint, D: Devices, W: Write>(
     rt: &R,
+    alloc: Global,
     devices: &D,
     path: &str,
     geometry: &Geometry,
@@ -165,7 +189,7 @@ fn do_create<R: Eprint, D: Devices, W: Write>(
     ensures { D.has_way devices.now ≡ false → exit_status result ≡ 1 }
 {
     if let Err(fault) = devices.create(path, geometry) {
-        return refuse_lines(rt, path, fault, output);
+        return refuse_create(rt, alloc, path, geometry, fault, output);
     }
     end_made(rt, path, output)
 }
@@ -600,7 +624,9 @@ pub fn do_device<R: Clock + Eprint + Files<File = fs::File> + Input + Print, D: 
         DeviceJob::Format { device, force } => {
             do_format(rt, alloc, devices, device, *force, output)
         }
-        DeviceJob::Create { image, geometry } => do_create(rt, devices, image, geometry, output),
+        DeviceJob::Create { image, geometry } => {
+            do_create(rt, alloc, devices, image, geometry, output)
+        }
         DeviceJob::Run(job) => do_run(rt, alloc, devices, job, output),
         DeviceJob::Report { device, state } => {
             do_report(rt, alloc, devices, device, *state, output)

@@ -7,18 +7,20 @@ ghost use Rattle.zonedisk_program.specs.Ends.{EndsSaved};
 use disk_copies::{CopyFault, CopyJob, do_export, do_import};
 use disk_jobs::{
     Counted, DiskSize, Explained, Gate, Job, JobInput, LineCount, LinesDone, ProgramFault, Saved,
-    Watched, do_job, explain, is_terminal, restored_note, size_notes, write_program_fault,
+    Watched, do_job, explain, explain_geometry, is_terminal, restored_note, size_notes,
+    write_program_fault,
 };
 use nbd_jobs::{
     Forgotten, NbdFault, NbdJob, SessionDone, SessionTold, do_nbd_job, failed_note, forgotten_note,
 };
-use std::alloc::Global;
+use std::alloc::{AllocError, Global};
 use std::io::{Read, Write};
 use std::process::ExitCode;
 use std::rt::Files;
 use std::time::Clock;
 use std::{fs, io};
-use tool_jobs::{ToolJob, do_tool_job};
+use tool_jobs::{PlanJob, PlannedDrive, ToolFault, ToolJob, do_tool_job};
+use write_plan::PlanFault;
 
 /// Writes the line of a fault, and gives the exit status of one, also where the line can't be written.
 pub(crate) fn fail<W: Write>(alloc: Global, fault: ProgramFault, output: &mut W) -> ExitCode {
@@ -243,6 +245,22 @@ pub(crate) fn copy<R: Clock + Eprint + Files<File = fs::File> + Input + Print>(
     code
 }
 
+/// Why a tool tells nothing. A shape that is out of range is told by its options.
+fn tool_text(alloc: Global, job: &ToolJob, fault: ToolFault) -> Result<String, AllocError> {
+    match (job, fault) {
+        (
+            ToolJob::Plan(
+                PlanJob {
+                    drive: PlannedDrive::Shape(geometry),
+                    ..
+                },
+            ),
+            ToolFault::Plan(PlanFault::Limits(fault)),
+        ) => explain_geometry(alloc, *geometry, fault),
+        (_, fault) => tool_jobs::explain(alloc, job, fault),
+    }
+}
+
 /// Does what a tool is asked for. Why it tells nothing goes to standard error, and what else is to be known.
 pub(crate) fn use_tool<R: Eprint + Files<File = fs::File>, W: Write>(
     rt: &R,
@@ -259,7 +277,7 @@ pub(crate) fn use_tool<R: Eprint + Files<File = fs::File>, W: Write>(
         }
         Ok(false) => ExitCode::FAILURE,
         Err(fault) => {
-            if let Ok(text) = tool_jobs::explain(alloc, job, fault) {
+            if let Ok(text) = tool_text(alloc, job, fault) {
                 let _ = eprintln!(rt; "zonedisk: {text}");
             }
             ExitCode::FAILURE

@@ -11,8 +11,8 @@
 //! So programs with different ways share all else. [`task_of`] reads the words of the command line, and each job is
 //! done by its crate: [`do_job`], [`do_nbd_job`], [`do_export`], [`do_import`], [`do_tool_job`], `do_rescue` and
 //! `mend_image` on the drive whose image is in a file, and those of `device_jobs` on the drive of a device. What people
-//! are told goes to standard error: what a fault is, what a status means with `nvme --explain`, what to know of the size
-//! of a disk, and what is missing of a rescued one.
+//! are told goes to standard error: what a fault is, what a status means with `nvme --explain`, what to know of the
+//! size of a disk, and what is missing of a rescued one.
 //!
 //! A file that is named by `--image` may hold a drive that stays in it. The first bytes of the file say so. Then the
 //! task becomes a job on a device with that path ([`in_place`]), and the second way opens it. A drive is put into a
@@ -45,8 +45,8 @@
 //! # What is not proved
 //!
 //! * That an output has failed where a repair says so: one that sends nothing, and ends with 1, meets its contracts.
-//! * The texts, the files and any other exit status 0 are tested; so is how a drive that stays in its file is known, and
-//!   that a format is forced only where that was asked for (`tool_rows`).
+//! * The texts, the files and any other exit status 0 are tested; so is how a drive that stays in its file is known,
+//!   and that a format is forced only where that was asked for (`tool_rows`).
 //!
 //! Tests: `job_tests`, and the rows of `tool_rows`.
 #![tactic(auto)]
@@ -59,6 +59,7 @@ mod converting;
 mod counterpart;
 mod devices;
 mod files;
+mod folders;
 mod in_file;
 mod repairing;
 mod rescuing;
@@ -67,6 +68,7 @@ use crate::converting::{into_drive_file, into_image};
 pub use crate::counterpart::in_place;
 pub use crate::devices::do_device;
 use crate::files::{copy, do_lines, do_nbd, fail, use_tool};
+use crate::folders::tell_missing_folders;
 use crate::in_file::{begins_in_place, refuse_in_place};
 use crate::repairing::repair_image;
 use crate::rescuing::{rescue_device, rescue_image};
@@ -183,8 +185,8 @@ fn do_asked<
     }
 }
 
-/// Does a task, with this way to devices, and this one to drives that stay in their files. A job on a device, or on a new
-/// drive in a file, ends with the status of a fault if there is no way to it.
+/// Does a task, with this way to devices, and this one to drives that stay in their files. A job on a device, or on a
+/// new drive in a file, ends with the status of a fault if there is no way to it.
 pub fn do_task<
     R: Clock + Eprint + Files<File = fs::File> + Input + Print,
     D: Devices,
@@ -249,7 +251,10 @@ pub fn run_program<
         return Ok(fail(alloc, OUT_OF_MEMORY, &mut io::writer(rt)));
     };
     match asked(rt, alloc, &mut output) {
-        Ok(task) => Ok(do_task(rt, alloc, devices, files, task, &mut output)),
+        Ok(task) => {
+            tell_missing_folders(rt, &task);
+            Ok(do_task(rt, alloc, devices, files, task, &mut output))
+        }
         Err(code) => Ok(code),
     }
 }
