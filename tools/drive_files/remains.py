@@ -9,6 +9,8 @@ import random
 SECTOR = 512
 # Where a drive in a file names the boot that served it last: two words.
 BOOT, WORD = 64, 8
+# Where it has the mark of the file while a program has it.
+MARK = 80
 
 
 def applied(image, writes):
@@ -102,12 +104,15 @@ class File:
 
     def __init__(self, synced, writes=()):
         self.synced, self.writes = bytearray(synced), list(writes)
+        self.marks = {bytes(self.synced[MARK : MARK + WORD])}
 
     def follow(self, event):
         """Makes a change of a trace."""
         kind, what = event
         if kind == "write":
             self.writes.append(what)
+            if what[0] == MARK:
+                self.marks.add(bytes(what[1]))
         elif kind == "size":
             self.writes.append((-what, b""))
         elif kind == "sync" and not (self.forgets and random.randrange(3) == 0):
@@ -121,7 +126,13 @@ class File:
     def loss(self, way, boots):
         """What a loss of power leaves, with another boot in the place of the running one."""
         writes = [(at, boots.get(data, data) if at in (BOOT, BOOT + WORD) else data) for at, data in self.writes]
-        return applied(renamed(bytearray(self.synced), boots), WAYS[way](writes))
+        return self.unmarked(applied(renamed(bytearray(self.synced), boots), WAYS[way](writes)))
+
+    def unmarked(self, image):
+        """An image without the mark of this file. So it is opened as this file is, and not as a copy."""
+        if len(image) >= MARK + WORD and bytes(image[MARK : MARK + WORD]) in self.marks:
+            image[MARK : MARK + WORD] = bytes(WORD)
+        return image
 
 
 def renamed(image, boots):

@@ -9,6 +9,12 @@
 //   write  an Append of the block fails. Its blocks are counted, and are zeros: with parts only from the block on
 //   flush  an Append is done, and answered by a fault
 //   lost   an Append of the block is answered, and not done
+//   protected  the drive says that it is write protected, and does nothing that would change it
+//   cache  at a Flush the volatile write cache is on again, as after a reset of the controller. The block is the number of
+//          that Flush in the program, from 0 on
+//   kept   the same, and it stays on
+//
+// That cache is on at the start of a program. It keeps nothing back: only what the drive says of it is tried.
 #define _GNU_SOURCE
 #include "../../ports/linux/tests/fake_drive.h"
 #include <fcntl.h>
@@ -26,12 +32,15 @@
 #include <sys/sysmacros.h>
 #include <unistd.h>
 
-enum { READ = 0x02, APPEND = 0x7d, IDENTIFY = 0x06, PAGE = 4096, NUMBER = 1 };
+enum { FLUSH = 0x00, READ = 0x02, APPEND = 0x7d, PAGE = 4096, NUMBER = 1 };
+enum { IDENTIFY = 0x06, SET_FEATURES = 0x09, GET_FEATURES = 0x0a, WRITE_CACHE = 0x06, VWC = 525 };
 enum { READ_ERROR = 0x281, WRITE_FAULT = 0x280 };
 
 // The file that is looked at as /dev/ng0n1, and the one that stands for the opened device.
 static int looked_at = -1, device = -1;
 static struct drive drive;
+static bool cache_is_on = true, cache_stays_on;
+static uint64_t flushes;
 
 struct fault {
     char kind[16];
@@ -107,29 +116,6 @@ static uint8_t most_pages(void) {
     return power;
 }
 
-// A page of Identify: of the controller or the namespace, each also by the Zoned Namespace Command Set.
-static int identify(uint32_t structure, uint8_t *page) {
-    const struct shape *shape = &drive.shape;
-    memset(page, 0, PAGE);
-    switch (structure) {
-    case 0:
-        put(page, (uint64_t)shape->zones * shape->size, 8);
-        page[33] = 1;
-        page[130] = shape->block == 512 ? 9 : 12;
-        return 0;
-    case 1:
-        page[77] = most_pages();
-        return 0;
-    case 5:
-        put(page + 4, shape->active - 1, 4);
-        put(page + 8, shape->most_open - 1, 4);
-        put(page + 2816, shape->size, 8);
-        return 0;
-    default:
-        return structure == 6 ? 0 : INVALID_FIELD;
-    }
-}
-
 static bool read_fault(struct fault *fault, const char *path) {
     FILE *file = fopen(path, "re");
     if (file == NULL) return false;
@@ -146,6 +132,55 @@ static bool meets(const char *kind, uint64_t first, uint64_t blocks, struct faul
     if (fault->block >= 0 && ((uint64_t)fault->block < first || (uint64_t)fault->block >= first + blocks)) return false;
     if (fault->once) unlink(path);
     return true;
+}
+
+static bool is_protected(void) {
+    struct fault fault;
+    return meets("protected", 0, 1, &fault);
+}
+
+// A page of Identify: of the controller or the namespace, each also by the Zoned Namespace Command Set.
+static int identify(uint32_t structure, uint8_t *page) {
+    const struct shape *shape = &drive.shape;
+    memset(page, 0, PAGE);
+    switch (structure) {
+    case 0:
+        put(page, (uint64_t)shape->zones * shape->size, 8);
+        page[33] = 1;
+        page[99] = is_protected();
+        page[130] = shape->block == 512 ? 9 : 12;
+        return 0;
+    case 1:
+        page[77] = most_pages();
+        page[VWC] = 1;
+        return 0;
+    case 5:
+        put(page + 4, shape->active - 1, 4);
+        put(page + 8, shape->most_open - 1, 4);
+        put(page + 2816, shape->size, 8);
+        return 0;
+    default:
+        return structure == 6 ? 0 : INVALID_FIELD;
+    }
+}
+
+// Sets or gets whether the volatile write cache is on.
+static int do_feature(struct nvme_passthru_cmd64 *passed) {
+    if ((passed->cdw10 & 0xff) != WRITE_CACHE) return INVALID_FIELD;
+    if (passed->opcode == GET_FEATURES) {
+        passed->result = cache_is_on;
+        return DONE;
+    }
+    if (is_protected()) return WRITE_PROTECTED;
+    cache_is_on = cache_stays_on || (passed->cdw11 & 1) != 0;
+    return DONE;
+}
+
+// Switches the cache on at a Flush, if it is to be on again.
+static void wake_cache(uint64_t flush) {
+    struct fault fault;
+    cache_stays_on = cache_stays_on || meets("kept", flush, 1, &fault);
+    cache_is_on = cache_is_on || cache_stays_on || meets("cache", flush, 1, &fault);
 }
 
 // Takes away what a write that fails does not bring to the drive. Its blocks stay counted.
@@ -165,12 +200,14 @@ static int submit(struct nvme_passthru_cmd64 *passed) {
     uint64_t address = passed->cdw10 | (uint64_t)passed->cdw11 << 32, blocks = (passed->cdw12 & 0xffff) + 1, result;
     const struct command command = {passed->opcode, address, passed->cdw12, passed->cdw13,
                                     (uint8_t *)(uintptr_t)passed->addr, passed->data_len};
+    if (command.opcode == FLUSH) wake_cache(flushes++);
     if (command.opcode == READ && meets("read", address, blocks, &fault)) return READ_ERROR;
     uint64_t next = next_of(address);
     if (command.opcode == APPEND && meets("lost", next, blocks, &fault)) {
         passed->result = next;
         return DONE;
     }
+    drive.write_protected = is_protected();
     enum status status = do_command(&drive, &command, &result);
     passed->result = result;
     if (status != DONE || command.opcode != APPEND) return (int)status;
@@ -188,6 +225,7 @@ int ioctl(int file, unsigned long request, ...) {
     if (file < 0 || file != device) return (int)syscall(SYS_ioctl, file, request, passed);
     if (request == NVME_IOCTL_ID) return NUMBER;
     if (request == NVME_IOCTL_IO64_CMD) return submit(passed);
+    if (passed->opcode == SET_FEATURES || passed->opcode == GET_FEATURES) return do_feature(passed);
     if (passed->opcode != IDENTIFY) return INVALID_FIELD;
     return identify(passed->cdw10 & 0xff, (uint8_t *)(uintptr_t)passed->addr);
 }

@@ -42,7 +42,7 @@ def told(words):
 class FakeGuest:
     """A drive that can fail in part, and a shell for it. `image` is the file that keeps its blocks."""
 
-    # Whether it can answer an Append and not do it.
+    # Whether it can answer an Append and not do it, be write protected, and have its cache on again.
     loses = True
 
     def __init__(self, machine, shape, scripts=()):

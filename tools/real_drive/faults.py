@@ -1,6 +1,8 @@
 """Drives that fail in part: single writes, reads and flushes, and zones that wear out. Then the disk is rescued."""
 
+import errno
 import itertools
+import os
 import random
 import re
 
@@ -9,17 +11,20 @@ from fake_guest import FakeGuest
 from looks import count, look
 from machine import files_of, read_file, script_of, write_file
 from mended import refuse_repair, repair, repair_nothing
-from places import batches_of, newest
+from places import batches_of, can_be_cleaned, newest
 from saved import DEVICE, Saved
+from sessions import FLUSH, WRITE, errors_of, request, session_of, write_errors, write_session
 from shapes import OF_FAULTS
-from traces import Line, text_of
-from worn import CLOSED, EMPTY, NAMES, OFFLINE, OPENED, READ_ONLY, ZONES, make_library
+from traces import Line, answered, text_of
+from worn import CLOSED, EMPTY, FULL, NAMES, OFFLINE, OPENED, READ_ONLY, ZONES, make_library
 from written import Written
 
 STOPPED, FAILED, AT_END = "fault disk 3 Stopped", "fault disk 10 Failed", "fault device"
 UNMOUNTED, UNREPAIRED = "fault mount 15 Failed", "fault repair 9 Failed"
 MOUNTABLE = ["the drive can be mounted", "status 0"]
 KINDS = "new", "flat"
+# What would change a drive.
+CHANGES = "format --force", "run --blocks $BLOCKS", "nbd --blocks $BLOCKS", "repair --force"
 UNWORN = "unset LD_PRELOAD WORN; rm -f /tmp/worn"
 # A run in which another program resets a zone between the one line and the end.
 RESET_BESIDE = f"""rm -f /tmp/waiting; mkfifo /tmp/waiting
@@ -30,8 +35,15 @@ until [ -s /share/replies ] || ! kill -0 $run; do sleep 0.1; done
 nvme zns reset-zone /dev/ng0n1 -s {{start}} > /dev/null
 exec 9>&-
 wait $run"""
+SERVE = f"zonedisk nbd {DEVICE} --blocks $BLOCKS < /share/sent > /share/replies 2> /share/replies.said"
+# How many writes a session has, each with a flush after it.
+PAIRS = 9
+OFF_AGAIN = "had its volatile write cache on again, as after a reset: it is off now"
+STAYS_ON = "has its volatile write cache on again, and keeps it on: it is sent nothing more"
 # In how many guests the places are tried.
 GUESTS = 4
+# How often a session asks for the same write.
+TIMES, EIO, ESHUTDOWN = 4, errno.EIO, errno.ESHUTDOWN
 
 
 def a_zone(disk, *states):
@@ -80,7 +92,8 @@ def fail_data(disk, name, once):
     saved.judge(disk)
     count("unreadable data blocks")
     if not once:
-        write_anew(disk, name, block)
+        write_beside(disk, name, block)
+        write_anew(disk, name, block, trims=disk.chance.random() < 0.5)
     disk.guest.mend()
     wanted = set() if once else {block}
     look((saved.lost, saved.older) == (wanted, set()), f"{name}: lost {saved.lost}, older {saved.older}, not {wanted}")
@@ -88,18 +101,59 @@ def fail_data(disk, name, once):
     look(saved.reply == ("ok" if once else FAILED), f"{name}: a run says {saved.reply}")
 
 
-def write_anew(disk, name, block):
-    """Writes a block whose newest data cannot be read: then all can be read again. Only if the cleaner has to make room
-    before, and reads these data, the run ends."""
-    ended = disk.run([a_fill(disk, block)])
-    if ended == (1, FAILED):
-        told = read_file(disk.guest.share, "replies.said")
-        look("the drive answered a Read " in told, f"{name}: block {block} cannot be written: {told}")
-        count("unreadable blocks that the cleaner reads before they are written anew")
+def write_beside(disk, name, lost):
+    """Writes other blocks while the newest data of one cannot be read. The cleaner takes other zones."""
+    others = [block for block in range(disk.shape.blocks) if block != lost]
+    lines = [a_fill(disk, disk.chance.choice(others)) for _ in range(40)]
+    ended, told = write_lines(disk, name, lines, lost)
+    if ended == (0, "ok") and "the drive answered a Read " in told:
+        count("runs that went on after a clean was undone")
+
+
+def write_anew(disk, name, block, trims):
+    """Writes or trims a block whose newest data cannot be read: then all can be read again."""
+    line = Line(f"trim {block} 1", block, [f"00*{disk.shape.block}"]) if trims else a_fill(disk, block)
+    ended, _ = write_lines(disk, name, [line], block)
+    if ended != (0, "ok"):
         return
-    look(ended == (0, "ok"), f"{name}: block {block} cannot be written: {ended}")
-    look(disk.is_there(disk.read_all()), f"{name}: not all blocks are there after block {block} was written")
-    count("unreadable blocks written anew")
+    look(disk.is_there(disk.read_all()), f"{name}: not all blocks are there after `{line.text}`")
+    count("unreadable blocks trimmed" if trims else "unreadable blocks written anew")
+
+
+def write_lines(disk, name, lines, lost):
+    """Runs lines that write while a block cannot be read: how the run ended, and what was told. If the turns of one
+    clean were not enough, it ends. A session goes on then."""
+    address = newest(batches_of(disk.shape, disk.guest.image)).get(lost)
+    ended = disk.run(lines)
+    told = read_file(disk.guest.share, "replies.said")
+    if ended != (1, FAILED):
+        look(ended == (0, "ok"), f"{name}: {len(lines)} lines ended by {ended}: {told}")
+        return ended, told
+    look("the drive answered a Read " in told, f"{name}: a line ended by {ended}: {told}")
+    count("runs that ended in a clean whose data cannot be read")
+    line = lines[answered(read_file(disk.guest.share, "replies"))]
+    return go_on(disk, name, line, address), told
+
+
+def go_on(disk, name, line, address):
+    """Asks in one session again for what ended a run. It is done then, unless no other zone can be cleaned."""
+    size, zone = disk.shape.block, address // disk.shape.size
+    with open(os.path.join(disk.guest.share, "session"), "wb") as file:
+        file.write(write_session(line.first, bytes.fromhex(line.blocks[0][:2]) * size, TIMES))
+    disk.guest.ask(f"zonedisk nbd {DEVICE} --blocks $BLOCKS < /share/session > /share/answers")
+    with open(os.path.join(disk.guest.share, "answers"), "rb") as file:
+        errors = write_errors(file.read(), TIMES)
+    if errors[-1] == 0:
+        disk.write(line, is_done=True)
+        count(f"writes that a session did at the try {errors.index(0) + 1}")
+        return 0, "ok"
+    batches = batches_of(disk.shape, disk.guest.image)
+    others = set(range(disk.shape.zones)) - {zone}
+    others = [other for other in sorted(others) if can_be_cleaned(disk.shape, batches, other)]
+    look(errors == [EIO] * TIMES, f"{name}: the writes of a session ended by {errors}")
+    look(len(others) <= 1, f"{name}: no write is done, and the zones {others} can be cleaned or are empty")
+    count("drives of which no other zone can be cleaned")
+    return 1, FAILED
 
 
 def fail_header(disk, name):
@@ -196,15 +250,116 @@ def reset_zone(disk, name):
 
 
 def lose_append(disk, name):
-    """An Append is answered and not done. The run has to name its zone, at the next Append to it or at the end."""
+    """An Append is answered and not done. The run has to name its zone, at the next Append to it or at the end. Only if
+    the zone was finished since, nothing shows it any more."""
     disk.begin()
+    parts = disk.zones_that_are(OPENED, CLOSED)
     disk.guest.fail("lost")
     ended = disk.run([a_fill(disk), *disk.lines(disk.chance.choice([0, 0, 3]))])
     disk.guest.mend()
     said = read_file(disk.guest.share, "replies.said")
     count(f"lost writes that ended a run by {ended[1]}")
+    if ended == (0, "ok"):
+        full = {start for start, _ in disk.zones_that_are(FULL)}
+        look(any(start in full for start, _ in parts), f"{name}: no zone was finished, and the run ended by {ended}")
+        return
     look(ended in ((1, STOPPED), (1, AT_END)), f"{name}: the run ended by {ended}")
     look(re.search(r"zone \d+ .*as it should", said), f"{name}: it is told {said}")
+
+
+def protect(disk, name):
+    """The drive is write protected: what would change it is refused at the start, and what only reads goes on."""
+    disk.begin()
+    disk.guest.fail("protected", once=False)
+    write_file(disk.guest.share, "lines", text_of([a_fill(disk)]))
+    for words in CHANGES:
+        status, said = disk.guest.ask(f"zonedisk {words} {DEVICE} < /share/lines")
+        look(status == 1 and "the namespace is write protected" in said, f"{name}: {words} says {status} {said}")
+        count("changes of a write-protected drive refused")
+    saved = Saved(disk.guest, name, disk.chance.choice(KINDS))
+    saved.judge(disk)
+    look(not saved.lost and not saved.older, f"{name}: listed {len(saved.lost)} and {len(saved.older)}")
+    look(saved.reply == AT_END, f"{name}: a run says {saved.reply}")
+    look(saved.check[-2:] == MOUNTABLE, f"{name}: check says {saved.check}")
+    look_at_export(disk, name)
+    disk.guest.mend()
+    look_at_all(disk, name)
+
+
+def serve(disk, number):
+    """Serves the disk to a client that fills so many blocks, with a flush after each: the status, and the error of each
+    reply."""
+    size, requests = disk.shape.block, []
+    fills = [a_fill(disk, disk.chance.randrange(disk.shape.blocks)) for _ in range(number)]
+    for fill in fills:
+        requests += [request(WRITE, 0, fill.first * size, b"\xa5" * size), request(FLUSH, 0)]
+    write_file(disk.guest.share, "sent", session_of(requests).decode("latin-1"))
+    status, _ = disk.guest.ask(SERVE)
+    errors = errors_of(read_file(disk.guest.share, "replies").encode("latin-1"))
+    for fill, error in zip(fills, errors[::2]):
+        disk.write(fill, is_done=error == 0)
+    return status, errors
+
+
+def wake_cache(disk, name):
+    """The volatile write cache is on again at one Flush or at each, as after a reset of the controller. It is switched
+    off, which is told once, and the run or the session goes on."""
+    for serves in False, True:
+        disk.begin()
+        disk.guest.fail("cache", once=disk.chance.random() < 0.5)
+        ended = serve(disk, PAIRS) if serves else disk.run(disk.lines(30))
+        disk.guest.mend()
+        said = read_file(disk.guest.share, "replies.said")
+        count("caches that were on again, and were switched off")
+        look(ended == ((0, [0] * 2 * PAIRS) if serves else (0, "ok")), f"{name}: it ended by {ended}")
+        look(said.count(OFF_AGAIN) == 1, f"{name}: it is told {said}")
+        look_at_all(disk, name)
+
+
+def is_cut(ended, flush):
+    """Whether a session ended at a Flush with this number: from there on each request is refused. Before a Reset there
+    is a Flush, too, and one before the client is greeted. If that fails, nothing is answered."""
+    status, errors = ended
+    done = errors.count(0)
+    return status == 1 and (not errors or done < 2 * flush and errors == [0] * done + [ESHUTDOWN] * (2 * PAIRS - done))
+
+
+def keep_cache(disk, name):
+    """The same at one Flush, and the cache stays on. The run or the session ends by name, and what was answered is
+    there."""
+    for serves in False, True:
+        disk.begin()
+        flush = disk.chance.randrange(PAIRS) if serves else None
+        disk.guest.fail("kept", flush)
+        ended = serve(disk, PAIRS) if serves else disk.run(disk.lines(30))
+        disk.guest.mend()
+        said = read_file(disk.guest.share, "replies.said")
+        count("caches that were on again, and stayed on")
+        if serves:
+            look(is_cut(ended, flush), f"{name}: at Flush {flush} the session ended by {ended}")
+        else:
+            look(ended in ((1, STOPPED), (1, AT_END)), f"{name}: the run ended by {ended}")
+        look(said.count(STAYS_ON) == 1, f"{name}: it is told {said}")
+        look_at_all(disk, name)
+
+
+def look_at_export(disk, name):
+    """A write-protected drive is exported, unless a mount has to change it: then the drive refuses that."""
+    status, said = disk.guest.ask(f"zonedisk export {DEVICE} > /share/array")
+    if is_changed_by_mount(disk):
+        look(status == 1 and "Namespace is Write Protected" in said, f"{name}: an export says {status} {said}")
+        count("write-protected drives that a mount would change")
+        return
+    look(status == 0 and disk.is_there(disk.read_all()), f"{name}: an export says {status} {said}")
+    count("exports of a write-protected drive")
+
+
+def is_changed_by_mount(disk):
+    """Whether a mount resets a zone, moves batches, or finishes a zone that has one block left."""
+    _, mount = disk.guest.ask(f"zonedisk info {DEVICE} | grep '^mount '")
+    last = disk.shape.capacity - 1
+    parts = disk.zones_that_are(OPENED, CLOSED)
+    return mount != "mount resets 0\nmount moves 0\n" or any(at - start == last for start, at in parts)
 
 
 def fail_answer(disk, name):
@@ -254,7 +409,8 @@ def try_zones(disk):
     """Zones that wear out, and Flushes that fail."""
     for state, kind in itertools.product(NAMES, ZONES):
         wear(disk, f"{disk.shape}: a zone that is {kind} and {NAMES[state]}", kind, state)
-    kinds = [fail_flush, fail_answer, tear_write, write_foreign, reset_zone] + [lose_append] * disk.guest.loses
+    kinds = [fail_flush, fail_answer, tear_write, write_foreign, reset_zone]
+    kinds += [lose_append, protect, wake_cache, keep_cache] * disk.guest.loses
     for fault in kinds * 3:
         fault(disk, f"{disk.shape}: {fault.__name__}")
 

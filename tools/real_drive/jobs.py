@@ -46,7 +46,8 @@ JOBS = [
     (f"zonedisk check {DEVICE}", "the drive can be mounted", 0),
     (f"zonedisk info {DEVICE} | grep '^live blocks'", "live blocks 3", 0),
     (f"zonedisk report {DEVICE} --state empty | head -1", "zones 63", 0),
-    (f"seq 1 20000 | head -c 81920 > /tmp/text; zonedisk import {DEVICE} --first 100 < /tmp/text", "", 0),
+    (f"seq 1 20000 | head -c 81920 > /tmp/text; zonedisk import {DEVICE} --first 100 < /tmp/text",
+     "zonedisk: /dev/ng0n1: 20 blocks were written", 0),
     (f"zonedisk export {DEVICE} --first 100 --count 20 | cmp - /tmp/text", "", 0),
     # Only one program has it, and it cannot be mounted meanwhile.
     (f"mkfifo /tmp/lines; zonedisk run {DEVICE} --blocks 3000 < /tmp/lines & exec 3> /tmp/lines; sleep 5", "", 0),

@@ -48,6 +48,22 @@ def newest(batches):
     return places
 
 
+def records(batches):
+    """Of each logical block the address of its newest record: that of its data, or of the header that trims it."""
+    places = {}
+    for batch in sorted(batches, key=lambda batch: batch.sequence):
+        places.update(batch.data)
+        places.update(dict.fromkeys(batch.trims, batch.header))
+    return places
+
+
+def can_be_cleaned(shape, batches, zone):
+    """Whether the live records of a zone fit into an empty one, with two of its blocks left. Each Move has a header."""
+    live = sum(address // shape.size == zone for address in records(batches).values())
+    most = min(shape.transfer - 1, (shape.block - 32) // 8)
+    return max(1, live + -(-live // most)) + 2 <= shape.capacity
+
+
 def end_of_newest(batches):
     """The address after the newest batch: the next one is written there, if the zone has room."""
     last = max(batches, key=lambda batch: batch.sequence)

@@ -76,8 +76,9 @@ class Saved:
         return self.check[-1] == "status 1" and self.check[0].startswith(f"refused: {why}")
 
     def has_failed(self):
-        """Whether `check` says that the drive failed at a command, and at which."""
-        return self.check[-1] == "status 1" and "answered a Read" in self.check[0] and "the drive failed" in self.check[-2]
+        """Whether `check` says at which command the drive failed, and which zone cannot be read."""
+        named = any(line.endswith("cannot be read: the drive failed at a command") for line in self.check)
+        return self.check[-1] == "status 1" and "answered a Read" in self.check[0] and named
 
     def judge(self, disk):
         """Looks at each block: what is not listed has to be what it may be. A lost one is zeros, and one that is

@@ -98,8 +98,13 @@ static enum status read_blocks(const struct drive *drive, const struct command *
     if (blocks > shape->transfer) return INVALID_FIELD;
     if (command->address >= end_of(drive) || blocks > end_of(drive) - command->address) return OUT_OF_RANGE;
     if (command->address % shape->size + blocks > shape->size) return BOUNDARY_ERROR;
-    if (drive->zones[command->address / shape->size].state == OFFLINE) return ZONE_OFFLINE;
-    memcpy(command->data, block_at(drive, command->address), command->length);
+    const struct zone *zone = &drive->zones[command->address / shape->size];
+    if (zone->state == OFFLINE) return ZONE_OFFLINE;
+    uint32_t first = (uint32_t)(command->address % shape->size);
+    uint32_t held = zone->written <= first ? 0 : zone->written - first < blocks ? zone->written - first : blocks;
+    size_t length = (size_t)held * shape->block;
+    memcpy(command->data, block_at(drive, command->address), length);
+    memset(command->data + length, 0, command->length - length);
     return DONE;
 }
 
@@ -204,8 +209,14 @@ static enum status report(const struct drive *drive, const struct command *comma
     return DONE;
 }
 
+// Whether a command would change a drive. A Flush changes nothing.
+static bool changes(const struct command *command) {
+    return command->opcode != 0x00 && command->opcode != 0x02 && command->opcode != 0x7a;
+}
+
 enum status do_command(struct drive *drive, const struct command *command, uint64_t *result) {
     *result = 0;
+    if (drive->write_protected && changes(command)) return WRITE_PROTECTED;
     switch (command->opcode) {
     case 0x00:
         return DONE;

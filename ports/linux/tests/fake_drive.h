@@ -17,6 +17,7 @@ enum status {
     DONE = 0,
     INVALID_OPCODE = 0x001,
     INVALID_FIELD = 0x002,
+    WRITE_PROTECTED = 0x020,
     OUT_OF_RANGE = 0x080,
     BOUNDARY_ERROR = 0x1b8,
     ZONE_FULL = 0x1b9,
@@ -37,6 +38,7 @@ struct drive {
     struct shape shape;
     struct zone *zones;
     uint8_t *bytes;
+    bool write_protected; // it does no command that would change it
 };
 
 struct command {

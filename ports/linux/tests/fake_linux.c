@@ -125,14 +125,21 @@ static int pass_command(struct nvme_passthru_cmd64 *passed) {
     return status == DONE ? 0 : (int)status | DO_NOT_RETRY;
 }
 
+// Fills a page of Identify with a pattern. Only NSATTR says something.
+static void fill_page(uint8_t *bytes, size_t length, bool is_namespace) {
+    memset(bytes, 0x5a, length);
+    if (is_namespace && length > NSATTR) bytes[NSATTR] = world.drive.write_protected;
+}
+
 static int pass_admin(struct nvme_passthru_cmd64 *passed) {
+    bool is_namespace = passed->nsid == NAMESPACE && passed->cdw10 == 0;
     if (world.command_error != 0) return answer(world.command_error, 0);
     world.admin.opcode = passed->opcode;
     world.admin.namespace_number = passed->nsid;
     world.admin.dword10 = passed->cdw10;
     world.admin.dword11 = passed->cdw11;
     world.admin.length = passed->data_len;
-    if (passed->data_len != 0) memset((void *)(uintptr_t)passed->addr, 0x5a, passed->data_len);
+    if (passed->data_len != 0) fill_page((uint8_t *)(uintptr_t)passed->addr, passed->data_len, is_namespace);
     passed->result = 0x100000003;
     return passed->cdw10 == 0xff ? INVALID_FIELD | DO_NOT_RETRY : 0;
 }

@@ -7,6 +7,9 @@
 // The number of the one namespace. The entries of a program always name 1.
 #define NAMESPACE 7
 
+// The byte of Identify Namespace that says whether the namespace is write protected.
+#define NSATTR 99
+
 // An error is the number of one, or 0 where the call succeeds.
 struct world {
     struct drive drive;

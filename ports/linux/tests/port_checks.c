@@ -290,6 +290,26 @@ static void try_counts(uint64_t session) {
     }
 }
 
+// A drive that is write protected says so by Identify Namespace. It can be read, and does not do what would change it.
+static void try_write_protected(void) {
+    uint64_t session = new_session(), moment, value;
+    uint8_t entry[64];
+    uint32_t result;
+    expect(zonedisk_admin(session, 0x06, 1, 0, 0, page, sizeof page, &result) == DONE && (page[NSATTR] & 1) == 0,
+           "a drive that is not write protected");
+    world.drive.write_protected = true;
+    expect(zonedisk_admin(session, 0x06, 1, 0, 0, page, sizeof page, &result) == DONE && (page[NSATTR] & 1) == 1,
+           "a drive that is write protected");
+    expect(begin(session, &shape, &moment) == BEGUN, "the beginning of one that is write protected");
+    put_entry(entry, 0x02, 0, 0, 0);
+    expect(zonedisk_submit(session, &moment, entry, NULL, 0, 0, room, BLOCK, &value) == DONE, "a Read of it");
+    put_entry(entry, 0x7d, 0, 0, 0);
+    expect(zonedisk_submit(session, &moment, entry, room, BLOCK, 0, NULL, 0, &value) == WRITE_PROTECTED, "an Append to it");
+    put_entry(entry, 0x79, 0, 0, 4);
+    expect(zonedisk_submit(session, &moment, entry, NULL, 0, 0, NULL, 0, &value) == WRITE_PROTECTED, "a Reset on it");
+    end_world();
+}
+
 static void try_large(void) {
     const struct shape large = {4096, 4, 512, 500, 256, 3, 2};
     struct shape smaller = large;
@@ -410,6 +430,7 @@ int main(void) {
     try_fields(session);
     try_counts(session);
     end_world();
+    try_write_protected();
     try_large();
     try_many_zones();
     try_no_report();

@@ -17,6 +17,7 @@ int __real_fdatasync(int file);
 int __real_fsync(int file);
 int __real_flock(int file, int operation);
 int __real_fstat(int file, struct stat *seen);
+int __real_statx(int folder, const char *path, int how, unsigned wanted, struct statx *told);
 int __real_ftruncate(int file, off_t length);
 int __real_fallocate(int file, int mode, off_t at, off_t length);
 int __real_posix_fadvise(int file, off_t at, off_t length, int advice);
@@ -77,6 +78,13 @@ int __wrap_flock(int file, int operation) {
 
 int __wrap_fstat(int file, struct stat *seen) {
     return fails(calls.look_error) ? -1 : __real_fstat(file, seen);
+}
+
+int __wrap_statx(int folder, const char *path, int how, unsigned wanted, struct statx *told) {
+    if (calls.has_no_statx) return fails(ENOSYS) ? -1 : 0;
+    int given = __real_statx(folder, path, how, wanted, told);
+    if (calls.has_no_birth) told->stx_mask &= ~STATX_BTIME;
+    return given;
 }
 
 int __wrap_ftruncate(int file, off_t length) {

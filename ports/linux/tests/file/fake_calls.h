@@ -14,6 +14,8 @@ struct calls {
         hole_error;
     void (*at_open)(void); // what other programs do before a file is opened that was looked at
     bool has_no_proc;      // such a file cannot be opened by /proc
+    bool has_no_birth;     // the system does not tell when a file was made
+    bool has_no_statx;     // it has no such call at all
     const char *boot_path; // what is read for the identifier of the boot, or NULL for the system's
     unsigned reads, writes, data_syncs, file_syncs, folder_syncs, advices, holes; // how many were made
     unsigned boot_reads; // how often that was opened

@@ -4,6 +4,7 @@
 #include "counts.h"
 #include "holder.h"
 #include "named.h"
+#include "number.h"
 #include "tell.h"
 #include <errno.h>
 #include <fcntl.h>
@@ -437,6 +438,10 @@ void zonedisk_file_release(uint64_t session, uint64_t *moment, uint64_t at, uint
     while (fallocate(used->file, FALLOC_FL_PUNCH_HOLE | FALLOC_FL_KEEP_SIZE, (off_t)at, (off_t)length) != 0) {
         if (errno != EINTR) return;
     }
+}
+
+uint32_t zonedisk_file_number(uint64_t session) {
+    return number_of_file(session_of(session)->file);
 }
 
 // Removes a file that its own session could not write, or not bring to the disk: nobody can use it.

@@ -62,5 +62,8 @@ uint32_t zonedisk_file_sync(uint64_t session, uint64_t *moment);
 // cannot do that. It is not said which: what fails here costs room alone.
 void zonedisk_file_release(uint64_t session, uint64_t *moment, uint64_t at, uint64_t length);
 
+// The number of the file of a session, by which it is told from its copies (`number.h`).
+uint32_t zonedisk_file_number(uint64_t session);
+
 // Closes the file of a session, at any moment. Its lock is given back. It is told if no name leads to the file.
 void zonedisk_file_close(uint64_t session);

@@ -18,6 +18,10 @@ void zonedisk_tell_unknown_boot(void) {
     fputs("zonedisk: the boot of the system is not known: if the program is killed, what was not flushed is lost\n", stderr);
 }
 
+void zonedisk_tell_copied(void) {
+    fputs("zonedisk: the file is a copy of a drive that was in use: its blocks may be of different moments\n", stderr);
+}
+
 void zonedisk_tell_beside(void) {
     fputs("zonedisk: another program has the drive: it is shown as of one moment, its open zones as Closed\n", stderr);
 }

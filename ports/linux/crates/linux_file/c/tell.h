@@ -10,6 +10,9 @@ void zonedisk_tell_set_back(void);
 // Tells, once in a process, that the boot of the system is not known.
 void zonedisk_tell_unknown_boot(void);
 
+// Tells that a file that is read all the same is a copy of a drive that was in use.
+void zonedisk_tell_copied(void);
+
 // Tells that a drive is shown beside the program that has its file.
 void zonedisk_tell_beside(void);
 
