@@ -4,7 +4,8 @@ use Rattle.std.specs.List.{AllByRecursion}
 use Rattle.zone_states.specs.declared.geometry.Geometry.{Geometry}
 use Rattle.drive_port.specs.Drive.{DriveState}
 use Rattle.drive_images.specs.Image.{IsImage}
-use Rattle.drive_journal.specs.Change.{Change, IsChange, IsEntry, Sum, data_length, head_bytes, journal_bytes, last_sum, start, sum_bytes, sum_over}
+use Rattle.drive_journal.specs.Change.{Change, IsChange, IsEntry, Sum, data_length, head_bytes, journal_bytes, last_sum}
+use Rattle.drive_journal.specs.Change.{start, sum_bytes, sum_over}
 
 -- A change of its whole length, with a wrong sum at its end.
 pub record IsMissealed (geometry : Geometry) (sum : Sum) (bytes : List ℕ) : Type 0 where

@@ -13,7 +13,8 @@ use Rattle.drive_journal.specs.Tail.{IsTailFault}
 use Rattle.drive_journal.specs.declared.fault.ReadFault.{ReadFault}
 use Rattle.drive_journal.specs.declared.fault.ReadFault.TheVariants.{Damaged, Earlier, Image, Long, Zones}
 
--- Some changes are whole, no whole one follows, and what follows has this fault. The changes begin at this place of the file.
+-- Some changes are whole, no whole one follows, and what follows has this fault. The changes begin at this place of the
+-- file.
 pub record FailsBehindChanges (geometry : Geometry) (from : ℕ) (bytes : List ℕ) (fault : ReadFault) : Type 0 where
   pub changes : List Change
   pub rest : List ℕ

@@ -6,7 +6,8 @@ use Rattle.drive_journal.specs.Change.{Sum}
 use Rattle.drive_journal.specs.File.{IsStored}
 use Rattle.drive_journal.specs.Journaling.{IsInStep, Journaled, MayRenew, Writes}
 
--- a device that had not stopped was submitted an entry, and answered; its store held these bytes when the change was written, and the change goes on from this sum
+-- a device that had not stopped was submitted an entry, and answered; its store held these bytes when the change was
+-- written, and the change goes on from this sum
 pub record Submits (old : Journaled) (held : Option (List ℕ)) (new : Journaled) : Type 0 where
   pub entry : List ℕ
   pub bytes : List ℕ
@@ -23,7 +24,8 @@ pub record Submits (old : Journaled) (held : Option (List ℕ)) (new : Journaled
 -- a device came from one moment to another by submits, one after the other
 pub data RunsTo (first : Journaled) : Journaled → Type 0 where
   here : RunsTo first first
-  later : (moment last : Journaled) (held : Option (List ℕ)) → RunsTo first moment → Submits moment held last → RunsTo first last
+  later : (moment last : Journaled) (held : Option (List ℕ)) → RunsTo first moment → Submits moment held last
+      → RunsTo first last
 
 -- The same, with how many bytes the store held at the first moment, or when they were last written anew.
 pub data RunsSince (first : Journaled) : ℕ → Journaled → Type 0 where

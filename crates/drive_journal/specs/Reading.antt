@@ -5,7 +5,9 @@ use Rattle.std.specs.Io.KnownBytes.{Consumes}
 use Rattle.zone_states.specs.declared.geometry.Geometry.{Geometry}
 use Rattle.zone_states.specs.Stored.{StoredZone}
 use Rattle.zone_states.specs.Zone.{Zone}
-use Rattle.drive_journal.specs.Change.{Change, HasNoChange, IsChange, IsEntry, Sum, change_bytes, earlier_mark, journal_bytes, last_sum, mark, next_sum, sealed_entry, start, sum_bytes, sum_over}
+use Rattle.drive_journal.specs.Change.{Change, HasNoChange, IsChange, IsEntry, Sum, change_bytes, earlier_mark}
+use Rattle.drive_journal.specs.Change.{journal_bytes, last_sum, mark, next_sum, sealed_entry, start, sum_bytes}
+use Rattle.drive_journal.specs.Change.{sum_over}
 use Rattle.drive_journal.specs.Replay.{replayed, stored_replayed}
 use Rattle.drive_journal.specs.Tail.{IsCutOff, begins_as_mark}
 use Rattle.drive_journal.specs.declared.found.Found.{Found}
@@ -13,7 +15,8 @@ use Rattle.drive_journal.specs.declared.found.Found.TheVariants as found
 use Rattle.drive_journal.specs.declared.replayed.Replayed.{Replayed}
 
 -- Changes were read, and done again on the zones. What is left is a change that was cut off, or nothing.
-pub record Replays (geometry : Geometry) (old : Option (List ℕ)) (from : ℕ) (before : List Zone) (end : Replayed) (after : List Zone) : Type 0 where
+pub record Replays (geometry : Geometry) (old : Option (List ℕ)) (from : ℕ) (before : List Zone) (end : Replayed)
+    (after : List Zone) : Type 0 where
   pub changes : List Change
   pub left : Option (List ℕ)
   pub each : AllByRecursion (IsChange geometry) changes
@@ -27,13 +30,15 @@ pub record Replays (geometry : Geometry) (old : Option (List ℕ)) (from : ℕ) 
 -- ---- one change
 
 -- a change was read, which goes on from one sum to the next
-pub record ReadsChange (geometry : Geometry) (sum : Sum) (old new : Option (List ℕ)) (change : Change) (next : Sum) : Type 0 where
+pub record ReadsChange (geometry : Geometry) (sum : Sum) (old new : Option (List ℕ)) (change : Change)
+    (next : Sum) : Type 0 where
   pub is : IsChange geometry change
   pub text : Consumes old new (change_bytes sum change)
   pub next_is : next ≡ next_sum sum change
 
 -- what follows its mark was read
-pub record ReadsBody (geometry : Geometry) (sum : Sum) (old new : Option (List ℕ)) (change : Change) (next : Sum) : Type 0 where
+pub record ReadsBody (geometry : Geometry) (sum : Sum) (old new : Option (List ℕ)) (change : Change)
+    (next : Sum) : Type 0 where
   pub is : IsChange geometry change
   pub text : Consumes old new (sealed_entry sum change.entry ++ (change.bytes ++ sum_bytes (next_sum sum change)))
   pub next_is : next ≡ next_sum sum change
@@ -48,7 +53,8 @@ pub record IsDamaged (geometry : Geometry) (sum : Sum) (bytes : List ℕ) : Type
 abbrev pub FindsChange : Geometry → Sum → Option (List ℕ) → Option (List ℕ) → Change → Found → Type 0
 FindsChange geometry sum old new change (found.Change next) = ReadsChange geometry sum old new change next
 FindsChange geometry sum old new change found.End = IfSome old (λ bytes. bytes ≡ [])
-FindsChange geometry sum old new change found.CutOff = IfSome old (λ bytes. IsCutOff geometry sum bytes × (bytes ≡ [] → ⊥))
+FindsChange geometry sum old new change found.CutOff =
+    IfSome old (λ bytes. IsCutOff geometry sum bytes × (bytes ≡ [] → ⊥))
 FindsChange geometry sum old new change found.Damaged = IfSome old (IsDamaged geometry sum)
 FindsChange geometry sum old new change found.Earlier = IfSome old (λ bytes. take 8 bytes ≡ earlier_mark)
 FindsChange geometry sum old new change found.Other =
@@ -81,7 +87,8 @@ IsOther front found = ⊥
 -- ---- all changes
 
 -- changes were read and done on the zones as they are stored, and more may follow
-pub record SoFar (geometry : Geometry) (old new : Option (List ℕ)) (before after : List StoredZone) (from at : ℕ) (sum : Sum) : Type 0 where
+pub record SoFar (geometry : Geometry) (old new : Option (List ℕ)) (before after : List StoredZone) (from at : ℕ)
+    (sum : Sum) : Type 0 where
   pub changes : List Change
   pub each : AllByRecursion (IsChange geometry) changes
   pub text : Consumes old new (journal_bytes start changes)

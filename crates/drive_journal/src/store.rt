@@ -1,4 +1,5 @@
-ghost use Rattle.std.specs.Prelude.{◌≡◌, Bool, List, IfOk, IfSome, IsTrue, OnErr, OnOk, Option, Some, None, false, is_some, true, ℕ};
+ghost use Rattle.std.specs.Prelude.{◌≡◌, Bool, List, IfOk, IfSome, IsTrue, OnErr, OnOk, Option, Some, None, false};
+ghost use Rattle.std.specs.Prelude.{is_some, true, ℕ};
 ghost use Rattle.drive_journal.specs.Cut.{front_of};
 ghost use Rattle.std.specs.Io.KnownBytes.{Appends};
 ghost use Rattle.disk_files.specs.Output.{AppendsFront};

@@ -25,7 +25,8 @@ GivesFront geometry old address count front new =
     ((count ≡ 0) × (front ≡ []) × (new ≡ old)) ⊎ Effect geometry old (Ok (Read address count)) [] Success 0 front new
 
 -- they were read into the front of a room
-pub record ReadsFront (geometry : Geometry) (old : List Zone) (address count : ℕ) (before after : List ℕ) (new : List Zone) : Type 0 where
+pub record ReadsFront (geometry : Geometry) (old : List Zone) (address count : ℕ) (before after : List ℕ)
+    (new : List Zone) : Type 0 where
   pub front : List ℕ
   pub joined : after ≡ front ++ drop (count * geometry.block) before
   pub gives : GivesFront geometry old address count front new

@@ -1,6 +1,7 @@
 // Flushes, and the look at what they made durable.
 
-ghost use Rattle.std.specs.Prelude.{◌≡◌, ◌≢◌, ◌+◌, ◌*◌, ◌^◌, ◌<◌, ◌≤◌, ◌==◌, if◌then◌else◌, [], Err, IfErr, IfOk, Ok, OnOk, length, true, false};
+ghost use Rattle.std.specs.Prelude.{◌≡◌, ◌≢◌, ◌+◌, ◌*◌, ◌^◌, ◌<◌, ◌≤◌, ◌==◌, if◌then◌else◌, [], Err, IfErr, IfOk, Ok};
+ghost use Rattle.std.specs.Prelude.{OnOk, length, true, false};
 ghost use Rattle.nvme_wire.specs.declared.status.Status.TheVariants.{Success};
 ghost use Rattle.drive_port.specs.Drive.{IsClosing};
 ghost use Rattle.drive_port.specs.Step.{Effect};
@@ -20,7 +21,8 @@ use std::alloc::Global;
 /// Sends a Flush.
 fn send_flush<P: Passthrough>(way: &mut P, geometry: Geometry) -> bool
     requires leads { Leads geometry (P.shape way.old) (P.zones way.old) }
-    ensures done { result ≡ true → Effect geometry (P.zones way.old) (Ok Command.Flush) [] Success 0 [] (P.zones way.new) }
+    ensures done { result ≡ true
+        → Effect geometry (P.zones way.old) (Ok Command.Flush) [] Success 0 [] (P.zones way.new) }
     ensures closes { IsClosing (P.zones way.old) (P.zones way.new) }
     ensures leads { Leads geometry (P.shape way.new) (P.zones way.new) }
     ensures flushed { result ≡ true → P.flushed way.new ≡ true }
@@ -99,7 +101,8 @@ fn look_at_stretch<P: Passthrough>(
     requires there { first + count ≤ geometry.zones }
     requires room { 64 + 64 * count ≤ length room.old }
     requires few { 64 + 64 * count ≤ geometry.transfer * geometry.block }
-    ensures seen { OnOk result (DueWereSeen first count geometry (P.zones way.old) seen.old seen.new (P.zones way.new)) }
+    ensures seen { OnOk result
+        (DueWereSeen first count geometry (P.zones way.old) seen.old seen.new (P.zones way.new)) }
     ensures ready { result ≢ Err Halt.Stopped → IsReady geometry (P.shape way.new) (P.zones way.new) seen.new }
     ensures closes { IsClosing (P.zones way.old) (P.zones way.new) }
     ensures leads { Leads geometry (P.shape way.new) (P.zones way.new) }
@@ -126,7 +129,8 @@ fn look_at_due<P: Passthrough>(
     requires some { 1 ≤ most }
     requires few { 64 + 64 * most ≤ geometry.transfer * geometry.block }
     requires room { length room.old ≡ 64 + 64 * most }
-    ensures seen { OnOk result (DueWereSeen 0 geometry.zones geometry (P.zones way.old) seen.old seen.new (P.zones way.new)) }
+    ensures seen { OnOk result
+        (DueWereSeen 0 geometry.zones geometry (P.zones way.old) seen.old seen.new (P.zones way.new)) }
     ensures ready { result ≢ Err Halt.Stopped → IsReady geometry (P.shape way.new) (P.zones way.new) seen.new }
     ensures closes { IsClosing (P.zones way.old) (P.zones way.new) }
     ensures leads { Leads geometry (P.shape way.new) (P.zones way.new) }
@@ -168,8 +172,8 @@ pub(crate) fn flush<P: Passthrough>(
 ) -> Result<u64, Halt>
     requires ready { IsReady geometry (P.shape way.old) (P.zones way.old) seen.old }
     requires known { unflushed.old ≡ false → P.flushed way.old ≡ true }
-    ensures ok { IfOk result (λ value. (value ≡ 0) × Effect geometry (P.zones way.old) (Ok Command.Flush) [] Success 0 []
-        (P.zones way.new)) }
+    ensures ok { IfOk result (λ value. (value ≡ 0)
+        × Effect geometry (P.zones way.old) (Ok Command.Flush) [] Success 0 [] (P.zones way.new)) }
     ensures looked { OnOk result (FlushLooked geometry (P.zones way.old) seen.old seen.new (P.zones way.new)) }
     ensures flushed { OnOk result (P.flushed way.new ≡ true) }
     ensures known { unflushed.new ≡ false → P.flushed way.new ≡ true }

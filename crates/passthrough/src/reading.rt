@@ -1,6 +1,7 @@
 // Reads. The drive is asked only for blocks that are written: all others are zeros.
 
-ghost use Rattle.std.specs.Prelude.{◌≡◌, ◌≢◌, ◌+◌, ◌*◌, ◌%◌, ◌<◌, ◌≤◌, [], Err, IfErr, IfOk, IfSome, List, Ok, OnErr, length, replicate, true};
+ghost use Rattle.std.specs.Prelude.{◌≡◌, ◌≢◌, ◌+◌, ◌*◌, ◌%◌, ◌<◌, ◌≤◌, [], Err, IfErr, IfOk, IfSome, List, Ok, OnErr};
+ghost use Rattle.std.specs.Prelude.{length, replicate, true};
 ghost use Rattle.zone_states.specs.Geometry.{IsInRange};
 ghost use Rattle.zone_states.specs.Zone.{Zone};
 ghost use Rattle.drive_port.specs.Drive.{IsClosing};
@@ -57,9 +58,11 @@ fn read_front<P: Passthrough>(
     room: &mut [u8],
 ) -> bool
     requires leads { Leads geometry (P.shape way.old) (P.zones way.old) }
-    requires sent { 1 ≤ asked.0 → IsSentRead geometry (P.zones way.old) slba asked.0 asked.1 (asked.0 * geometry.block) }
+    requires sent { 1 ≤ asked.0
+        → IsSentRead geometry (P.zones way.old) slba asked.0 asked.1 (asked.0 * geometry.block) }
     requires fits { asked.0 * geometry.block ≤ length room.old }
-    ensures done { result ≡ true → ReadsFront geometry (P.zones way.old) slba asked.0 room.old room.new (P.zones way.new) }
+    ensures done { result ≡ true
+        → ReadsFront geometry (P.zones way.old) slba asked.0 room.old room.new (P.zones way.new) }
     ensures closes { IsClosing (P.zones way.old) (P.zones way.new) }
     ensures leads { Leads geometry (P.shape way.new) (P.zones way.new) }
     ensures flushed { P.flushed way.old ≡ true → P.flushed way.new ≡ true }

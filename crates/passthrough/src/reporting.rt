@@ -1,6 +1,7 @@
 // Reports of the whole drive, in pieces.
 
-ghost use Rattle.std.specs.Prelude.{◌≡◌, ◌≢◌, ◌+◌, ◌*◌, ◌≤◌, ◌++◌, [], Err, IfErr, IfOk, Ok, OnErr, OnOk, length, map, true};
+ghost use Rattle.std.specs.Prelude.{◌≡◌, ◌≢◌, ◌+◌, ◌*◌, ◌≤◌, ◌++◌, [], Err, IfErr, IfOk, Ok, OnErr, OnOk, length, map};
+ghost use Rattle.std.specs.Prelude.{true};
 ghost use Rattle.nvme_wire.specs.declared.command.Command.TheVariants.{Receive};
 ghost use Rattle.nvme_wire.specs.declared.status.Status.TheVariants.{Success};
 ghost use Rattle.zone_report.specs.Report.{report};
@@ -68,7 +69,8 @@ fn look_at_all<P: Passthrough>(
     requires some { 1 ≤ most }
     requires few { 64 + 64 * most ≤ geometry.transfer * geometry.block }
     requires room { length room.old ≡ 64 + 64 * most }
-    ensures seen { OnOk result (WereSeen 0 geometry.zones geometry (P.zones way.old) seen.old seen.new (P.zones way.new)) }
+    ensures seen { OnOk result
+        (WereSeen 0 geometry.zones geometry (P.zones way.old) seen.old seen.new (P.zones way.new)) }
     ensures ready { result ≢ Err Halt.Stopped → IsReady geometry (P.shape way.new) (P.zones way.new) seen.new }
     ensures closes { IsClosing (P.zones way.old) (P.zones way.new) }
     ensures leads { Leads geometry (P.shape way.new) (P.zones way.new) }
