@@ -84,11 +84,11 @@ shut-mountable n old new k = mountable-same n old new (record { geometry = k.geo
 
 -- nor is the shape changed
 pub shut-stays : (old new : DriveState) → KeepsShut old new → Stays old new
-shut-stays old new k = record { geometry = k.geometry; lawful = k.lawful; trusted = k.trusted }
+shut-stays old new k = record { geometry = k.geometry; lawful = k.lawful; trusted = k.trusted; unfailing = k.unfailing }
 
 -- if only the controller closed zones, the contents stay and no zone is opened
 pub zones-shut : (old new : DriveState) → KeepsZones old new → KeepsShut old new
-zones-shut old new k = record { geometry = k.geometry; contents_are = kept-contents old new k; lawful = k.lawful; refused = k.refused; durable = k.durable; opens = closing-opens old.zones new.zones k.closing; trusted = k.trusted }
+zones-shut old new k = record { geometry = k.geometry; contents_are = kept-contents old new k; lawful = k.lawful; refused = k.refused; durable = k.durable; opens = closing-opens old.zones new.zones k.closing; trusted = k.trusted; unfailing = k.unfailing }
 
 -- a Read that succeeds keeps the zones, though the controller may close some
 pub read-kept : (old new : DriveState) → Obeys {V = Unit {0}} old (Ok tt) new → IsClosing old.zones new.zones → Counts old new 0 → KeepsZones old new
@@ -96,7 +96,7 @@ read-kept old new obeys closing counts = record { geometry = obeys.geometry; law
 
 -- two steps that keep the contents and open no zone do so together
 pub shut-both : (a b c : DriveState) → KeepsShut a b → KeepsShut b c → KeepsShut a c
-shut-both a b c k l = record { geometry = l.geometry ∙ k.geometry; contents_are = l.contents_are ∙ k.contents_are; lawful = l.lawful; refused = l.refused ∙ k.refused; durable = l.durable ∙ k.durable; opens = λ zone h. l.opens zone (k.opens zone h); trusted = λ clean. k.trusted (l.trusted clean) }
+shut-both a b c k l = record { geometry = l.geometry ∙ k.geometry; contents_are = l.contents_are ∙ k.contents_are; lawful = l.lawful; refused = l.refused ∙ k.refused; durable = l.durable ∙ k.durable; opens = λ zone h. l.opens zone (k.opens zone h); trusted = λ clean. k.trusted (l.trusted clean); unfailing = λ up. k.unfailing (l.unfailing up) }
 
 -- drives with the same contents have the same number of zones
 pub shut-count : (old new : DriveState) → contents new.zones ≡ contents old.zones → length new.zones ≡ length old.zones
@@ -370,13 +370,13 @@ can-close drive zone start reported known opened is =
 -- a Close that halts keeps the contents and opens no zone
 pub close-halts : (old new : DriveState) (start : ℕ) (fault : PortFault) → SameContents old new → CloseLeaves {V = Unit {0}} old start (Err fault) new → Obeys {V = Unit {0}} old (Err fault) new → IsNotRefused {V = Unit {0}} (Err fault) → KeepsShut old new
 close-halts old new start (port.Refused status) same leaves obeys passed = absurd passed
-close-halts old new start port.Memory same leaves obeys passed = record { geometry = same.geometry; contents_are = same.contents; lawful = obeys.lawful; refused = ap (λ (d : DriveState). d.refused) leaves; durable = ap (λ (d : DriveState). d.durable) leaves; opens = close-opens {V = Unit {0}} old new start (Err port.Memory) leaves; trusted = obeys.trusted }
-close-halts old new start port.Failed same leaves obeys passed = record { geometry = same.geometry; contents_are = same.contents; lawful = obeys.lawful; refused = (obeys.fails refl).1.refused; durable = obeys.durable; opens = close-opens {V = Unit {0}} old new start (Err port.Failed) leaves; trusted = obeys.trusted }
-close-halts old new start port.Stopped same leaves obeys passed = record { geometry = same.geometry; contents_are = same.contents; lawful = obeys.lawful; refused = (obeys.counts refl).refused; durable = obeys.durable; opens = close-opens {V = Unit {0}} old new start (Err port.Stopped) leaves; trusted = obeys.trusted }
+close-halts old new start port.Memory same leaves obeys passed = record { geometry = same.geometry; contents_are = same.contents; lawful = obeys.lawful; refused = ap (λ (d : DriveState). d.refused) leaves; durable = ap (λ (d : DriveState). d.durable) leaves; opens = close-opens {V = Unit {0}} old new start (Err port.Memory) leaves; trusted = obeys.trusted; unfailing = obeys.unfailing }
+close-halts old new start port.Failed same leaves obeys passed = record { geometry = same.geometry; contents_are = same.contents; lawful = obeys.lawful; refused = (obeys.fails refl).1.refused; durable = obeys.durable; opens = close-opens {V = Unit {0}} old new start (Err port.Failed) leaves; trusted = obeys.trusted; unfailing = obeys.unfailing }
+close-halts old new start port.Stopped same leaves obeys passed = record { geometry = same.geometry; contents_are = same.contents; lawful = obeys.lawful; refused = (obeys.counts refl).refused; durable = obeys.durable; opens = close-opens {V = Unit {0}} old new start (Err port.Stopped) leaves; trusted = obeys.trusted; unfailing = obeys.unfailing }
 
 -- a Close that succeeds keeps the contents and opens no zone
 pub close-done : (old new : DriveState) (start : ℕ) → SameContents old new → CloseLeaves {V = Unit {0}} old start (Ok tt) new → Obeys {V = Unit {0}} old (Ok tt) new → ClosedZone old new start → KeepsShut old new
-close-done old new start same leaves obeys done = record { geometry = same.geometry; contents_are = same.contents; lawful = obeys.lawful; refused = done.counts.refused; durable = obeys.durable; opens = close-opens {V = Unit {0}} old new start (Ok tt) leaves; trusted = obeys.trusted }
+close-done old new start same leaves obeys done = record { geometry = same.geometry; contents_are = same.contents; lawful = obeys.lawful; refused = done.counts.refused; durable = obeys.durable; opens = close-opens {V = Unit {0}} old new start (Ok tt) leaves; trusted = obeys.trusted; unfailing = obeys.unfailing }
 
 -- after a Close that succeeds its zone is not open
 pub close-shuts : (old new : DriveState) (zone start : ℕ) → StartsAt old zone start → zone < length old.zones → CloseLeaves {V = Unit {0}} old start (Ok tt) new → IsShut new.zones zone

@@ -90,7 +90,7 @@ pub resets-none : (drive : DriveState) (survey : Survey) (n : ℕ) (zones : List
     → ResetsSome drive drive survey survey n zones zones
 resets-none drive survey n zones known inside may = record {
   keeps = λ clean. keeps-mountable-none n drive known.lawful;
-  stays = record { geometry = refl; lawful = known.lawful; trusted = λ clean. clean };
+  stays = record { geometry = refl; lawful = known.lawful; trusted = λ clean. clean; unfailing = λ up. up };
   geometry = refl;
   contents_are = refl;
   opens = λ z h. h;
@@ -111,7 +111,7 @@ pub resets-more : (first now new : DriveState) (before survey after : Survey) (n
     → ResetsSome first new before after n zones rest
 resets-more first now new before survey after n zone zones rest some change one = record {
   keeps = some-keeps first now new before survey n zone zones rest some change;
-  stays = record { geometry = one.geometry ∙ some.geometry; lawful = change.lawful; trusted = λ clean. some.stays.trusted (change.trusted clean) };
+  stays = record { geometry = one.geometry ∙ some.geometry; lawful = change.lawful; trusted = λ clean. some.stays.trusted (change.trusted clean); unfailing = λ up. some.stays.unfailing (change.unfailing up) };
   geometry = one.geometry ∙ some.geometry;
   contents_are = ap (λ (cs : List Content). set_all cs rest emptied) one.contents_are ∙ some.contents_are;
   opens = λ z h. one.opens z (some.opens z h);
@@ -238,10 +238,10 @@ if-ok (Err fault) f is = tt
 -- ---- what stays whatever the Reads returned
 
 pub stays-none : (drive : DriveState) → IsLawful drive → Stays drive drive
-stays-none drive lawful = record { geometry = refl; lawful = lawful; trusted = λ clean. clean }
+stays-none drive lawful = record { geometry = refl; lawful = lawful; trusted = λ clean. clean; unfailing = λ up. up }
 
 pub stays-both : (a b c : DriveState) → Stays a b → Stays b c → Stays a c
-stays-both a b c p q = record { geometry = q.geometry ∙ p.geometry; lawful = q.lawful; trusted = λ clean. p.trusted (q.trusted clean) }
+stays-both a b c p q = record { geometry = q.geometry ∙ p.geometry; lawful = q.lawful; trusted = λ clean. p.trusted (q.trusted clean); unfailing = λ up. p.unfailing (q.unfailing up) }
 
 length-set_all : {X : Type 0} (xs : List X) (is : List ℕ) (x : X) → length (set_all xs is x) ≡ length xs
 length-set_all xs [] x = refl
@@ -257,4 +257,4 @@ resets-fits old new before after zones all same = record {
 }
 
 pub looks-stay : (old new : DriveState) → KeepsZones old new → Stays old new
-looks-stay old new k = record { geometry = k.geometry; lawful = k.lawful; trusted = k.trusted }
+looks-stay old new k = record { geometry = k.geometry; lawful = k.lawful; trusted = k.trusted; unfailing = k.unfailing }

@@ -363,13 +363,14 @@ may-finish old new zone P p change = record {
   refused = change.refused;
   durable = change.durable;
   trusted = change.trusted;
+  unfailing = change.unfailing;
   contents_are = elim change.contents_are as (λ _. (contents new.zones ≡ contents old.zones) ⊎ (Finishes (contents old.zones) (contents new.zones) zone × P)) [ inl same ↦ inl same | inr finishes ↦ inr (finishes, p) ];
 }
 
 -- ---- what stays whatever the Reads returned
 
 pub stays-more : (first now new : DriveState) (Changes : List Content → List Content → Type 0) → Stays first now → MayChange Changes now new → Stays first new
-stays-more first now new Changes stays change = record { geometry = change.geometry ∙ stays.geometry; lawful = change.lawful; trusted = λ clean. stays.trusted (change.trusted clean) }
+stays-more first now new Changes stays change = record { geometry = change.geometry ∙ stays.geometry; lawful = change.lawful; trusted = λ clean. stays.trusted (change.trusted clean); unfailing = λ up. stays.unfailing (change.unfailing up) }
 
 pub fits-more : (now new : DriveState) (survey after : Survey) (zone : ℕ) → Fits now survey → FinishesIf now new survey after zone → Fits new after × (length after.zones.items ≡ length survey.zones.items)
 fits-more now new survey after zone fits (inl is) = rw (is.1, is.2) (fits, refl)

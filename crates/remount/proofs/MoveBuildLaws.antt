@@ -207,7 +207,7 @@ pub record CopyingSome (start now : DriveState) (tables : TablesView) (zone : �
 pub copying-begin : (start : DriveState) (tables : TablesView) (zone : ℕ) (reported : ReportedZone) (builder : BuilderView) (blocks : List ℕ) → IsLawful start → AllByRecursion (IsNamed tables) blocks
     → CopyingSome start start tables zone reported builder builder blocks blocks
 copying-begin start tables zone reported builder blocks lawful named = record {
-  stays = record { geometry = refl; lawful = lawful; trusted = λ clean. clean };
+  stays = record { geometry = refl; lawful = lawful; trusted = λ clean. clean; unfailing = λ up. up };
   kept = λ known. keeps-none start lawful;
   heading = refl;
   got = [];
@@ -234,7 +234,7 @@ copying-step start now next tables zone reported old middle new blocks rest i bl
     let left : AllByRecursion (IsReadableAt tables (zone * g.size) reported.blocks) blocks → AllByRecursion (IsReadableAt tables (zone * g.size) reported.blocks) (block ∷ rest) = rw split at was.readable in
     let more : length grown.got ≡ data_count_at p * g.block = rw same at grown.long in
     record {
-      stays = record { geometry = stays.geometry ∙ was.stays.geometry; lawful = stays.lawful; trusted = λ clean. was.stays.trusted (stays.trusted clean) };
+      stays = record { geometry = stays.geometry ∙ was.stays.geometry; lawful = stays.lawful; trusted = λ clean. was.stays.trusted (stays.trusted clean); unfailing = λ up. was.stays.unfailing (stays.unfailing up) };
       kept = λ known. keeps-both start now next (was.kept known) (kept (kept-known start now zone reported (was.kept known) known));
       heading = heading ∙ was.heading;
       got = was.got ++ grown.got;

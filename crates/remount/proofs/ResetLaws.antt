@@ -57,7 +57,7 @@ pub record SendHalts (Changes : List Content → List Content → Type 0) (old n
   pub cause : FailsBy (λ _. ⊥) new (mount_fault fault)
 
 may-change-none : (Changes : List Content → List Content → Type 0) (drive : DriveState) → IsLawful drive → MayChange Changes drive drive
-may-change-none Changes drive lawful = record { geometry = refl; lawful = lawful; refused = refl; durable = refl; trusted = λ clean. clean; contents_are = inl refl }
+may-change-none Changes drive lawful = record { geometry = refl; lawful = lawful; refused = refl; durable = refl; trusted = λ clean. clean; unfailing = λ up. up; contents_are = inl refl }
 
 -- a Reset that failed has halted, and has reset its zone or changed nothing
 pub reset-halts : (old new : DriveState) (reported : List ReportedZone) (zone start : ℕ) (fault : PortFault) → AreKnown old reported → zone < length reported → start ≡ zone * old.geometry.size
@@ -68,12 +68,12 @@ reset-halts old new reported zone start port.Failed known lt is gives kept obeys
     let failed = obeys.fails refl in
     record {
       halt = tt;
-      kept = record { geometry = obeys.geometry; lawful = obeys.lawful; refused = failed.1.refused; durable = obeys.durable; trusted = obeys.trusted; contents_are = inl kept.contents };
+      kept = record { geometry = obeys.geometry; lawful = obeys.lawful; refused = failed.1.refused; durable = obeys.durable; trusted = obeys.trusted; unfailing = obeys.unfailing; contents_are = inl kept.contents };
       cause = inr (inl (inr (refl, failed.0)));
     }
 reset-halts old new reported zone start port.Stopped known lt is gives kept obeys passed = record {
   halt = tt;
-  kept = record { geometry = obeys.geometry; lawful = obeys.lawful; refused = (obeys.counts refl).refused; durable = obeys.durable; trusted = obeys.trusted; contents_are = by kept };
+  kept = record { geometry = obeys.geometry; lawful = obeys.lawful; refused = (obeys.counts refl).refused; durable = obeys.durable; trusted = obeys.trusted; unfailing = obeys.unfailing; contents_are = by kept };
   cause = inr (inl (inl (refl, obeys.stops refl)));
 }
   where
@@ -90,12 +90,12 @@ finish-halts old new reported zone start port.Failed known lt is gives kept obey
     let failed = obeys.fails refl in
     record {
       halt = tt;
-      kept = record { geometry = obeys.geometry; lawful = obeys.lawful; refused = failed.1.refused; durable = obeys.durable; trusted = obeys.trusted; contents_are = inl kept.contents };
+      kept = record { geometry = obeys.geometry; lawful = obeys.lawful; refused = failed.1.refused; durable = obeys.durable; trusted = obeys.trusted; unfailing = obeys.unfailing; contents_are = inl kept.contents };
       cause = inr (inl (inr (refl, failed.0)));
     }
 finish-halts old new reported zone start port.Stopped known lt is gives kept obeys passed = record {
   halt = tt;
-  kept = record { geometry = obeys.geometry; lawful = obeys.lawful; refused = (obeys.counts refl).refused; durable = obeys.durable; trusted = obeys.trusted; contents_are = by kept };
+  kept = record { geometry = obeys.geometry; lawful = obeys.lawful; refused = (obeys.counts refl).refused; durable = obeys.durable; trusted = obeys.trusted; unfailing = obeys.unfailing; contents_are = by kept };
   cause = inr (inl (inl (refl, obeys.stops refl)));
 }
   where
@@ -116,7 +116,7 @@ pub reset-done : (old new : DriveState) (reported : List ReportedZone) (zone sta
     → ResetsOne old new zone
 reset-done old new reported zone start known lt is done leaves obeys =
     let resets = subst (λ (k : ℕ). Resets (contents old.zones) (contents new.zones) k) (starts-there old reported zone start known lt is).index done.contents in
-    record { kept = record { geometry = obeys.geometry; lawful = obeys.lawful; refused = done.counts.refused; durable = obeys.durable; trusted = obeys.trusted; contents_are = inr resets }; opens = reset-opens {V = Unit {0}} old new start (Ok tt) leaves; contents_are = resets }
+    record { kept = record { geometry = obeys.geometry; lawful = obeys.lawful; refused = done.counts.refused; durable = obeys.durable; trusted = obeys.trusted; unfailing = obeys.unfailing; contents_are = inr resets }; opens = reset-opens {V = Unit {0}} old new start (Ok tt) leaves; contents_are = resets }
 
 -- a zone was finished, and no zone was opened
 pub record FinishDone (old new : DriveState) (zone : ℕ) : Type 0 where
@@ -129,7 +129,7 @@ pub finish-done : (old new : DriveState) (reported : List ReportedZone) (zone st
     → FinishDone old new zone
 finish-done old new reported zone start known lt is done leaves obeys =
     let finishes = subst (λ (k : ℕ). Finishes (contents old.zones) (contents new.zones) k) (starts-there old reported zone start known lt is).index done.contents in
-    record { kept = record { geometry = obeys.geometry; lawful = obeys.lawful; refused = done.counts.refused; durable = obeys.durable; trusted = obeys.trusted; contents_are = inr finishes }; opens = finish-opens {V = Unit {0}} old new start (Ok tt) leaves; contents_are = finishes }
+    record { kept = record { geometry = obeys.geometry; lawful = obeys.lawful; refused = done.counts.refused; durable = obeys.durable; trusted = obeys.trusted; unfailing = obeys.unfailing; contents_are = inr finishes }; opens = finish-opens {V = Unit {0}} old new start (Ok tt) leaves; contents_are = finishes }
 
 -- ---- what is known of the zones then
 

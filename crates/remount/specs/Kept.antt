@@ -34,6 +34,7 @@ pub record Stays (old new : DriveState) : Type 0 where
   pub geometry : new.geometry ≡ old.geometry
   pub lawful : IsLawful new
   pub trusted : IsTrue new.clean → IsTrue old.clean
+  pub unfailing : IsTrue new.unfailing → IsTrue old.unfailing
 
 -- The report is true of all zones, and each of them was looked at.
 pub record Fits (drive : DriveState) (survey : Survey) : Type 0 where
@@ -82,3 +83,4 @@ pub record AreSane (geometry : Geometry) (tables : TablesView) : Type 0 where
   pub short : size_of tables ≤ 2 ^ 31
   pub next : tables.next ≤ 2 ^ 63
   pub fillings_are : AllByRecursion (IsWithin geometry) (fillings tables.roles)
+  pub readable : tables.unreadable ≡ []

@@ -48,6 +48,7 @@ pub record KeepsShut (old new : DriveState) : Type 0 where
   pub durable : new.durable ≡ old.durable
   pub opens : (zone : ℕ) → IsShut old.zones zone → IsShut new.zones zone
   pub trusted : IsTrue new.clean → IsTrue old.clean
+  pub unfailing : IsTrue new.unfailing → IsTrue old.unfailing
 
 -- A zone without a torn tail was finished: all logs and tails stay.
 pub record FinishesZone (n : ℕ) (old new : DriveState) (before after : Survey) (zone : ℕ) : Type 0 where

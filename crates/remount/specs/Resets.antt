@@ -27,6 +27,7 @@ pub record MayChange (Changes : List Content → List Content → Type 0) (old n
   pub refused : new.refused ≡ old.refused
   pub durable : new.durable ≡ old.durable
   pub trusted : IsTrue new.clean → IsTrue old.clean
+  pub unfailing : IsTrue new.unfailing → IsTrue old.unfailing
   pub contents_are : (contents new.zones ≡ contents old.zones) ⊎ Changes (contents old.zones) (contents new.zones)
 
 -- no zone was opened

@@ -40,6 +40,7 @@ agrees-sane disk agrees = record {
   short = agrees.reserve.1;
   next = agrees.next;
   fillings_are = within (fillings disk.tables.roles) agrees.roles.apart.occupied (fillings-few disk.drive disk.tables agrees);
+  readable = agrees.readable;
 }
   where
     within : (fs : List Filling) → AllByRecursion (IsOccupied disk.tables.roles.empty) fs → AllByRecursion (λ f. f.written ≤ disk.drive.geometry.capacity) fs → AllByRecursion (IsWithin disk.drive.geometry) fs
@@ -96,24 +97,26 @@ alone-long g roles zone = at (nat_lt 1 g.open)
     at false = refl
 
 -- the numbers stay in range
-pub alone-sane : (a b : MountedView) (zone : ℕ) → b.drive.geometry ≡ a.drive.geometry → b.tables ≡ tables_alone a.drive.geometry a.tables zone → IsSane a → IsSane b
-alone-sane a b zone geometry tables sane =
+pub alone-sane : (a b : MountedView) (zone : ℕ) → KeepsShape a.drive b.drive → b.tables ≡ tables_alone a.drive.geometry a.tables zone → IsSane a → IsSane b
+alone-sane a b zone shape tables sane =
     let g = a.drive.geometry in
-    rw (tables, geometry) (record {
+    rw (tables, shape.geometry) (record {
       geometry = sane.geometry;
       one_drive = alone-long g a.tables.roles zone ∙ sane.one_drive;
       zones = sane.zones;
       short = sane.short;
       next = sane.next;
       fillings_are = alone-all (λ z n. (z < g.zones) × (n ≤ g.capacity)) g a.tables.roles zone sane.fillings_are;
+      readable = λ up. sane.readable (shape.unfailing up);
     })
 
 -- and a batch that may be placed still may
-pub alone-may : (a b : MountedView) (zone : ℕ) (batch : Batch) → b.drive.geometry ≡ a.drive.geometry → b.tables ≡ tables_alone a.drive.geometry a.tables zone → MayPlace a zone batch → MayPlace b zone batch
-alone-may a b zone batch geometry tables may =
+pub alone-may : (a b : MountedView) (zone : ℕ) (batch : Batch) → KeepsShape a.drive b.drive → b.tables ≡ tables_alone a.drive.geometry a.tables zone → MayPlace a zone batch → MayPlace b zone batch
+alone-may a b zone batch shape tables may =
     let g = a.drive.geometry in
+    let geometry = shape.geometry in
     record {
-      sane = alone-sane a b zone geometry tables may.sane;
+      sane = alone-sane a b zone shape tables may.sane;
       filling = rw tables (alone-filling g a.tables.roles zone zone ∙ may.filling);
       heading = rw geometry may.heading;
       grows = rw tables may.grows;
@@ -136,9 +139,10 @@ wrote-within g zone blocks (f ∷ fs) within room = (at (eqb f.zone zone) refl, 
     at false e = within.0
 
 -- the numbers stay in range
-pub counts-sane : (a b : MountedView) (zone : ℕ) (batch : Batch) → b.drive.geometry ≡ a.drive.geometry → MayPlace a zone batch → CountsBatch a.drive.geometry a.tables zone batch b.tables → IsSane b
-counts-sane a b zone batch geometry may counts =
+pub counts-sane : (a b : MountedView) (zone : ℕ) (batch : Batch) → KeepsShape a.drive b.drive → MayPlace a zone batch → CountsBatch a.drive.geometry a.tables zone batch b.tables → IsSane b
+counts-sane a b zone batch shape may counts =
     let g = a.drive.geometry in
+    let geometry = shape.geometry in
     let alone = roles_alone g a.tables.roles zone in
     record {
       geometry = rw geometry may.sane.geometry;
@@ -150,21 +154,22 @@ counts-sane a b zone batch geometry may counts =
           (wrote-within g zone (batch_size batch) (fillings alone)
           (alone-all (λ z n. (z < g.zones) × (n ≤ g.capacity)) g a.tables.roles zone may.sane.fillings_are)
           (alone-all (λ z n. z ≡ zone → n + batch_size batch ≤ g.capacity) g a.tables.roles zone may.room)));
+      readable = λ up. counts.unreadable ∙ may.sane.readable (shape.unfailing up);
     }
 
 -- and so they do whatever the Append answers
-pub after-sane : (a b : MountedView) (zone : ℕ) (batch : Batch) (result : Result (Unit {0}) PortFault) → b.drive.geometry ≡ a.drive.geometry → MayPlace a zone batch → TablesAfter a.drive.geometry a.tables zone batch result b.tables → IsSane b
-after-sane a b zone batch (Ok done) geometry may counts = counts-sane a b zone batch geometry may counts
-after-sane a b zone batch (Err fault) geometry may left = elim left as (λ _. IsSane b) [
-  | inl same ↦ rw (same, geometry) (record { geometry = may.sane.geometry; one_drive = may.sane.one_drive; zones = may.sane.zones; short = may.sane.short; next = may.sane.next; fillings_are = may.sane.fillings_are })
-  | inr alone ↦ alone-sane a b zone geometry alone may.sane
+pub after-sane : (a b : MountedView) (zone : ℕ) (batch : Batch) (result : Result (Unit {0}) PortFault) → KeepsShape a.drive b.drive → MayPlace a zone batch → TablesAfter a.drive.geometry a.tables zone batch result b.tables → IsSane b
+after-sane a b zone batch (Ok done) shape may counts = counts-sane a b zone batch shape may counts
+after-sane a b zone batch (Err fault) shape may left = elim left as (λ _. IsSane b) [
+  | inl same ↦ rw (same, shape.geometry) (record { geometry = may.sane.geometry; one_drive = may.sane.one_drive; zones = may.sane.zones; short = may.sane.short; next = may.sane.next; fillings_are = may.sane.fillings_are; readable = λ up. may.sane.readable (shape.unfailing up) })
+  | inr alone ↦ alone-sane a b zone shape alone may.sane
 ]
 
 -- ---- by the answers of the two calls of an Append
 
 -- once the zone beside is closed, the batch may be placed
 pub may-built : (a b : MountedView) (zone : ℕ) (builder : BuilderView) → KeepsShape a.drive b.drive → b.tables ≡ tables_alone a.drive.geometry a.tables zone → MayPlace a zone (built a.drive.geometry.block builder) → MayPlace b zone (built b.drive.geometry.block builder)
-may-built a b zone builder shape tables may = subst (λ (g : Geometry). MayPlace b zone (built g.block builder)) (sym shape.geometry) (alone-may a b zone (built a.drive.geometry.block builder) shape.geometry tables may)
+may-built a b zone builder shape tables may = subst (λ (g : Geometry). MayPlace b zone (built g.block builder)) (sym shape.geometry) (alone-may a b zone (built a.drive.geometry.block builder) shape tables may)
 
 -- the Close was not done, and no batch was appended
 pub refused-before : (a b : MountedView) (zone : ℕ) (batch : Batch) (fault : PortFault) (result : Result (Unit {0}) PortFault) → result ≡ Err fault → ByHalt (AloneLeaves a b zone) (Err fault) → ByHalt (BatchLeaves a b zone batch) result

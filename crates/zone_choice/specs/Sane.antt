@@ -1,5 +1,5 @@
 -- What a mounted disk rests on whatever the Reads of its drive returned: its numbers, and not what its batches say.
-use Rattle.std.specs.Prelude.{◌≡◌, ◌⊎◌, ℕ, ◌+◌, ◌≤◌, ◌<◌, ◌^◌, true, IsTrue, Result, Ok, Err}
+use Rattle.std.specs.Prelude.{◌≡◌, ◌⊎◌, ℕ, ◌+◌, ◌≤◌, ◌<◌, ◌^◌, true, IsTrue, [], Result, Ok, Err}
 use Rattle.std.specs.List.{AllByRecursion}
 use Rattle.zone_states.specs.declared.geometry.Geometry.{Geometry}
 use Rattle.zone_states.specs.Geometry.{IsInRange}
@@ -17,7 +17,7 @@ use Rattle.zone_choice.specs.Roles.{RolesView, fillings, is_filling_at, wrote}
 use Rattle.zone_choice.specs.Tables.{AreOfOneDrive, TablesView, size_of}
 
 -- A mounted disk whose numbers are in range: each zone that is being filled is one of the drive's, and no fuller than a
--- zone can be.
+-- zone can be. While no command failed, no data is noted as unreadable.
 pub record IsSane (disk : MountedView) : Type 0 where
   pub geometry : IsInRange disk.drive.geometry
   pub one_drive : AreOfOneDrive disk.tables.map disk.tables.roles
@@ -26,6 +26,7 @@ pub record IsSane (disk : MountedView) : Type 0 where
   pub next : disk.tables.next ≤ 2 ^ 63
   pub fillings_are : AllByRecursion (λ (filling : Filling). (filling.zone < disk.drive.geometry.zones) × (filling.written ≤ disk.drive.geometry.capacity))
       (fillings disk.tables.roles)
+  pub readable : IsTrue disk.drive.unfailing → disk.tables.unreadable ≡ []
 
 -- by the tables, the zone has room for that many blocks more
 abbrev pub HasRoomIn : Geometry → RolesView → ℕ → ℕ → Type 0
@@ -63,10 +64,11 @@ abbrev pub TablesAfter : Geometry → TablesView → ℕ → Batch → Result (U
 TablesAfter geometry old zone batch (Ok done) new = CountsBatch geometry old zone batch new
 TablesAfter geometry old zone batch (Err fault) new = (new ≡ old) ⊎ (new ≡ tables_alone geometry old zone)
 
--- the shape of the drive is the same, and it is clean only where it was
+-- the shape of the drive is the same, and it is clean only where it was, and unfailing only where it was
 pub record KeepsShape (old new : DriveState) : Type 0 where
   pub geometry : new.geometry ≡ old.geometry
   pub trusted : IsTrue new.clean → IsTrue old.clean
+  pub unfailing : IsTrue new.unfailing → IsTrue old.unfailing
 
 -- of a call whose faults are halts: what holds by its halt
 abbrev pub ByHalt : {V : Type 0} → (Result V Halt → Type 0) → Result V PortFault → Type 0

@@ -1,8 +1,9 @@
 -- How much room a clean needs, and how many turns are left.
-use Rattle.std.proofs.Common.{◌≡◌, ℕ, zero, suc, ◌+◌, ◌<◌, ◌≤◌, max, refl, ap, ◌∙◌, inl, inr, arith}
+use Rattle.std.proofs.Common.{◌≡◌, ℕ, zero, suc, ◌+◌, ◌*◌, ◌<◌, ◌≤◌, max, refl, ap, ◌∙◌, inl, inr, arith}
 use Rattle.std.specs.Int.{div_ceil}
 use Rattle.std.proofs.lemmas.Bool.{cases_lt}
 use Rattle.drive_array.specs.Reserve.{move_blocks}
+use Rattle.std.proofs.Math.Nat.{add-mul, mul-le-mul_right}
 use Rattle.drive_array.proofs.ReserveLaws.{div_ceil-add, div_ceil-last, div_ceil-mono, div_ceil-none, div_ceil-positive}
 use Rattle.zone_cleaner.specs.Clean.{HasRoomFor, moves_due}
 
@@ -70,3 +71,20 @@ start-turns c k r pos fits = elim (cases_lt 0 r) as (λ _. r + max (moves_due 0)
   | inl some ↦ omega (arith, fits, div_ceil-positive r k pos some)
   | inr none ↦ omega (arith, fits)
 ]
+
+-- ---- rounds of turns
+
+-- a round more
+pub round-more : (n cost now old next : ℕ) → now + 2 * n ≤ old + n * cost → next + 2 ≤ now + cost → next + 2 * (n + 1) ≤ old + (n + 1) * cost
+round-more n cost now old next so_far more = let suc-times : (n + 1) * cost ≡ n * cost + 1 * cost = add-mul n 1 cost in omega (arith, so_far, more, suc-times)
+
+-- a round of as many as there are zones, at most
+pub rounds-most : (n zones cost now old next : ℕ) → n < zones → now + 2 * n ≤ old + n * cost → next + 2 ≤ now + cost → next + 2 ≤ old + zones * cost
+rounds-most n zones cost now old next few so_far more =
+    let all : (n + 1) * cost ≤ zones * cost = mul-le-mul_right cost (omega (arith, few)) in
+    omega (arith, all, round-more n cost now old next so_far more)
+
+-- only the first round is taken
+pub first-round : (n cost now old next : ℕ) → (1 ≤ n → ⊥) → now + 2 * n ≤ old + n * cost → next + 2 ≤ now + cost → next + 2 ≤ old + cost
+first-round zero cost now old next none so_far more = omega (arith, so_far, more)
+first-round (suc n) cost now old next none so_far more = absurd (none (omega arith))

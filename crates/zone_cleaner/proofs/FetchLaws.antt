@@ -1,5 +1,5 @@
 -- One record is read.
-use Rattle.std.proofs.Common.{◌≡◌, ℕ, List, [], get_or, Err, refl, ◌∙◌, append-nil, arith}
+use Rattle.std.proofs.Common.{◌≡◌, ◌≢◌, ℕ, List, [], get_or, Result, Ok, Err, refl, sym, ◌∙◌, append-nil, arith}
 use Rattle.drive_port.specs.Calls.{CanRead, IsNotRefused, Obeys, ReadGives}
 use Rattle.drive_port.specs.Contents.{Counts, SameContents, block_at, bytes_at, contents}
 use Rattle.drive_port.specs.Drive.{DriveState, IsClosing, IsLawful}
@@ -7,14 +7,19 @@ use Rattle.drive_port.specs.declared.calls.PortFault.{PortFault}
 use Rattle.drive_port.specs.declared.calls.PortFault.TheVariants as port
 use Rattle.logical_map.specs.declared.place.Place.{Place}
 use Rattle.logical_map.specs.declared.place.Place.TheVariants as places
-use Rattle.zone_choice.specs.Agreement.{mounted}
+use Rattle.zone_choice.specs.Agreement.{Agrees, MountedView, mounted}
 use Rattle.drive_array.specs.ZoneLogs.{encoded}
 use Rattle.zone_choice.specs.Changes.{IsHalt, fault_halt}
 use Rattle.zone_choice.specs.Tables.{TablesView}
-use Rattle.zone_choice.proofs.ChangeLaws.{keeps-contents, keeps-halt, keeps-same}
+use Rattle.zone_choice.proofs.ChangeLaws.{keeps-contents, keeps-halt, keeps-refl, keeps-same}
 use Rattle.zone_choice.proofs.AgreementLaws.{StaysFailed}
 use Rattle.zone_choice.proofs.OpenLaws.{closing-opens}
 use Rattle.zone_choice.proofs.ReadLaws.{HoldsPlace, holds_place}
+use Rattle.std.specs.Prelude.{IsErrAnd, IsTrue}
+use Rattle.zone_cleaner.specs.Answering.{GatherAnswers}
+use Rattle.zone_cleaner.specs.LiveRecords.{LiveRecord}
+use Rattle.zone_cleaner.specs.declared.fault.CleanFault.{CleanFault}
+use Rattle.zone_cleaner.specs.declared.fault.CleanFault.TheVariants as faults
 use Rattle.zone_cleaner.specs.Reading.{IsGatherFault, IsStoredAt, OnlyReads}
 use Rattle.zone_cleaner.specs.Turns.{clean_fault}
 
@@ -71,3 +76,20 @@ fetch_halts old new tables block address returned port.Stopped stored gives same
 -- what it showed is the array's
 pub fetch_shown : (drive : DriveState) (tables : TablesView) (block address : ℕ) → IsStoredAt (mounted drive tables) block (places.At address) → bytes_at drive.geometry (contents drive.zones) address 1 ≡ get_or (encoded drive tables.given) block []
 fetch_shown drive tables block address stored = append-nil (block_at drive.geometry (contents drive.zones) address) ∙ (holds drive tables block (places.At address) stored).shown
+
+-- there is no room to gather a record
+pub gather-refused : (disk : MountedView) (old now : List LiveRecord) (more : LiveRecord) (result : Result (Unit {0}) CleanFault) (fault : CleanFault) → IsErrAnd result (λ e. e ≡ fault) → fault ≢ faults.Failed → now ≡ old
+    → (IsTrue disk.drive.clean → Agrees disk) → (IsTrue disk.drive.clean → fault ≡ faults.OutOfMemory) → GatherAnswers disk old more result disk now
+gather-refused disk old now more (Ok done) fault is read same agrees memory = absurd is
+gather-refused disk old now more (Err e) fault is read same agrees memory = record {
+  asks = record { shape = record { geometry = refl; trusted = λ clean. clean; unfailing = λ up. up }; tables = refl; completed = omega arith };
+  adds = tt;
+  failed = same;
+  fails = λ failed. absurd (read (sym is ∙ err-of e (Err e) refl failed));
+  reads = λ clean. record { kept = keeps-refl disk.drive disk.tables (agrees clean); tables = refl; same = record { geometry = refl; contents = refl }; completed = omega arith };
+  ok = λ clean. tt;
+  err = λ clean. rw (is, memory clean) tt;
+}
+  where
+    err-of : (x : CleanFault) (r : Result (Unit {0}) CleanFault) → r ≡ Err x → r ≡ Err faults.Failed → x ≡ faults.Failed
+    err-of x r a b = (let same = sym a ∙ b in cc)

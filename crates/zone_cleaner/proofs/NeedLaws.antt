@@ -15,7 +15,7 @@ use Rattle.drive_array.proofs.ReserveLaws.{positive-most}
 use Rattle.zone_choice.proofs.VictimLaws.{has_sealed, least_can_move}
 use Rattle.zone_cleaner.specs.Clean.{CleanView, HasNoDestination, destination_written, turns_left, moves_due, untaken}
 use Rattle.zone_cleaner.specs.declared.fault.CleanFault.{CleanFault}
-use Rattle.zone_cleaner.specs.Start.{AgreesWithClean, HasNextZone, IsDue, KeepsByCleaning, LacksZones, StartLeaves, TurnLeaves}
+use Rattle.zone_cleaner.specs.Start.{AgreesWithClean, IsDue, KeepsByCleaning, LacksZones, StartLeaves, TurnLeaves}
 use Rattle.zone_cleaner.proofs.BudgetLaws.{few-turns}
 use Rattle.zone_cleaner.proofs.CleanLaws.{live-parts}
 use Rattle.zone_cleaner.proofs.RoomLaws.{turn-room}

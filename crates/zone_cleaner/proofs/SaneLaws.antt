@@ -1,6 +1,6 @@
 -- What holds whatever the Reads returned, after the steps of a clean.
-use Rattle.std.proofs.Common.{◌≡◌, ℕ, ◌++◌, ◌<◌, ◌≤◌, ltb, Bool, true, false, cond, List, [], ◌∷◌, length, Option, Some, None, Result, Ok, Err, refl, ap, subst, ◌∙◌, inl, inr, arith}
-use Rattle.std.specs.Prelude.{IsTrue}
+use Rattle.std.proofs.Common.{◌≡◌, ◌≢◌, ℕ, ◌++◌, ◌<◌, ◌≤◌, ltb, Bool, true, false, cond, List, [], ◌∷◌, length, Option, Some, None, Result, Ok, Err, refl, sym, ap, subst, ◌∙◌, inl, inr, arith}
+use Rattle.std.specs.Prelude.{IsFalse, IsTrue}
 use Rattle.std.specs.List.{AllByRecursion}
 use Rattle.std.specs.Option.{option_map}
 use Rattle.std.proofs.lemmas.List.{length-set}
@@ -20,19 +20,23 @@ use Rattle.zone_states.specs.declared.geometry.Geometry.{Geometry}
 use Rattle.batch_log.specs.Log.{Batch}
 use Rattle.zone_cleaner.specs.Answering.{StaysSane}
 use Rattle.zone_cleaner.specs.Clean.{CleanView}
-use Rattle.zone_cleaner.specs.Reading.{OnlyAsks}
+use Rattle.zone_cleaner.specs.Reading.{AsksAndNotes, OnlyAsks}
+use Rattle.zone_cleaner.specs.declared.fault.CleanFault.{CleanFault}
+use Rattle.zone_cleaner.specs.declared.fault.CleanFault.TheVariants as faults
 use Rattle.zone_cleaner.specs.Start.{StartLeaves, TurnLeaves}
+use Rattle.zone_cleaner.specs.Turns.{NotesLost}
 use Rattle.zone_cleaner.proofs.RoomLaws.{move-host}
 
 -- the tables are the same
-pub sane-same : (old new : DriveState) (tables : TablesView) → new.geometry ≡ old.geometry → IsSane (mounted old tables) → IsSane (mounted new tables)
-sane-same old new tables geometry sane = record {
-  geometry = rw geometry sane.geometry;
+pub sane-same : (old new : DriveState) (tables : TablesView) → KeepsShape old new → IsSane (mounted old tables) → IsSane (mounted new tables)
+sane-same old new tables shape sane = record {
+  geometry = rw shape.geometry sane.geometry;
   one_drive = sane.one_drive;
-  zones = rw geometry sane.zones;
+  zones = rw shape.geometry sane.zones;
   short = sane.short;
   next = sane.next;
-  fillings_are = rw geometry sane.fillings_are;
+  fillings_are = rw shape.geometry sane.fillings_are;
+  readable = λ up. sane.readable (shape.unfailing up);
 }
 
 -- the same zones are being filled
@@ -45,25 +49,27 @@ fillings-ended roles victim = at roles.host roles.second
     at host (Some (Destination f)) = refl
 
 -- the victim is empty
-pub sane-ended : (old new : DriveState) (tables : TablesView) (victim : ℕ) → new.geometry ≡ old.geometry → IsSane (mounted old tables) → IsSane (mounted new (record tables { roles = clean_ended tables.roles victim }))
-sane-ended old new tables victim geometry sane = record {
-  geometry = rw geometry sane.geometry;
+pub sane-ended : (old new : DriveState) (tables : TablesView) (victim : ℕ) → KeepsShape old new → IsSane (mounted old tables) → IsSane (mounted new (record tables { roles = clean_ended tables.roles victim }))
+sane-ended old new tables victim shape sane = record {
+  geometry = rw shape.geometry sane.geometry;
   one_drive = length-set tables.roles.empty victim true ∙ sane.one_drive;
-  zones = rw geometry sane.zones;
+  zones = rw shape.geometry sane.zones;
   short = sane.short;
   next = sane.next;
-  fillings_are = rw (geometry, fillings-ended tables.roles victim) sane.fillings_are;
+  fillings_are = rw (shape.geometry, fillings-ended tables.roles victim) sane.fillings_are;
+  readable = λ up. sane.readable (shape.unfailing up);
 }
 
 -- a clean is given up
-pub sane-undone : (old new : DriveState) (tables : TablesView) (all : List Place) → new.geometry ≡ old.geometry → length all ≡ size_of tables → IsSane (mounted old tables) → IsSane (mounted new (record tables { map = record tables.map { places = all }; roles = clean_undone tables.roles }))
-sane-undone old new tables all geometry long sane = record {
-  geometry = rw geometry sane.geometry;
+pub sane-undone : (old new : DriveState) (tables : TablesView) (all : List Place) → KeepsShape old new → length all ≡ size_of tables → IsSane (mounted old tables) → IsSane (mounted new (record tables { map = record tables.map { places = all }; roles = clean_undone tables.roles }))
+sane-undone old new tables all shape long sane = record {
+  geometry = rw shape.geometry sane.geometry;
   one_drive = with-long tables.roles.second ∙ sane.one_drive;
-  zones = rw geometry sane.zones;
+  zones = rw shape.geometry sane.zones;
   short = omega (arith, long, sane.short);
   next = sane.next;
-  fillings_are = rw geometry (fewer tables.roles.host tables.roles.second sane.fillings_are);
+  fillings_are = rw shape.geometry (fewer tables.roles.host tables.roles.second sane.fillings_are);
+  readable = λ up. sane.readable (shape.unfailing up);
 }
   where
     with-long : (second : Option Second) → length (with_empty tables.roles.empty second) ≡ length tables.roles.empty
@@ -101,12 +107,17 @@ sane-started a b (Some c) leaves sane =
       short = sane.short;
       next = sane.next;
       fillings_are = with-one (λ (f : Filling). (f.zone < g.zones) × (f.written ≤ g.capacity)) a.tables.roles.host a.tables.roles.second _ start.due.alone sane.fillings_are (omega (arith, start.lowest.in_range, sane.one_drive, sane.zones), omega arith);
+      readable = sane.readable;
     })
 
 -- the start of one sends nothing
 pub stays-started : (a b : MountedView) (clean : Option CleanView) → TurnLeaves a None (Ok tt) b clean → IsSane a → StaysSane a b
 stays-started a b clean leaves sane = record {
-  shape = record { geometry = ap (λ (d : DriveState). d.geometry) leaves.0; trusted = λ t. subst (λ (d : DriveState). IsTrue d.clean) leaves.0 t };
+  shape = record {
+    geometry = ap (λ (d : DriveState). d.geometry) leaves.0;
+    trusted = λ t. subst (λ (d : DriveState). IsTrue d.clean) leaves.0 t;
+    unfailing = λ up. subst (λ (d : DriveState). IsTrue d.unfailing) leaves.0 up;
+  };
   sane = sane-started a b clean leaves sane;
   size = same clean leaves.1;
   given = given clean leaves.1;
@@ -127,11 +138,36 @@ stays-started a b clean leaves sane = record {
 
 -- ---- a step
 
--- only a Read was sent
-pub stays-asked : (a b : MountedView) → OnlyAsks a b → IsSane a → StaysSane a b
+-- after a Read that failed, what could not be read may be noted
+pub noted-asks : (before middle after : MountedView) (block : ℕ) (place : Place) (result : CleanFault) → OnlyAsks before middle → after.drive ≡ middle.drive → (result ≡ faults.Failed → IsFalse middle.drive.unfailing)
+    → (result ≡ faults.Failed → NotesLost block place middle.tables after.tables) → (result ≢ faults.Failed → after.tables ≡ middle.tables) → AsksAndNotes before after
+noted-asks before middle after block place result asks drive fails noted other = by result refl
+  where
+    same : after.tables ≡ middle.tables → AsksAndNotes before after
+    same tables = record {
+      shape = rw drive asks.shape;
+      tables = rw (tables, asks.tables) refl;
+      readable = λ up. rw (tables, asks.tables) refl;
+      completed = rw drive asks.completed;
+    }
+
+    by : (fault : CleanFault) → result ≡ fault → AsksAndNotes before after
+    by faults.Failed is = record {
+      shape = rw drive asks.shape;
+      tables = rw (noted is, asks.tables) refl;
+      readable = λ up. absurd (let down = fails is in let bad = rw drive at up in cc);
+      completed = rw drive asks.completed;
+    }
+    by faults.OutOfMemory is = same (other (λ e. (let bad = sym is ∙ e in absurd (cc))))
+    by faults.Stopped is = same (other (λ e. (let bad = sym is ∙ e in absurd (cc))))
+    by faults.Spent is = same (other (λ e. (let bad = sym is ∙ e in absurd (cc))))
+    by faults.Damaged is = same (other (λ e. (let bad = sym is ∙ e in absurd (cc))))
+
+-- only a Read was sent, and what could not be read may be noted
+pub stays-asked : (a b : MountedView) → AsksAndNotes a b → IsSane a → StaysSane a b
 stays-asked a b asks sane = record {
   shape = asks.shape;
-  sane = rw (asks.tables, asks.shape.geometry) (record { geometry = sane.geometry; one_drive = sane.one_drive; zones = sane.zones; short = sane.short; next = sane.next; fillings_are = sane.fillings_are });
+  sane = rw (asks.tables, asks.shape.geometry) (record { geometry = sane.geometry; one_drive = sane.one_drive; zones = sane.zones; short = sane.short; next = sane.next; fillings_are = sane.fillings_are; readable = λ up. asks.readable up ∙ sane.readable (asks.shape.unfailing up) });
   size = ap size_of asks.tables;
   given = ap (λ (t : TablesView). t.given) asks.tables;
   host = λ none. rw asks.tables none;
@@ -164,11 +200,11 @@ stays-appended a b zone batch result says shape sane after = record { shape = sh
 -- ---- several
 
 pub stays-same : (a : MountedView) → IsSane a → StaysSane a a
-stays-same a sane = record { shape = record { geometry = refl; trusted = λ t. t }; sane = sane; size = refl; given = refl; host = λ none. none }
+stays-same a sane = record { shape = record { geometry = refl; trusted = λ t. t; unfailing = λ up. up }; sane = sane; size = refl; given = refl; host = λ none. none }
 
 pub stays-more : (a b c : MountedView) → StaysSane a b → StaysSane b c → StaysSane a c
 stays-more a b c one two = record {
-  shape = record { geometry = two.shape.geometry ∙ one.shape.geometry; trusted = λ t. one.shape.trusted (two.shape.trusted t) };
+  shape = record { geometry = two.shape.geometry ∙ one.shape.geometry; trusted = λ t. one.shape.trusted (two.shape.trusted t); unfailing = λ up. one.shape.unfailing (two.shape.unfailing up) };
   sane = two.sane;
   size = two.size ∙ one.size;
   given = two.given ∙ one.given;

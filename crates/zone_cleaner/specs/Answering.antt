@@ -1,16 +1,19 @@
 -- What the calls of the cleaner promise, whatever they answer.
-use Rattle.std.specs.Prelude.{◌≡◌, ◌+◌, ◌*◌, ◌++◌, ◌≤◌, true, List, [], ◌∷◌, Option, None, is_some, Result, Ok, IfErr, IsTrue, OnErr, OnOk}
+use Rattle.std.specs.Prelude.{◌≡◌, ◌≢◌, ◌⊎◌, ℕ, ◌+◌, ◌*◌, ◌++◌, ◌≤◌, true, List, [], ◌∷◌, Option, None, is_some, Result, Ok, Err, IfErr, IsFalse, IsTrue, OnErr, OnOk}
+use Rattle.zone_states.specs.declared.geometry.Geometry.{Geometry}
+use Rattle.drive_port.specs.Drive.{DriveState}
 use Rattle.zone_choice.specs.Agreement.{MountedView}
 use Rattle.drive_array.specs.Reserve.{batch_most}
 use Rattle.zone_choice.specs.Roles.{next_of}
 use Rattle.zone_choice.specs.Sane.{IsSane, KeepsShape}
 use Rattle.zone_choice.specs.Tables.{size_of}
 use Rattle.zone_cleaner.specs.declared.fault.CleanFault.{CleanFault}
+use Rattle.zone_cleaner.specs.declared.fault.CleanFault.TheVariants as faults
 use Rattle.zone_cleaner.specs.Clean.{CleanView, turns_due, turns_left}
 use Rattle.zone_cleaner.specs.LiveRecords.{LiveRecord}
 use Rattle.zone_cleaner.specs.Reading.{AddsRecord, IsGatherFault, OnlyAsks, OnlyReads}
 use Rattle.zone_cleaner.specs.Start.{AgreesWithClean, CleanLeaves, CleaningLeaves, KeepsByCleaning}
-use Rattle.zone_cleaner.specs.Start.{HasNextZone, KeepsTurns, TurnDone, TurnLeaves}
+use Rattle.zone_cleaner.specs.Start.{HasZone, KeepsTurns, TurnDone, TurnLeaves}
 
 -- What holds whatever the Reads returned: the shape and the size are the same, the numbers stay in range, and where there
 -- was no host zone there is none.
@@ -29,6 +32,7 @@ pub record GatherAnswers (before : MountedView) (gathered : List LiveRecord) (mo
   -- a record is after those that were gathered before, or these are the same
   pub adds : OnOk result (AddsRecord more.block gathered now)
   pub failed : OnErr result (now ≡ gathered)
+  pub fails : result ≡ Err faults.Failed → IsFalse after.drive.unfailing
   -- while the drive is clean, the contents are the same, and it is this record
   pub reads : IsTrue after.drive.clean → OnlyReads before after
   pub ok : IsTrue after.drive.clean → OnOk result (now ≡ gathered ++ more ∷ [])
@@ -70,10 +74,30 @@ pub record PassAnswers (before : MountedView) (old : Option CleanView) (result :
   pub cleaning : CleaningLeaves before result after new
   pub done : OnOk result (PassDone before after old new)
 
--- Cleaning until there is a next zone, of a disk that lacks zones.
+-- Turns until a zone can be taken for the host, as many as one clean has. While all data could be read, one can be.
+pub record RoundAnswers (before : MountedView) (old : Option CleanView)
+    (result : Result (Unit {0}) CleanFault) (after : MountedView) (new : Option CleanView) : Type 0 where
+  pub leaves : CleanLeaves before old result after new
+  pub cleaning : CleaningLeaves before result after new
+  pub done : OnOk result (HasZone after new ⊎ (after.tables.unreadable ≢ []))
+
+-- at most how many commands one clean takes, and those of a clean of each zone
+abbrev pub clean_commands : Geometry → ℕ
+clean_commands geometry = 2 * geometry.capacity
+
+abbrev pub all_clean_commands : Geometry → ℕ
+all_clean_commands geometry = geometry.zones * clean_commands geometry
+
+-- What cleaning costs, whatever it answers: fewer commands than one clean takes, by so many. Once a command failed
+-- it may go from zone to zone.
+pub record CostsClean (spare : ℕ) (old new : DriveState) : Type 0 where
+  pub unfailing : IsTrue new.unfailing → new.completed + spare ≤ old.completed + clean_commands old.geometry
+  pub failing : new.completed + spare ≤ old.completed + all_clean_commands old.geometry
+
+-- Cleaning until a zone can be taken for the host, of a disk that lacks zones.
 pub record CleanAnswers (before : MountedView) (old : Option CleanView)
     (result : Result (Unit {0}) CleanFault) (after : MountedView) (new : Option CleanView) : Type 0 where
   -- it takes turns, and does nothing else
   pub leaves : CleanLeaves before old result after new
   pub cleaning : CleaningLeaves before result after new
-  pub done : OnOk result (HasNextZone after new)
+  pub done : OnOk result (HasZone after new)

@@ -1,5 +1,5 @@
 -- How the record of a block is read from the drive, and gathered.
-use Rattle.std.specs.Prelude.{◌≡◌, ℕ, ◌+◌, ◌<◌, ◌≤◌, ◌++◌, true, IsFalse, List, [], ◌∷◌, length, Option, Some, slice_index_or}
+use Rattle.std.specs.Prelude.{◌≡◌, ℕ, ◌+◌, ◌<◌, ◌≤◌, ◌++◌, true, IsFalse, IsTrue, List, [], ◌∷◌, length, Option, Some, slice_index_or}
 use Rattle.drive_port.specs.Contents.{SameContents}
 use Rattle.drive_port.specs.Drive.{DriveState}
 use Rattle.logical_map.specs.declared.place.Place.{Place}
@@ -18,10 +18,11 @@ pub record OnlyAsks (before after : MountedView) : Type 0 where
   pub tables : after.tables ≡ before.tables
   pub completed : after.drive.completed ≤ before.drive.completed + 1
 
--- The same, but that data which could not be read may be noted.
+-- The same, but that data which could not be read may be noted, once a command failed.
 pub record AsksAndNotes (before after : MountedView) : Type 0 where
   pub shape : KeepsShape before.drive after.drive
   pub tables : after.tables ≡ record before.tables { unreadable = after.tables.unreadable }
+  pub readable : IsTrue after.drive.unfailing → after.tables.unreadable ≡ before.tables.unreadable
   pub completed : after.drive.completed ≤ before.drive.completed + 1
 
 -- a block of that many bytes comes after these

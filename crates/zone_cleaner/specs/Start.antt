@@ -96,12 +96,12 @@ pub record SameButLost (before after : MountedView) : Type 0 where
   pub drive : after.drive ≡ before.drive
   pub tables : after.tables ≡ record before.tables { unreadable = after.tables.unreadable }
 
--- no turn more is taken: one was refused, or no zone is left to clean, or it has taken as many turns as one clean has
+-- no turn more is taken: one was refused, or no zone is left to clean
 abbrev pub EndsBy : CleanFault → MountedView → Option CleanView → MountedView → Option CleanView → Type 0
 EndsBy faults.Failed before old after new = TurnLeaves before old (Err faults.Failed) after new ⊎ SameButLost before after × (new ≡ old)
 EndsBy fault before old after new = TurnLeaves before old (Err fault) after new
 
--- what is left where turns are taken until there is a next zone, by the answer: turns were taken, and nothing else
+-- what is left where turns are taken until a zone can be taken, by the answer: turns were taken, and nothing else
 abbrev pub CleanLeaves : MountedView → Option CleanView → Result (Unit {0}) CleanFault → MountedView → Option CleanView → Type 0
 CleanLeaves before old (Ok done) after new = (n : ℕ) × AreTurns n before old after new
 CleanLeaves before old (Err fault) after new =
@@ -173,8 +173,12 @@ pub record LacksZones (roles : RolesView) : Type 0 where
   pub next : next_of roles.second ≡ None
   pub few : empty_count roles < 2
 
--- after the clean of a disk that lacked them: no clean runs, and there is a next zone
-pub record HasNextZone (disk : MountedView) (clean : Option CleanView) : Type 0 where
+-- a zone can be taken for the host: the next zone, or an empty one beside which another is empty
+abbrev pub CanTake : RolesView → Type 0
+CanTake roles = (is_some (next_of roles.second) ≡ true) ⊎ (2 ≤ empty_count roles)
+
+-- after the clean of a disk that lacked them: no clean runs, and a zone can be taken
+pub record HasZone (disk : MountedView) (clean : Option CleanView) : Type 0 where
   pub ended : clean ≡ None
   pub host : disk.tables.roles.host ≡ None
-  pub next : is_some (next_of disk.tables.roles.second) ≡ true
+  pub zone : CanTake disk.tables.roles

@@ -256,6 +256,7 @@ impl Clean {
 fn note_lost(tables: &mut Tables, block: u32, place: Place, fault: CleanFault) -> CleanFault
     ensures failed { result ≡ CleanFault.Failed → NotesLost block place tables.old tables.new }
     ensures other { result ≢ CleanFault.Failed → tables.new ≡ tables.old }
+    ensures cause { result ≡ CleanFault.Failed → fault ≡ CleanFault.Failed }
     // It is another fault only out of memory, or if the block is not the disk's.
     ensures fault { block < size_of tables.old
         → (result ≡ fault) ⊎ (result ≡ CleanFault.OutOfMemory) }

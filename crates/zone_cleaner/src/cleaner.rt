@@ -1,14 +1,15 @@
-ghost use Rattle.std.specs.Prelude.{◌≡◌, ◌≤◌, ◌<◌, ◌+◌, ◌*◌, ◌^◌, IsTrue, Err, None, Some, [], is_some, length, true};
+ghost use Rattle.std.specs.Prelude.{◌≡◌, ◌≤◌, ◌<◌, ◌+◌, ◌*◌, ◌^◌, IsFalse, IsTrue, Err, None, Some, [], is_some, length, true};
 ghost use Rattle.std.specs.List.{AllByRecursion};
 ghost use Rattle.std.specs.Option.{option_map};
 ghost use Rattle.zone_choice.specs.Builder.{IsBuilt};
 ghost use Rattle.zone_choice.specs.Changes.{CanPlace, built_for};
 ghost use Rattle.zone_choice.specs.Sane.{ByHalt, IsSane, KeepsShape, MayPlace, TablesAfter};
-ghost use Rattle.zone_cleaner.specs.Answering.{CleanAnswers, PassAnswers, Readies, StaysSane, TurnAnswers};
+ghost use Rattle.zone_cleaner.specs.Answering.{CleanAnswers, CostsClean, PassAnswers, Readies, RoundAnswers, StaysSane, TurnAnswers};
 ghost use Rattle.zone_cleaner.specs.Clean.{forgotten, started};
 ghost use Rattle.zone_cleaner.specs.Host.{HostLeaves};
 ghost use Rattle.zone_choice.specs.Roles.{next_of};
-ghost use Rattle.zone_cleaner.specs.Start.{AgreesWithClean, FindsDue, LacksZones, TurnLeaves, is_given_up, unfinished};
+ghost use Rattle.zone_cleaner.specs.Start.{AgreesWithClean, CanTake, FindsDue, LacksZones, TurnLeaves};
+ghost use Rattle.zone_cleaner.specs.Start.{is_given_up, unfinished};
 ghost use Rattle.zone_states.specs.Geometry.{IsInRange};
 
 use crate::clean::Clean;
@@ -267,18 +268,24 @@ impl Cleaner {
         }
     }
 
-    /// Makes room at once, for a disk that has no host zone, no next zone, and at most one empty
-    /// zone. The clean that runs is run to its end. If none runs, one is started before.
-    /// Afterwards there is a next zone with two free blocks.
-    ///
-    /// If data of a zone cannot be read, another zone is cleaned. It answers `Failed` if there is none, or if no more
-    /// turns are left than one clean has: the next call goes on.
-    pub fn clean_zone<D: Device>(&mut self, disk: &mut Mounted<D>) -> Result<(), CleanFault>
+    /// Whether the host can take a zone now: no clean runs, and there is a next zone, or an empty one beside another.
+    fn finds_zone(&self, tables: &Tables) -> bool
+        ensures some { IsTrue result → (self.now ≡ None) × CanTake tables.now.roles }
+        ensures none { IsFalse result → self.now ≡ None → CanTake tables.now.roles → ⊥ }
+    {
+        !self.running() && (has_next(tables) || tables.empty_count() >= 2)
+    }
+
+    /// Takes as many turns as one clean has, or fewer if the host can take a zone before.
+    fn take_turns<D: Device>(&mut self, disk: &mut Mounted<D>) -> Result<(), CleanFault>
         requires sane { IsSane disk.old }
-        requires lacks { LacksZones disk.old.tables.roles }
+        requires host { disk.old.tables.roles.host ≡ None }
         requires cleaned { IsTrue disk.old.drive.clean → AgreesWithClean disk.old self.old }
+        // While all data could be read, a clean is started only where zones lack.
+        requires lacks { IsTrue disk.old.drive.clean → disk.old.tables.unreadable ≡ []
+            → LacksZones disk.old.tables.roles }
         ensures answers { IsTrue disk.new.drive.clean
-            → CleanAnswers disk.old self.old result disk.new self.new }
+            → RoundAnswers disk.old self.old result disk.new self.new }
         ensures stays { StaysSane disk.old disk.new }
         ensures completed { disk.new.drive.completed + 2
             ≤ disk.old.drive.completed + 2 * disk.old.drive.geometry.capacity }
@@ -288,8 +295,37 @@ impl Cleaner {
             if let Err(fault) = self.go_on(disk) {
                 return Err(fault);
             }
-            if has_next(&disk.tables) {
+            if self.finds_zone(&disk.tables) {
                 return Ok(());
+            }
+        }
+        Ok(())
+    }
+
+    /// Makes room at once, for a disk that has no host zone, no next zone, and at most one empty
+    /// zone. The clean that runs is run to its end. If none runs, one is started before.
+    /// Afterwards the host can take a zone: the next zone, with two free blocks, or an empty one.
+    ///
+    /// If data of a zone cannot be read, other zones are cleaned. It answers `Failed` if none is left that can be.
+    pub fn clean_zone<D: Device>(&mut self, disk: &mut Mounted<D>) -> Result<(), CleanFault>
+        requires sane { IsSane disk.old }
+        requires lacks { LacksZones disk.old.tables.roles }
+        requires cleaned { IsTrue disk.old.drive.clean → AgreesWithClean disk.old self.old }
+        ensures answers { IsTrue disk.new.drive.clean
+            → CleanAnswers disk.old self.old result disk.new self.new }
+        ensures stays { StaysSane disk.old disk.new }
+        // It completes as many commands as one clean, unless a command failed: then as many for each zone.
+        ensures costs { CostsClean 2 disk.old.drive disk.new.drive }
+    {
+        for _ in 0..disk.geometry().zones {
+            if let Err(fault) = self.take_turns(disk) {
+                return Err(fault);
+            }
+            if self.finds_zone(&disk.tables) {
+                return Ok(());
+            }
+            if disk.tables.unreadable().is_empty() {
+                return Err(CleanFault::Damaged);
             }
         }
         Err(unfinished(&disk.tables))

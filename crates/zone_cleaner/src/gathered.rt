@@ -1,5 +1,5 @@
-ghost use Rattle.std.specs.Prelude.{◌≡◌, ◌⊎◌, ◌≤◌, ◌<◌, ◌+◌, ◌++◌, ◌∷◌, ◌^◌, false, [], drop, is_some, length, map, nat_eq};
-ghost use Rattle.std.specs.Prelude.{None, Some, IfErr, IfSome, IsTrue, OnOk, OnErr, slice_index_or};
+ghost use Rattle.std.specs.Prelude.{◌≡◌, ◌≢◌, ◌⊎◌, ◌≤◌, ◌<◌, ◌+◌, ◌++◌, ◌∷◌, ◌^◌, false, [], drop, is_some, length, map, nat_eq};
+ghost use Rattle.std.specs.Prelude.{Err, None, Some, IfErr, IfSome, IsFalse, IsTrue, OnOk, OnErr, slice_index_or};
 ghost use Rattle.std.specs.List.{AllByRecursion, IsDistinct, concat, list_any};
 ghost use Rattle.std.specs.Option.{option_map};
 ghost use Rattle.batch_log.specs.Header.{IsHeading};
@@ -84,7 +84,8 @@ pub fn fault_of(halt: Halt) -> CleanFault
 
 /// The fault of a clean behind the fault of a command, which the drive does not refuse while it is clean.
 pub fn command_fault(fault: PortFault) -> CleanFault
-    ensures { IsHalt fault → result ≡ clean_fault (fault_halt fault) }
+    ensures halt { IsHalt fault → result ≡ clean_fault (fault_halt fault) }
+    ensures failed { result ≡ CleanFault.Failed → fault ≡ PortFault.Failed }
 {
     match fault {
         PortFault::Memory => CleanFault::OutOfMemory,
@@ -106,6 +107,7 @@ fn fetch<D: Device>(
     // Whatever the Read returned, it has sent one command at most, and tables and heading are the same. Done, as many
     // bytes as a block has follow those that the batch had; refused, these are the same.
     ensures asks { OnlyAsks disk.old disk.new }
+    ensures fails { result ≡ Err CleanFault.Failed → IsFalse disk.new.drive.unfailing }
     ensures heading { batch.new.heading ≡ batch.old.heading }
     ensures adds { OnOk result (AddsBlock disk.old.drive.geometry.block batch.old.bytes batch.new.bytes) }
     ensures failed { OnErr result (batch.new.bytes ≡ batch.old.bytes) }
@@ -148,9 +150,10 @@ impl Gathered {
     fn make_room(&mut self, block_bytes: u32) -> Result<(), CleanFault>
         ensures records { self.new.records ≡ self.old.records }
         ensures room { OnOk result (self.new.block_bytes ≡ block_bytes) }
-        // It is refused only for memory, unless some data has another length.
+        // It is refused only for memory, unless some data has another length. No command is sent.
         ensures err { AreOfLength block_bytes (gathered_data self.old.records)
             → IfErr result (λ fault. fault ≡ OutOfMemory) }
+        ensures read { IfErr result (λ fault. fault ≢ CleanFault.Failed) }
     {
         if self.block_bytes == block_bytes {
             return Ok(());

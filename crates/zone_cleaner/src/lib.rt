@@ -31,10 +31,10 @@
 //! * A batch of the host never adds a turn. Once it is appended, the clean forgets the blocks that the batch names.
 //!   After a failed allocation the clean is unchanged; after a stop the drive can be mounted (`HostLeaves` in
 //!   specs/Host).
-//! * A disk without a host zone and a next zone, and with at most one empty zone, cleans by `clean_zone`. Done, it has
-//!   a next zone, after at most 2 * `capacity` - 2 commands (`HasNextZone`). While all data can be read, there is
-//!   always a zone to clean. Else it may end by `Failed`: if each zone is left out, or if these commands were not
-//!   enough.
+//! * A disk without a host zone and a next zone, and with at most one empty zone, cleans by `clean_zone`. Done, the
+//!   host can take a zone: the next zone, or an empty one beside another (`HasZone`). That takes at most 2 * `capacity` -
+//!   2 commands while none fails. Else other zones are cleaned, with as many commands for each zone (`CostsClean`). While
+//!   all data can be read, there is always a zone to clean. Else it may end by `Failed`, if no zone is left to clean.
 //! * The last turn empties the victim. The destination keeps two free blocks (`HasRoomFor` in specs/Clean).
 //!
 //! Nothing promises that anyone takes turns while no room is needed.

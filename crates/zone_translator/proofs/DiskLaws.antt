@@ -53,14 +53,14 @@ alike-sent a b x was is shape tables = record { shape = shape; size = ap size_of
 
 -- the numbers stay in range
 pub sane-sent : (a b : MountedView) → KeepsShape a.drive b.drive → b.tables ≡ a.tables → IsSane a → IsSane b
-sane-sent a b shape tables sane = rw tables (sane-same a.drive b.drive a.tables shape.geometry sane)
+sane-sent a b shape tables sane = rw tables (sane-same a.drive b.drive a.tables shape sane)
 
 -- one after the other
 pub alike-same : (a : DiskView) → StaysAlike a a
-alike-same a = record { shape = record { geometry = refl; trusted = λ t. t }; size = refl }
+alike-same a = record { shape = record { geometry = refl; trusted = λ t. t; unfailing = λ up. up }; size = refl }
 
 pub alike-join : (a b c : DiskView) → StaysAlike a b → StaysAlike b c → StaysAlike a c
-alike-join a b c one two = record { shape = record { geometry = two.shape.geometry ∙ one.shape.geometry; trusted = λ t. one.shape.trusted (two.shape.trusted t) }; size = two.size ∙ one.size }
+alike-join a b c one two = record { shape = record { geometry = two.shape.geometry ∙ one.shape.geometry; trusted = λ t. one.shape.trusted (two.shape.trusted t); unfailing = λ up. one.shape.unfailing (two.shape.unfailing up) }; size = two.size ∙ one.size }
 
 -- while the disk serves, the array has its number of blocks; and on a drive that can be mounted each is a whole block
 pub length-array : (disk : MountedView) (clean : Option CleanView) → AgreesWithClean disk clean → length (mounted_array disk) ≡ size_of disk.tables
@@ -94,6 +94,7 @@ keeps-disk a b clean clean' was is unmounted below keeps = record {
     appended = keeps.appended;
     below = λ was_below. below;
     unmounted = unmounted;
+    unfailing = keeps.unfailing;
   };
   durable = keeps.durable;
 }
@@ -110,6 +111,7 @@ cleaned-disk a b clean clean' was is unmounted below keeps = record {
     appended = keeps.appended;
     below = λ was_below. below;
     unmounted = unmounted;
+    unfailing = keeps.unfailing;
   };
   durable = keeps.durable;
 }
@@ -146,11 +148,12 @@ kept-join a b c p q = record {
   appended = omega (arith, p.appended, q.appended);
   below = λ below. q.below (p.below below);
   unmounted = λ e. p.unmounted (q.unmounted e);
+  unfailing = λ up. p.unfailing (q.unfailing up);
 }
 
 -- what changes nothing keeps it
 pub kept-refl : (a : DiskView) → IsMountable a.drive (given_size a) → KeepsDisk a a
-kept-refl a mountable = record { given = refl; geometry = refl; mountable = mountable; refused = refl; next = refl; appended = omega arith; below = λ below. below; unmounted = λ e. e }
+kept-refl a mountable = record { given = refl; geometry = refl; mountable = mountable; refused = refl; next = refl; appended = omega arith; below = λ below. below; unmounted = λ e. e; unfailing = λ up. up }
 
 -- the same with what is durable
 pub still-join : (a b c : DiskView) → KeepsDurable a b → KeepsDurable b c → KeepsDurable a c

@@ -74,6 +74,7 @@ keeps-hardened before after clean was is keeps = record {
   appended = keeps.appended;
   below = keeps.below;
   unmounted = keeps.unmounted;
+  unfailing = keeps.unfailing;
 }
 
 -- ---- the Flush of the drive

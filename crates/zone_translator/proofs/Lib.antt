@@ -4,6 +4,7 @@ pub mod RoomLaws
 pub mod FlatLaws
 pub mod BatchLaws
 pub mod ContentLaws
+pub mod CostLaws
 pub mod CutLaws
 pub mod ReadLaws
 pub mod ReportLaws

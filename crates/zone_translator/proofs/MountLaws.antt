@@ -163,4 +163,5 @@ mounted-sane old new tables n stays asked are = record {
   short = are.short;
   next = are.next;
   fillings_are = are.fillings_are;
+  readable = λ up. are.readable;
 }

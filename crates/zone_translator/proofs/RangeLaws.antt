@@ -11,7 +11,7 @@ use Rattle.zone_choice.specs.declared.roles.Second.{Second}
 use Rattle.zone_choice.specs.declared.roles.Second.TheVariants.{Destination, Next}
 use Rattle.zone_choice.specs.Agreement.{MountedView, mounted}
 use Rattle.zone_choice.specs.Roles.{RolesView, filling_list, filling_of, next_of, promoted, sealed, with_next}
-use Rattle.zone_choice.specs.Sane.{IsSane}
+use Rattle.zone_choice.specs.Sane.{IsSane, KeepsShape}
 use Rattle.zone_choice.specs.Tables.{TablesView, size_of}
 use Rattle.zone_cleaner.specs.Answering.{StaysSane}
 use Rattle.zone_cleaner.proofs.SaneLaws.{sane-same}
@@ -21,12 +21,12 @@ use Rattle.zone_translator.specs.Changes.{TakesHost}
 -- ---- one after the other
 
 pub range-same : (a : MountedView) → IsSane a → StaysOfSize a a
-range-same a sane = record { range = record { shape = record { geometry = refl; trusted = λ t. t }; sane = sane; given = refl }; size = refl }
+range-same a sane = record { range = record { shape = record { geometry = refl; trusted = λ t. t; unfailing = λ up. up }; sane = sane; given = refl }; size = refl }
 
 pub range-more : (a b c : MountedView) → StaysOfSize a b → StaysOfSize b c → StaysOfSize a c
 range-more a b c one two = record {
   range = record {
-    shape = record { geometry = two.range.shape.geometry ∙ one.range.shape.geometry; trusted = λ t. one.range.shape.trusted (two.range.shape.trusted t) };
+    shape = record { geometry = two.range.shape.geometry ∙ one.range.shape.geometry; trusted = λ t. one.range.shape.trusted (two.range.shape.trusted t); unfailing = λ up. one.range.shape.unfailing (two.range.shape.unfailing up) };
     sane = two.range.sane;
     given = two.range.given ∙ one.range.given;
   };
@@ -37,8 +37,8 @@ pub range-cleaned : (a b : MountedView) → StaysSane a b → StaysOfSize a b
 range-cleaned a b stays = record { range = record { shape = stays.shape; sane = stays.sane; given = stays.given }; size = stays.size }
 
 -- a command went that changed no tables
-pub range-sent : (old new : DriveState) (tables : TablesView) → new.geometry ≡ old.geometry → (IsTrue new.clean → IsTrue old.clean) → IsSane (mounted old tables) → StaysOfSize (mounted old tables) (mounted new tables)
-range-sent old new tables geometry trusted sane = record { range = record { shape = record { geometry = geometry; trusted = trusted }; sane = sane-same old new tables geometry sane; given = refl }; size = refl }
+pub range-sent : (old new : DriveState) (tables : TablesView) → KeepsShape old new → IsSane (mounted old tables) → StaysOfSize (mounted old tables) (mounted new tables)
+range-sent old new tables shape sane = record { range = record { shape = shape; sane = sane-same old new tables shape sane; given = refl }; size = refl }
 
 -- ---- the host zone
 
@@ -56,18 +56,19 @@ without-host P None second all = all
 without-host P (Some h) second all = all.1
 
 -- it is sealed
-pub range-seal : (old new : DriveState) (tables after : TablesView) → new.geometry ≡ old.geometry → (IsTrue new.clean → IsTrue old.clean) → after ≡ record tables { roles = sealed tables.roles } → IsSane (mounted old tables) → StaysOfSize (mounted old tables) (mounted new after)
-range-seal old new tables after geometry trusted after-is sane =
+pub range-seal : (old new : DriveState) (tables after : TablesView) → KeepsShape old new → after ≡ record tables { roles = sealed tables.roles } → IsSane (mounted old tables) → StaysOfSize (mounted old tables) (mounted new after)
+range-seal old new tables after shape after-is sane =
     rw after-is (record {
       range = record {
-        shape = record { geometry = geometry; trusted = trusted };
+        shape = shape;
         sane = record {
-          geometry = rw geometry sane.geometry;
+          geometry = rw shape.geometry sane.geometry;
           one_drive = sane.one_drive;
-          zones = rw geometry sane.zones;
+          zones = rw shape.geometry sane.zones;
           short = sane.short;
           next = sane.next;
-          fillings_are = rw geometry (without-host (IsWithin old.geometry) tables.roles.host (filling_list (option_map filling_of tables.roles.second)) sane.fillings_are);
+          fillings_are = rw shape.geometry (without-host (IsWithin old.geometry) tables.roles.host (filling_list (option_map filling_of tables.roles.second)) sane.fillings_are);
+          readable = λ up. sane.readable (shape.unfailing up);
         };
         given = refl;
       };
@@ -94,6 +95,7 @@ take-sane drive old new host none (inl next) sane =
       short = sane.short;
       next = sane.next;
       fillings_are = (next-fillings drive.geometry old.roles.second host next.0 all, tt);
+      readable = sane.readable;
     })
 take-sane drive old new host none (inr (no_next, two, lowest, host-is, new-is)) sane =
     let all = without-host (IsWithin drive.geometry) old.roles.host (filling_list (option_map filling_of old.roles.second)) sane.fillings_are in
@@ -104,6 +106,7 @@ take-sane drive old new host none (inr (no_next, two, lowest, host-is, new-is)) 
       short = sane.short;
       next = sane.next;
       fillings_are = ((omega (arith, lowest.in_range, sane.one_drive, sane.zones), omega arith), all);
+      readable = sane.readable;
     })
 
 taken-size : (old new : TablesView) (host : Filling) → TakesHost old host new → size_of new ≡ size_of old
@@ -119,7 +122,7 @@ pub range-take : (a b : MountedView) (host : Filling) → a.tables.roles.host �
 range-take a b host none drive takes sane =
     let here : StaysOfSize a (mounted a.drive b.tables) = record {
       range = record {
-        shape = record { geometry = refl; trusted = λ t. t };
+        shape = record { geometry = refl; trusted = λ t. t; unfailing = λ up. up };
         sane = take-sane a.drive a.tables b.tables host none takes sane;
         given = taken-given a.tables b.tables host takes;
       };

@@ -115,7 +115,7 @@ retire_clean V a b clean Damaged is leaves = absurd leaves
 pub room-stops : (a b : MountedView) → KeepsByCleaning a b → b.drive.stopped ≡ true → StopKeeps a b
 room-stops a b kept stopped = record {
   stopped = stopped;
-  keeps = record { mountable = kept.mountable; given = kept.given; geometry = kept.geometry; refused = kept.refused; durable = kept.durable; next = kept.next; appended = kept.appended };
+  keeps = record { mountable = kept.mountable; given = kept.given; geometry = kept.geometry; refused = kept.refused; durable = kept.durable; next = kept.next; appended = kept.appended; unfailing = kept.unfailing };
   size = kept.size;
 }
 

@@ -170,7 +170,7 @@ may-list old new host left taken started builder g drive g-is sane apart room ca
 pub range-ready : (a b : MountedView) → b.drive ≡ a.drive → SameButReady a.tables b.tables → IsSane a → StaysOfSize a b
 range-ready a b drive more sane = record {
   range = record {
-    shape = record { geometry = ap (λ (d : DriveState). d.geometry) drive; trusted = λ t. rw drive at t };
+    shape = record { geometry = ap (λ (d : DriveState). d.geometry) drive; trusted = λ t. rw drive at t; unfailing = λ up. rw drive at up };
     sane = record {
       geometry = rw drive sane.geometry;
       one_drive = rw (more.zones, more.roles) sane.one_drive;
@@ -178,6 +178,7 @@ range-ready a b drive more sane = record {
       short = rw more.places sane.short;
       next = rw more.next sane.next;
       fillings_are = rw (drive, more.roles) sane.fillings_are;
+      readable = λ up. more.unreadable ∙ sane.readable (rw drive at up);
     };
     given = more.given;
   };
@@ -195,7 +196,7 @@ after-given a b zone batch (Err fault) left = elim left as (λ _. b.tables.given
 
 pub range-grown : (a b c : MountedView) (zone : ℕ) (batch : Batch) (result : Result (Unit {0}) PortFault) → StaysOfSize a b → KeepsShape b.drive c.drive → IsSane c → TablesAfter b.drive.geometry b.tables zone batch result c.tables → StaysInRange a c
 range-grown a b c zone batch result found shape sane after = record {
-  shape = record { geometry = shape.geometry ∙ found.range.shape.geometry; trusted = λ t. found.range.shape.trusted (shape.trusted t) };
+  shape = record { geometry = shape.geometry ∙ found.range.shape.geometry; trusted = λ t. found.range.shape.trusted (shape.trusted t); unfailing = λ up. found.range.shape.unfailing (shape.unfailing up) };
   sane = sane;
   given = after-given b c zone batch result after ∙ found.range.given;
 }

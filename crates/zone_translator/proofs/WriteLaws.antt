@@ -243,6 +243,7 @@ keeps-placed a b c clean zone batch kept placed is = record {
   durable = placed.durable ∙ kept.durable;
   next = omega (arith, kept.next, placed.next, placed.appended);
   appended = omega (arith, kept.appended, placed.appended);
+  unfailing = λ up. kept.unfailing (placed.unfailing up);
 }
 
 -- the batch was appended, and writes its part
@@ -287,6 +288,7 @@ append_stops a b c zone batch kept stops mountable =
         durable = stops.durable ∙ kept.durable;
         next = omega (arith, kept.next, same.next, stops.appended);
         appended = omega (arith, kept.appended, stops.appended);
+        unfailing = λ up. kept.unfailing (stops.unfailing up);
       };
       size = ap (λ (m : MapView). length m.places) same.map ∙ kept.size;
     }

@@ -28,7 +28,7 @@ use Rattle.zone_translator.specs.Cleaning.{AreNewer, log_in_zone}
 use Rattle.zone_translator.specs.Flat.{Call, FlatCall, FlatRemount, flush, read, with_nothing, write, write_list}
 use Rattle.zone_translator.specs.Listed.{NamesAll, last_block, list_puts}
 use Rattle.zone_translator.specs.Mount.{MountsDisk}
-use Rattle.zone_translator.specs.View.{CompletesAtMost, DiskCause, DiskView, KeepsDisk, disk_size, disk_turns, flat_of, given_size}
+use Rattle.zone_translator.specs.View.{CostsBatches, DiskCause, DiskView, KeepsDisk, disk_size, disk_turns, flat_of, given_size}
 use Rattle.zone_translator.specs.View.{logs_of, mounted_of, most_batches, next_sequence, disk_places, size_on}
 
 -- ---- what is asked, and what it takes
@@ -53,11 +53,11 @@ count_of_blocks disk bytes = block_count disk.drive.geometry bytes
 abbrev pub AreBlocksOf : DiskView → List ℕ → Type 0
 AreBlocksOf disk bytes = length bytes ≡ count_of_blocks disk bytes * disk.drive.geometry.block
 
--- at most how many commands a write of n blocks takes
+-- at most how many commands a write of n blocks takes, while none fails
 abbrev pub write_commands : Bool → DiskView → ℕ → ℕ
 write_commands trim disk n = most_batches trim disk n * batch_commands disk.drive.geometry
 
--- at most how many commands a list of so many entries takes
+-- at most how many commands a list of so many entries takes, while none fails
 abbrev pub list_commands : DiskView → ℕ → ℕ
 list_commands disk n = n * batch_commands disk.drive.geometry
 
@@ -130,12 +130,12 @@ ThrowsNone old new = IfSome old.clean (λ clean. RunsOn clean old new ⊎ AreNew
 abbrev pub KeepsClean : DiskView → DiskView → Type 0
 KeepsClean old new = IsTrue new.drive.unfailing → ThrowsNone old new
 
--- What a write costs, whatever it answers: so many commands at most. One that is done adds no turns of a clean, and one
--- after which the disk serves throws none back that runs.
-pub record CostsAtMost (old : DiskView) (commands : ℕ) (result : Result (Unit {0}) DiskFault) (new : DiskView) : Type 0 where
+-- What a write costs, whatever it answers: the commands of so many batches at most. One that is done adds no turns of a
+-- clean, and one after which the disk serves throws none back that runs.
+pub record CostsAtMost (old : DiskView) (batches : ℕ) (result : Result (Unit {0}) DiskFault) (new : DiskView) : Type 0 where
   pub turns : OnOk result (disk_turns new ≤ disk_turns old)
   pub clean : new.status ≡ statuses.Serving → KeepsClean old new
-  pub completed : CompletesAtMost old commands new
+  pub completed : CostsBatches old batches new
 
 -- once a growth is done, a header that was written says the size, and the sequences kept for repairs are left
 pub record SaysSize (old : DiskView) (size : ℕ) (new : DiskView) : Type 0 where

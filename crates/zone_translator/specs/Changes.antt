@@ -1,5 +1,5 @@
 -- What the parts of a disk's calls change, of a drive and the tables that agree with it.
-use Rattle.std.specs.Prelude.{◌≡◌, ◌⊎◌, ℕ, ◌<◌, ◌≤◌, ◌+◌, ◌*◌, Bool, true, false, IsFalse, List, length, slice_index_or, Option, Some, None, take, Result, Ok, Err}
+use Rattle.std.specs.Prelude.{◌≡◌, ◌⊎◌, ℕ, ◌<◌, ◌≤◌, ◌+◌, ◌*◌, Bool, true, false, IsFalse, IsTrue, List, length, slice_index_or, Option, Some, None, take, Result, Ok, Err}
 use Rattle.zone_states.specs.declared.geometry.Geometry.{Geometry}
 use Rattle.drive_port.specs.Drive.{DriveState}
 use Rattle.drive_port.specs.declared.device.Halt.{Halt}
@@ -16,6 +16,7 @@ use Rattle.drive_array.specs.Reserve.{batch_most}
 use Rattle.zone_choice.specs.Roles.{IsLowestEmpty, empty_count, next_of, promoted, taken}
 use Rattle.drive_array.specs.Sizes.{extended, greatest}
 use Rattle.zone_choice.specs.Tables.{TablesView, size_of}
+use Rattle.zone_cleaner.specs.Answering.{all_clean_commands, clean_commands}
 use Rattle.zone_cleaner.specs.declared.fault.CleanFault.{CleanFault}
 use Rattle.zone_cleaner.specs.declared.fault.CleanFault.TheVariants as faults
 use Rattle.zone_cleaner.specs.Clean.{CleanView, turns_left}
@@ -54,7 +55,16 @@ cleaning_fault faults.Damaged = Damaged
 
 -- at most how many commands a batch takes: the turns of a clean, a Finish, a Close, and the Append
 abbrev pub batch_commands : Geometry → ℕ
-batch_commands geometry = 2 * geometry.capacity + 1
+batch_commands geometry = clean_commands geometry + 1
+
+-- and where a command fails: a clean of each zone
+abbrev pub failing_commands : Geometry → ℕ
+failing_commands geometry = all_clean_commands geometry + 1
+
+-- What a batch costs, whatever it answers.
+pub record CostsBatch (old new : DriveState) : Type 0 where
+  pub unfailing : IsTrue new.unfailing → new.completed ≤ old.completed + batch_commands old.geometry
+  pub failing : new.completed ≤ old.completed + failing_commands old.geometry
 
 -- the host zone has a free block for a header and one for data
 abbrev pub HasRoom : DriveState → Filling → Type 0
@@ -95,6 +105,7 @@ pub record Keeps (before after : MountedView) : Type 0 where
   pub durable : after.drive.durable ≡ before.drive.durable
   pub next : after.tables.next + before.drive.appended ≡ before.tables.next + after.drive.appended
   pub appended : before.drive.appended ≤ after.drive.appended
+  pub unfailing : IsTrue after.drive.unfailing → IsTrue before.drive.unfailing
 
 -- These blocks were written into the array, as data or by trims, and a header says the disk's size.
 pub record WritesBlocks (trim : Bool) (before after : MountedView) (clean : Option CleanView) (first : ℕ) (blocks : List (List ℕ)) : Type 0 where

@@ -1,5 +1,5 @@
 -- What a disk is seen as, and what its calls keep.
-use Rattle.std.specs.Prelude.{◌≡◌, ℕ, ◌+◌, ◌<◌, ◌≤◌, Bool, true, false, List, Option, count_by}
+use Rattle.std.specs.Prelude.{◌≡◌, ℕ, ◌+◌, ◌*◌, ◌<◌, ◌≤◌, Bool, true, false, IsTrue, List, Option, count_by}
 use Rattle.std.specs.Int.{div_ceil}
 use Rattle.std.specs.List.{AllByRecursion}
 use Rattle.drive_port.specs.Drive.{DriveState}
@@ -18,7 +18,7 @@ use Rattle.zone_translator.specs.declared.fault.DiskFault.{DiskFault}
 use Rattle.zone_translator.specs.declared.fault.DiskFault.TheVariants.{OutOfRange, Unmounted, Smaller, Reserve}
 use Rattle.zone_translator.specs.declared.status.DiskStatus.{DiskStatus}
 use Rattle.zone_translator.specs.declared.status.DiskStatus.TheVariants as statuses
-use Rattle.zone_translator.specs.Changes.{IsCause}
+use Rattle.zone_translator.specs.Changes.{IsCause, batch_commands, failing_commands}
 use Rattle.zone_translator.specs.Flat.{FlatDisk}
 
 -- the drive below, what is known of it in memory, the clean that runs, and whether the disk serves
@@ -79,7 +79,7 @@ AreBelowNext disk = disk.status ≡ statuses.Serving → AllByRecursion (λ sequ
 
 -- What every call of a disk but a remount keeps, whatever it answers: a drive that can be mounted again. No command is
 -- refused, the next sequence rises by one with each batch that is appended and stays above all sequences on the drive,
--- and the disk is not unmounted.
+-- and the disk is not unmounted. A drive that failed has failed from then on.
 pub record KeepsDisk (old new : DiskView) : Type 0 where
   pub given : given_size new ≡ given_size old
   pub geometry : new.drive.geometry ≡ old.drive.geometry
@@ -89,6 +89,7 @@ pub record KeepsDisk (old new : DiskView) : Type 0 where
   pub appended : old.drive.appended ≤ new.drive.appended
   pub below : AreBelowNext old → AreBelowNext new
   pub unmounted : new.status ≡ statuses.Unmounted → old.status ≡ statuses.Unmounted
+  pub unfailing : IsTrue new.drive.unfailing → IsTrue old.drive.unfailing
 
 -- Whatever the Reads of the drive returned, its shape and the number of blocks stay.
 pub record StaysAlike (old new : DiskView) : Type 0 where
@@ -122,3 +123,12 @@ most_batches false disk n = n
 -- the drive completes no more than that many commands
 abbrev pub CompletesAtMost : DiskView → ℕ → DiskView → Type 0
 CompletesAtMost old count new = new.drive.completed ≤ old.drive.completed + count
+
+-- The same by how many commands a batch takes: more, once a command failed, since each may clean zone after zone then.
+pub record CostsMost (old : DiskView) (most : ℕ → ℕ) (new : DiskView) : Type 0 where
+  pub unfailing : IsTrue new.drive.unfailing → CompletesAtMost old (most (batch_commands old.drive.geometry)) new
+  pub failing : CompletesAtMost old (most (failing_commands old.drive.geometry)) new
+
+-- it completes no more than those of so many batches
+abbrev pub CostsBatches : DiskView → ℕ → DiskView → Type 0
+CostsBatches old batches new = CostsMost old (λ each. batches * each) new

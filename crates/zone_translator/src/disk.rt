@@ -13,11 +13,9 @@ ghost use Rattle.zone_choice.specs.Sane.{IsSane, KeepsShape};
 ghost use Rattle.zone_choice.specs.Tables.{is_left_out, size_of};
 ghost use Rattle.zone_translator.specs.Answers.{Answers, AnswersRead, AreBlocksOf, CostsAtMost, IsMounted};
 ghost use Rattle.zone_translator.specs.Answers.{KeepsClean, Remounts, SaysSize, Stores, TakesTurn};
-ghost use Rattle.zone_translator.specs.Answers.{StoresList, count_of_blocks, list_commands, write_bytes};
-ghost use Rattle.zone_translator.specs.Answers.{write_commands, write_content, write_entries};
+ghost use Rattle.zone_translator.specs.Answers.{StoresList, count_of_blocks, write_bytes, write_content, write_entries};
 ghost use Rattle.zone_translator.specs.Batches.{CanWrite, HasBlocks, IsTaken, KeepsCut, KeepsCutTo, is_trim};
 ghost use Rattle.zone_translator.specs.Calls.{IsSound, ReportsAll, answer_before, done_of, refusal_before, status_left};
-ghost use Rattle.zone_translator.specs.Changes.{batch_commands};
 ghost use Rattle.zone_translator.specs.Cleaning.{KeepsCleaning};
 ghost use Rattle.zone_translator.specs.Flat.{answer_while, fill, flush, grow, idle, known_blocks, known_growth};
 ghost use Rattle.zone_translator.specs.Flat.{blocks_from, known_range, report, trim};
@@ -25,8 +23,8 @@ ghost use Rattle.zone_translator.specs.Listed.{CanPutAll, IsFrontOf, PutSome, Re
 ghost use Rattle.zone_translator.specs.Mount.{GivesBack};
 ghost use Rattle.zone_translator.specs.Parts.{KeepsByRead, ReadStops, ReadsPieces, RefusedSome, WroteSome};
 ghost use Rattle.zone_translator.specs.Read.{IsPiece};
-ghost use Rattle.zone_translator.specs.View.{CompletesAtMost, DiskCause, HasLive, KeepsDurable, StaysAlike, disk_array};
-ghost use Rattle.zone_translator.specs.View.{disk_places, disk_size, disk_turns, flat_of, mounted_of};
+ghost use Rattle.zone_translator.specs.View.{CompletesAtMost, CostsBatches, DiskCause, HasLive, KeepsDurable, StaysAlike, disk_array};
+ghost use Rattle.zone_translator.specs.View.{disk_places, disk_size, disk_turns, flat_of, most_batches, mounted_of};
 ghost use Rattle.zone_translator.specs.declared.status.DiskStatus.TheVariants.{Serving};
 
 use crate::fault::DiskFault;
@@ -232,8 +230,7 @@ impl<D: Device + Drop> AnyDisk<D> {
         ensures taken { IfOk result (IsTaken self.old.drive.geometry rest.entry) }
         ensures alike { StaysAlike self.old self.new }
         ensures serves { OnOk result (self.new.status ≡ Serving) }
-        ensures completed { CompletesAtMost self.old
-            (batch_commands self.old.drive.geometry) self.new }
+        ensures completed { CostsBatches self.old 1 self.new }
     {
         match next_batch(&mut self.mounted, &mut self.cleaner, &mut self.batch, rest) {
             Ok(count) => Ok(count),
@@ -254,11 +251,11 @@ impl<D: Device + Drop> AnyDisk<D> {
             → Stores (is_trim content.entry) self.old first blocks result self.new }
         // It completes at most that many commands and, unless the drive stops, adds no turns to a clean that runs.
         ensures costs { IsTrue self.new.drive.clean → CostsAtMost self.old
-            (write_commands (is_trim content.entry) self.old blocks) result self.new }
+            (most_batches (is_trim content.entry) self.old blocks) result self.new }
         // Whatever the Reads returned, shape and size stay, and the commands have that bound.
         ensures alike { StaysAlike self.old self.new }
-        ensures completed { CompletesAtMost self.old
-            (write_commands (is_trim content.entry) self.old blocks) self.new }
+        ensures completed { CostsBatches self.old
+            (most_batches (is_trim content.entry) self.old blocks) self.new }
     {
         if self.is_done(first, blocks)? {
             return Ok(());
@@ -395,11 +392,11 @@ impl<D: Device + Drop> AnyDisk<D> {
             (fill self.old.drive.geometry.block first blocks byte) result self.new }
         ensures stores { IsTrue self.new.drive.clean → Stores false self.old first blocks result self.new }
         ensures costs { IsTrue self.new.drive.clean → CostsAtMost self.old
-            (write_commands false self.old blocks) result self.new }
+            (most_batches false self.old blocks) result self.new }
         // Whatever the Reads returned, shape and size stay, and the commands have that bound.
         ensures alike { StaysAlike self.old self.new }
-        ensures completed { CompletesAtMost self.old
-            (write_commands false self.old blocks) self.new }
+        ensures completed { CostsBatches self.old
+            (most_batches false self.old blocks) self.new }
     {
         self.write_all(first, blocks, Content::Byte(byte))
     }
@@ -417,11 +414,11 @@ impl<D: Device + Drop> AnyDisk<D> {
             (count_of_blocks self.old bytes.now) result self.new }
         // It completes at most that many commands and, unless the drive stops, adds no turns to a clean that runs.
         ensures costs { IsTrue self.new.drive.clean → CostsAtMost self.old
-            (write_commands false self.old (count_of_blocks self.old bytes.now)) result self.new }
+            (most_batches false self.old (count_of_blocks self.old bytes.now)) result self.new }
         // Whatever the Reads returned, shape and size stay, and the commands have that bound.
         ensures alike { StaysAlike self.old self.new }
-        ensures completed { CompletesAtMost self.old
-            (write_commands false self.old (count_of_blocks self.old bytes.now)) self.new }
+        ensures completed { CostsBatches self.old
+            (most_batches false self.old (count_of_blocks self.old bytes.now)) self.new }
     {
         let block = self.mounted.geometry().block as usize;
         self.write_all(first, (bytes.len() / block) as u64, Content::Bytes(bytes))
@@ -436,11 +433,11 @@ impl<D: Device + Drop> AnyDisk<D> {
             (trim self.old.drive.geometry.block first blocks) result self.new }
         ensures stores { IsTrue self.new.drive.clean → Stores true self.old first blocks result self.new }
         ensures costs { IsTrue self.new.drive.clean → CostsAtMost self.old
-            (write_commands true self.old blocks) result self.new }
+            (most_batches true self.old blocks) result self.new }
         // Whatever the Reads returned, shape and size stay, and the commands have that bound.
         ensures alike { StaysAlike self.old self.new }
-        ensures completed { CompletesAtMost self.old
-            (write_commands true self.old blocks) self.new }
+        ensures completed { CostsBatches self.old
+            (most_batches true self.old blocks) self.new }
     {
         self.write_all(first, blocks, Content::Trim)
     }
@@ -465,8 +462,7 @@ impl<D: Device + Drop> AnyDisk<D> {
         ensures taken { IfOk result (IsFrontOf left.entry.entries.now) }
         ensures alike { StaysAlike self.old self.new }
         ensures serves { OnOk result (self.new.status ≡ Serving) }
-        ensures completed { CompletesAtMost self.old
-            (batch_commands self.old.drive.geometry) self.new }
+        ensures completed { CostsBatches self.old 1 self.new }
     {
         match next_listed(&mut self.mounted, &mut self.cleaner, &mut self.batch, left) {
             Ok(taken) => Ok(taken),
@@ -533,11 +529,11 @@ impl<D: Device + Drop> AnyDisk<D> {
         ensures stores { IsTrue self.new.drive.clean → StoresList self.old entries.now result self.new }
         // It completes at most that many commands and, unless the drive stops, adds no turns to a clean that runs.
         ensures costs { IsTrue self.new.drive.clean → CostsAtMost self.old
-            (list_commands self.old (length entries.now)) result self.new }
+            (length entries.now) result self.new }
         // Whatever the Reads returned, shape and size stay, and the commands have that bound.
         ensures alike { StaysAlike self.old self.new }
-        ensures completed { CompletesAtMost self.old
-            (list_commands self.old (length entries.now)) self.new }
+        ensures completed { CostsBatches self.old
+            (length entries.now) self.new }
     {
         if self.is_list_done(entries)? {
             return Ok(());
@@ -598,8 +594,7 @@ impl<D: Device + Drop> AnyDisk<D> {
         ensures size { OnOk result (disk_size self.new ≡ blocks) }
         ensures same { OnErr result (disk_size self.new ≡ disk_size self.old) }
         ensures shape { KeepsShape self.old.drive self.new.drive }
-        ensures completed { CompletesAtMost self.old
-            (batch_commands self.old.drive.geometry) self.new }
+        ensures completed { CostsBatches self.old 1 self.new }
     {
         self.check_growth(blocks)?;
         let blocks = blocks as u32;

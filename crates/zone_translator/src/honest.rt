@@ -15,11 +15,9 @@ ghost use Rattle.zone_choice.specs.Roles.{empty_count};
 ghost use Rattle.zone_choice.specs.Tables.{is_left_out, size_of};
 ghost use Rattle.zone_translator.specs.Answers.{Answers, AnswersRead, AreBlocksOf, CostsAtMost, IsMounted};
 ghost use Rattle.zone_translator.specs.Answers.{KeepsClean, Remounts, SaysSize, Stores, TakesTurn};
-ghost use Rattle.zone_translator.specs.Answers.{StoresList, count_of_blocks, list_commands, write_bytes};
-ghost use Rattle.zone_translator.specs.Answers.{write_commands, write_content, write_entries};
+ghost use Rattle.zone_translator.specs.Answers.{StoresList, count_of_blocks, write_bytes, write_content, write_entries};
 ghost use Rattle.zone_translator.specs.Batches.{CanWrite, HasBlocks, KeepsCut, KeepsCutTo, is_trim};
 ghost use Rattle.zone_translator.specs.Calls.{IsSound, ReportsAll, answer_before, done_of, refusal_before, status_left};
-ghost use Rattle.zone_translator.specs.Changes.{batch_commands};
 ghost use Rattle.zone_translator.specs.Cleaning.{KeepsCleaning};
 ghost use Rattle.zone_translator.specs.Flat.{answer_while, fill, flush, grow, idle, known_blocks, known_growth};
 ghost use Rattle.zone_translator.specs.Flat.{blocks_from, known_range, report, trim};
@@ -27,8 +25,8 @@ ghost use Rattle.zone_translator.specs.Listed.{CanPutAll, PutSome, RefusedPuts, 
 ghost use Rattle.zone_translator.specs.Mount.{GivesBack};
 ghost use Rattle.zone_translator.specs.Parts.{KeepsByRead, ReadStops, ReadsPieces, RefusedSome, WroteSome};
 ghost use Rattle.zone_translator.specs.Read.{IsPiece};
-ghost use Rattle.zone_translator.specs.View.{CompletesAtMost, DiskCause, HasLive, KeepsDurable, disk_array};
-ghost use Rattle.zone_translator.specs.View.{disk_places, disk_size, disk_turns, flat_of, mounted_of};
+ghost use Rattle.zone_translator.specs.View.{CompletesAtMost, CostsBatches, DiskCause, HasLive, KeepsDurable, disk_array};
+ghost use Rattle.zone_translator.specs.View.{disk_places, disk_size, disk_turns, flat_of, most_batches, mounted_of};
 ghost use Rattle.zone_translator.specs.declared.status.DiskStatus.TheVariants.{Serving};
 
 use crate::disk::AnyDisk;
@@ -172,7 +170,7 @@ impl<D: Device + Honest + Drop> Disk<D> {
             (fill self.old.drive.geometry.block first blocks byte) result self.new }
         ensures stores { Stores false self.old first blocks result self.new }
         ensures costs { CostsAtMost self.old
-            (write_commands false self.old blocks) result self.new }
+            (most_batches false self.old blocks) result self.new }
     {
         let result = self.disk.fill(first, blocks, byte);
         self.disk.device().vouch();
@@ -191,7 +189,7 @@ impl<D: Device + Honest + Drop> Disk<D> {
             (count_of_blocks self.old bytes.now) result self.new }
         // It completes at most that many commands and, unless the drive stops, adds no turns to a clean that runs.
         ensures costs { CostsAtMost self.old
-            (write_commands false self.old (count_of_blocks self.old bytes.now)) result self.new }
+            (most_batches false self.old (count_of_blocks self.old bytes.now)) result self.new }
     {
         let result = self.disk.write(first, bytes);
         self.disk.device().vouch();
@@ -207,7 +205,7 @@ impl<D: Device + Honest + Drop> Disk<D> {
             (trim self.old.drive.geometry.block first blocks) result self.new }
         ensures stores { Stores true self.old first blocks result self.new }
         ensures costs { CostsAtMost self.old
-            (write_commands true self.old blocks) result self.new }
+            (most_batches true self.old blocks) result self.new }
     {
         let result = self.disk.trim(first, blocks);
         self.disk.device().vouch();
@@ -230,7 +228,7 @@ impl<D: Device + Honest + Drop> Disk<D> {
         ensures stores { StoresList self.old entries.now result self.new }
         // It completes at most that many commands and, unless the drive stops, adds no turns to a clean that runs.
         ensures costs { CostsAtMost self.old
-            (list_commands self.old (length entries.now)) result self.new }
+            (length entries.now) result self.new }
     {
         let result = self.disk.write_list(entries, bytes);
         self.disk.device().vouch();
@@ -251,8 +249,7 @@ impl<D: Device + Honest + Drop> Disk<D> {
         ensures fewer { IsTrue self.new.drive.unfailing → is_some self.old.clean ≡ true
             → disk_turns self.new ≤ disk_turns self.old }
         ensures clean { KeepsClean self.old self.new }
-        ensures completed { CompletesAtMost self.old
-            (batch_commands self.old.drive.geometry) self.new }
+        ensures completed { CostsBatches self.old 1 self.new }
     {
         let result = self.disk.grow(blocks);
         self.disk.device().vouch();

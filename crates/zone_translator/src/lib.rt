@@ -66,7 +66,7 @@
 //!   Moves are the only other new batches (`cut`, `LogsAreCut`).
 //! * Completed commands are at most, with c for 2 * `capacity` + 1: `n` for a read of `n` blocks; `n` * c for a write,
 //!   a fill or a list; ceil(`n` / `batch_most`) * c for a trim; c for a growth; 2 for a turn; 1 for a report or a flush
-//!   (`completed`).
+//!   (`completed`). Once a command failed, c is 2 * `capacity` * `zones` + 1, since zone after zone may be cleaned.
 //! * A `read_joined` answers as a `read` does. Done, it has sent one command at most for each piece: a block without
 //!   data, or a block and all its neighbours on the drive that one command reaches (`ReadsPieces` in specs/Parts).
 //! * An `idle` of a serving disk is exactly one turn of cleaning (`IsTurn`). Each completed turn leaves fewer turns, a

@@ -13,7 +13,7 @@ ghost use Rattle.zone_cleaner.specs.Start.{AgreesWithClean};
 ghost use Rattle.zone_states.specs.Geometry.{IsInRange};
 ghost use Rattle.zone_translator.specs.Answering.{MaySend, StaysOfSize};
 ghost use Rattle.zone_translator.specs.Batches.{IsRoom, KeepsCutTo};
-ghost use Rattle.zone_translator.specs.Changes.{IsCause, batch_commands};
+ghost use Rattle.zone_translator.specs.Changes.{IsCause, CostsBatch};
 ghost use Rattle.zone_translator.specs.Cleaning.{KeepsCleaning};
 ghost use Rattle.zone_translator.specs.Listed.{CanPutAll, IsFrontOf, IsNextListed, ListedLeaves, TakesMost};
 ghost use Rattle.zone_translator.specs.Listed.{blocks_named, last_block, listed_heading};
@@ -184,8 +184,7 @@ pub(crate) fn next_listed<D: Device>(
     ensures taken { IfOk result (λ taken. IsFrontOf left.entry.entries.now taken) }
     ensures stays { StaysOfSize disk.old disk.new }
     // It costs at most the commands of one batch.
-    ensures completed { disk.new.drive.completed
-        ≤ disk.old.drive.completed + batch_commands disk.old.drive.geometry }
+    ensures costs { CostsBatch disk.old.drive disk.new.drive }
 {
     let host = find_room(disk, cleaner)?;
     let taken = build_listed(disk, batch, host, left)?;

@@ -1,9 +1,10 @@
-ghost use Rattle.std.specs.Prelude.{◌≡◌, ◌+◌, ◌*◌, ◌≤◌, ◌<◌, IfOk, IfErr, IfSome, IfNone, IsTrue, OnOk, None, Some};
+ghost use Rattle.std.specs.Prelude.{◌≡◌, ◌+◌, ◌≤◌, ◌<◌, IfOk, IfErr, IfSome, IfNone, IsTrue, OnOk, None, Some};
 ghost use Rattle.std.specs.Prelude.{true};
 ghost use Rattle.zone_choice.specs.Agreement.{Agrees};
 ghost use Rattle.zone_choice.specs.Changes.{IsHalt, fault_halt};
 ghost use Rattle.zone_choice.specs.Roles.{AreApart};
 ghost use Rattle.zone_choice.specs.Sane.{IsSane};
+ghost use Rattle.zone_cleaner.specs.Answering.{CostsClean};
 ghost use Rattle.zone_cleaner.specs.Start.{AgreesWithClean, LacksZones};
 ghost use Rattle.zone_translator.specs.Answering.{StaysOfSize};
 ghost use Rattle.zone_translator.specs.Changes.{IsCause, IsHost, RetireLeaves, RoomLeaves, TakesHost, disk_fault};
@@ -93,10 +94,10 @@ fn find_host<D: Device>(disk: &mut Mounted<D>, cleaner: &mut Cleaner) -> Result<
     ensures err { IsTrue disk.new.drive.clean → IfErr result (IsCause disk.new.drive disk.new.tables.next) }
     // Then it adds no turns to a clean that ran.
     ensures clean { IsTrue disk.new.drive.clean → KeepsCleaning disk.old cleaner.old result disk.new cleaner.new }
-    // Whatever the Reads returned, the numbers stay in range. It costs at most the commands of a whole clean.
+    // Whatever the Reads returned, the numbers stay in range. It costs at most the commands of a whole clean, or of one
+    // for each zone, once a command failed.
     ensures stays { StaysOfSize disk.old disk.new }
-    ensures completed { disk.new.drive.completed + 2
-        ≤ disk.old.drive.completed + 2 * disk.old.drive.geometry.capacity }
+    ensures costs { CostsClean 2 disk.old.drive disk.new.drive }
 {
     if let Some(host) = take(disk) {
         return Ok(host);
@@ -125,10 +126,9 @@ pub(crate) fn make_room<D: Device>(
     ensures err { IsTrue disk.new.drive.clean → IfErr result (IsCause disk.new.drive disk.new.tables.next) }
     // Then it adds no turns to a clean that ran.
     ensures clean { IsTrue disk.new.drive.clean → KeepsCleaning disk.old cleaner.old result disk.new cleaner.new }
-    // Whatever the Reads returned, the numbers stay in range. It costs at most one command more than a whole clean.
+    // Whatever the Reads returned, the numbers stay in range. It costs at most one command more than `find_host`.
     ensures stays { StaysOfSize disk.old disk.new }
-    ensures completed { disk.new.drive.completed + 1
-        ≤ disk.old.drive.completed + 2 * disk.old.drive.geometry.capacity }
+    ensures costs { CostsClean 1 disk.old.drive disk.new.drive }
 {
     let Some(host) = host_of(disk) else {
         return find_host(disk, cleaner);

@@ -7,11 +7,12 @@ ghost use Rattle.zone_choice.specs.Sane.{IsSane};
 ghost use Rattle.zone_choice.specs.Tables.{SameButReady, size_of};
 ghost use Rattle.zone_cleaner.specs.Start.{AgreesWithClean};
 ghost use Rattle.zone_states.specs.Geometry.{IsInRange};
+ghost use Rattle.zone_cleaner.specs.Answering.{CostsClean};
 ghost use Rattle.zone_translator.specs.Answering.{MaySend, StaysInRange, StaysOfSize};
 ghost use Rattle.zone_translator.specs.Batches.{CanWrite, HasBytes, IsAfter, IsNextBatch, IsRoom, IsTaken, KeepsCut};
 ghost use Rattle.zone_translator.specs.Batches.{WritesRest, batch_count, bytes_of, header_of, is_trim, named_with};
 ghost use Rattle.zone_translator.specs.Batches.{next_count, next_heading};
-ghost use Rattle.zone_translator.specs.Changes.{GrowLeaves, IsCause, RoomLeaves, batch_commands};
+ghost use Rattle.zone_translator.specs.Changes.{CostsBatch, GrowLeaves, IsCause, RoomLeaves};
 ghost use Rattle.zone_translator.specs.Cleaning.{KeepsCleaning};
 
 use crate::fault::DiskFault;
@@ -100,9 +101,8 @@ pub(crate) fn find_room<D: Device>(
     ensures ok { IfOk result (IsRoom disk.new) }
     ensures apart { OnOk result (AreApart disk.new.tables.roles) }
     ensures stays { StaysOfSize disk.old disk.new }
-    // It costs at most one command more than a whole clean.
-    ensures completed { disk.new.drive.completed + 1
-        ≤ disk.old.drive.completed + 2 * disk.old.drive.geometry.capacity }
+    // It costs at most one command more than a whole clean, or than one for each zone, once a command failed.
+    ensures costs { CostsClean 1 disk.old.drive disk.new.drive }
 {
     let host = make_room(disk, cleaner)?;
     if !has_room(disk, host) {
@@ -229,8 +229,7 @@ pub(crate) fn next_batch<D: Device>(
     ensures count { IfOk result (IsTaken disk.old.drive.geometry rest.entry) }
     ensures stays { StaysOfSize disk.old disk.new }
     // It costs at most the commands of one batch.
-    ensures completed { disk.new.drive.completed
-        ≤ disk.old.drive.completed + batch_commands disk.old.drive.geometry }
+    ensures costs { CostsBatch disk.old.drive disk.new.drive }
 {
     let host = find_room(disk, cleaner)?;
     let count = build_batch(disk, batch, host, rest)?;
@@ -265,8 +264,7 @@ pub(crate) fn grow_batch<D: Device>(
     ensures same { OnErr result (size_of disk.new.tables ≡ size_of disk.old.tables) }
     ensures stays { StaysInRange disk.old disk.new }
     // It costs at most the commands of one batch.
-    ensures completed { disk.new.drive.completed
-        ≤ disk.old.drive.completed + batch_commands disk.old.drive.geometry }
+    ensures costs { CostsBatch disk.old.drive disk.new.drive }
 {
     // A disk has one block at least.
     if blocks == 0 {

@@ -132,10 +132,12 @@ pub fn place_records(
     ensures placed { IfOk result (λ tables. (drive : DriveState) (logs : List (List Batch))
         → drive.geometry ≡ geometry.now → Knows drive survey.now.given logs survey.now
         → IsPlaced geometry.now survey.now.given logs tables) }
-    // The number of zones is from the geometry, and the given number from the survey. There are few blocks.
+    // The number of zones is from the geometry, and the given number from the survey. There are few blocks, and none is
+    // noted as unreadable.
     ensures few { IfOk result (λ tables. size_of tables ≤ 2 ^ 31) }
     ensures zones { IfOk result (λ tables. tables.map.zones ≡ geometry.now.zones) }
     ensures given { IfOk result (λ tables. tables.given ≡ survey.now.given) }
+    ensures readable { IfOk result (λ tables. tables.unreadable ≡ []) }
 {
     let size = survey.size.min(MOST_BLOCKS);
     let mut tables = Tables::new(alloc, geometry.zones, geometry.size, size, survey.given)?;

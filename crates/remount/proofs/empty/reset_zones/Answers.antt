@@ -40,7 +40,7 @@ pub returns-in_err-reset_zone-clause-stays : goal.returns-in_err-reset_zone-clau
 returns-in_err-reset_zone-clause-stays g c =
     let kept = c.reset_zone.ensures.kept in
     let was = c.loop-zone.invariant.stays in
-    record { geometry = kept.geometry ∙ was.geometry; lawful = kept.lawful; trusted = λ clean. was.trusted (kept.trusted clean) }
+    record { geometry = kept.geometry ∙ was.geometry; lawful = kept.lawful; trusted = λ clean. was.trusted (kept.trusted clean); unfailing = λ up. was.unfailing (kept.unfailing up) }
 
 pub returns-clause-stays : goal.returns-clause-stays
 returns-clause-stays g c = c.loop-zone.invariant.stays

@@ -26,13 +26,13 @@ returns-clause-kept g c = λ known.
     (finish-done (g.D.Device.drive c.args.device.now) _ c.args.survey.now.zones.items c.args.zone _ known c.requires.in_range (c.start_of.ensures ∙ ap (λ (x : Geometry). c.args.zone * x.size) c.geometry-geometry.ensures.value) c.in_default.ensures.finished c.in_default.ensures.leaves c.in_default.ensures.obeys).kept
 
 pub returns-in-Err-clause-stays : goal.returns-in-Err-clause-stays
-returns-in-Err-clause-stays g c = record { geometry = c.in-Err.ensures.obeys.geometry; lawful = c.in-Err.ensures.obeys.lawful; trusted = c.in-Err.ensures.obeys.trusted }
+returns-in-Err-clause-stays g c = record { geometry = c.in-Err.ensures.obeys.geometry; lawful = c.in-Err.ensures.obeys.lawful; trusted = c.in-Err.ensures.obeys.trusted; unfailing = c.in-Err.ensures.obeys.unfailing }
 
 pub returns-in-Err-clause-count : goal.returns-in-Err-clause-count
 returns-in-Err-clause-count g c = record { zones = refl; scanned = refl }
 
 pub returns-clause-stays : goal.returns-clause-stays
-returns-clause-stays g c = record { geometry = c.in_default.ensures.obeys.geometry; lawful = c.in_default.ensures.obeys.lawful; trusted = c.in_default.ensures.obeys.trusted }
+returns-clause-stays g c = record { geometry = c.in_default.ensures.obeys.geometry; lawful = c.in_default.ensures.obeys.lawful; trusted = c.in_default.ensures.obeys.trusted; unfailing = c.in_default.ensures.obeys.unfailing }
 
 pub returns-clause-count : goal.returns-clause-count
 returns-clause-count g c = record { zones = length-set c.args.survey.now.zones.items c.args.zone _; scanned = refl }

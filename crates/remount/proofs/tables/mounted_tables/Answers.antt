@@ -28,4 +28,4 @@ pub returns-clause-sane : goal.returns-clause-sane
 returns-clause-sane c short least =
     let mounts = rw c.deref.ensures.value at c.in_ok-roles.ensures in
     let empties = ap (λ (r : RolesView). length r.empty) c.in_ok-roles.ensures.is ∙ length-empties _ _ ∙ sym c.in_ok-tables.ensures.zones in
-    rw c.begin.ensures (record { one_drive = empties; zones = c.in_ok-tables.ensures.zones; short = c.in_ok-tables.ensures.few; next = least; fillings_are = fillings-short c.args.survey.now.zones.items c.args.geometry.now c.in_ok-roles.roles mounts short })
+    rw c.begin.ensures (record { one_drive = empties; zones = c.in_ok-tables.ensures.zones; short = c.in_ok-tables.ensures.few; next = least; fillings_are = fillings-short c.args.survey.now.zones.items c.args.geometry.now c.in_ok-roles.roles mounts short; readable = c.in_ok-tables.ensures.readable })

@@ -76,13 +76,13 @@ returns-in-Ok-clause-tables g c =
     rw (← c.disk.view_is) (tables-appended (g.D.Device.drive c.disk.inside.device) c.disk.inside.tables c.grow_to.new.tables c.appended.new.self c.args.zone c.in-Ok.address c.place_blocks-blocks.result c.args.batch.now may alone size (rw c.size.ensures at c.grow_to.ensures) tables)
 
 pub returns-in-Ok-clause-stays : goal.returns-in-Ok-clause-stays
-returns-in-Ok-clause-stays g c = rw (← c.disk.view_is) (record { geometry = c.append.ensures.obeys.geometry; trusted = c.append.ensures.obeys.trusted })
+returns-in-Ok-clause-stays g c = rw (← c.disk.view_is) (record { geometry = c.append.ensures.obeys.geometry; trusted = c.append.ensures.obeys.trusted; unfailing = c.append.ensures.obeys.unfailing })
 
 pub returns-in-Err-clause-tables : goal.returns-in-Err-clause-tables
 returns-in-Err-clause-tables g c = rw (← c.disk.view_is) (inl refl)
 
 pub returns-in-Err-clause-stays : goal.returns-in-Err-clause-stays
-returns-in-Err-clause-stays g c = rw (← c.disk.view_is) (record { geometry = c.append.ensures.obeys.geometry; trusted = c.append.ensures.obeys.trusted })
+returns-in-Err-clause-stays g c = rw (← c.disk.view_is) (record { geometry = c.append.ensures.obeys.geometry; trusted = c.append.ensures.obeys.trusted; unfailing = c.append.ensures.obeys.unfailing })
 
 pub returns-in-Err-clause-leaves : goal.returns-in-Err-clause-leaves
 returns-in-Err-clause-leaves g c = λ clean.

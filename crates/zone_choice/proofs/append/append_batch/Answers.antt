@@ -18,4 +18,4 @@ returns-clause-leaves g c = λ clean. append-both _ _ _ c.args.zone c.args.batch
 pub returns-clause-sane : goal.returns-clause-sane
 returns-clause-sane g c =
     let may = may-built _ _ c.args.zone c.args.batch.now c.close_beside.ensures.stays c.in_ok-close_beside.ensures.alone c.requires.may in
-    after-sane _ _ c.args.zone _ _ c.append_alone.ensures.stays.geometry may c.append_alone.ensures.tables
+    after-sane _ _ c.args.zone _ _ c.append_alone.ensures.stays may c.append_alone.ensures.tables

@@ -8,7 +8,7 @@ pub returns-in_default-clause-leaves : goal.returns-in_default-clause-leaves
 returns-in_default-clause-leaves g c = λ clean. rw (← c.disk.view_is) (inl (sym c.in_default.ensures, refl))
 
 pub returns-in_default-clause-stays : goal.returns-in_default-clause-stays
-returns-in_default-clause-stays g c = record { geometry = refl; trusted = λ clean. clean }
+returns-in_default-clause-stays g c = record { geometry = refl; trusted = λ clean. clean; unfailing = λ up. up }
 
 pub returns-then-other-geometry-clause-leaves : goal.returns-then-other-geometry-clause-leaves
 returns-then-other-geometry-clause-leaves g c = λ clean.
@@ -18,7 +18,7 @@ returns-then-other-geometry-clause-leaves g c = λ clean.
     rw (← c.disk.view_is) (inr (c.in-Some.other, beside, other_full _ c.disk.inside.tables c.args.zone c.in-Some.other agrees filling beside (rw (c.geometry-geometry.ensures, ← c.disk.view_is) at c.if-other-geometry.true)))
 
 pub returns-then-other-geometry-clause-stays : goal.returns-then-other-geometry-clause-stays
-returns-then-other-geometry-clause-stays g c = rw (← c.disk.view_is) (record { geometry = refl; trusted = λ clean. clean })
+returns-then-other-geometry-clause-stays g c = rw (← c.disk.view_is) (record { geometry = refl; trusted = λ clean. clean; unfailing = λ up. up })
 
 pub returns-clause-leaves : goal.returns-clause-leaves
 returns-clause-leaves g c = λ clean.
@@ -29,7 +29,7 @@ returns-clause-leaves g c = λ clean.
     (inr (c.in-Some.other, beside, other_closed _ _ c.disk.inside.tables c.args.zone _ c.in-Some.other agrees filling beside (rw (c.start_of.ensures, c.geometry-geometry.ensures, ← c.disk.view_is) refl) c.close.ensures.kept c.in_default-close.ensures.leaves c.close.ensures.obeys.lawful c.close.ensures.obeys.unfailing c.close.ensures.obeys.durable c.in_default-close.ensures.closed.counts))
 
 pub returns-clause-stays : goal.returns-clause-stays
-returns-clause-stays g c = rw (← c.disk.view_is) (record { geometry = c.close.ensures.obeys.geometry; trusted = c.close.ensures.obeys.trusted })
+returns-clause-stays g c = rw (← c.disk.view_is) (record { geometry = c.close.ensures.obeys.geometry; trusted = c.close.ensures.obeys.trusted; unfailing = c.close.ensures.obeys.unfailing })
 
 pub returns-in-Err-clause-leaves : goal.returns-in-Err-clause-leaves
 returns-in-Err-clause-leaves g c = λ clean.
@@ -39,4 +39,4 @@ returns-in-Err-clause-leaves g c = λ clean.
     (halts.halt, subst (λ (m : MountedView). CloseBesideLeaves m.drive m.tables c.args.zone (g.D.Device.drive c.close.new.device) (Err (fault_halt c.in-Err.fault))) c.disk.view_is halts.leaves)
 
 pub returns-in-Err-clause-stays : goal.returns-in-Err-clause-stays
-returns-in-Err-clause-stays g c = rw (← c.disk.view_is) (record { geometry = c.close.ensures.obeys.geometry; trusted = c.close.ensures.obeys.trusted })
+returns-in-Err-clause-stays g c = rw (← c.disk.view_is) (record { geometry = c.close.ensures.obeys.geometry; trusted = c.close.ensures.obeys.trusted; unfailing = c.close.ensures.obeys.unfailing })

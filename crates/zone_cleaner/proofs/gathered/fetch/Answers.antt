@@ -1,12 +1,14 @@
-use Rattle.std.proofs.Common.{◌∙◌, ◌++◌, List, ℕ, ap, arith, length, refl}
+use Rattle.std.proofs.Common.{◌≡◌, ◌∙◌, ◌++◌, List, Result, Err, ℕ, ap, arith, length, refl}
 use Rattle.std.proofs.lemmas.List.{length-append}
+use Rattle.drive_port.specs.declared.calls.PortFault.{PortFault}
+use Rattle.zone_cleaner.specs.declared.fault.CleanFault.TheVariants as faults
 use Rattle.zone_cleaner.proofs.FetchLaws.{fetch_halts, fetch_reads, fetch_shown}
 use Rattle.zone_cleaner.proofs.gathered.fetch.Goals as goal
 
 pub returns-in-Err-clause-asks : goal.returns-in-Err-clause-asks
 returns-in-Err-clause-asks g c =
     let e = c.in-Err.ensures.read in
-    rw (← c.disk.view_is) (record { shape = record { geometry = e.obeys.geometry; trusted = e.obeys.trusted }; tables = refl; completed = e.obeys.completed })
+    rw (← c.disk.view_is) (record { shape = record { geometry = e.obeys.geometry; trusted = e.obeys.trusted; unfailing = e.obeys.unfailing }; tables = refl; completed = e.obeys.completed })
 
 pub returns-in-Err-clause-reads : goal.returns-in-Err-clause-reads
 returns-in-Err-clause-reads g c = λ clean.
@@ -19,12 +21,17 @@ returns-in-Err-clause-err g c = λ clean.
     let e = c.in-Err.ensures.read in
     let stored = (rw (← c.disk.view_is) at c.requires) (e.obeys.trusted clean) in
     let halts = fetch_halts (g.D.Device.drive c.disk.inside.device) _ c.disk.inside.tables c.args.block c.args.address _ c.in-Err.fault stored e.gives.given e.kept.contents e.kept.closing e.obeys e.taken in
-    rw (c.command_fault.ensures halts.halt) halts.cause
+    rw (c.command_fault.ensures.halt halts.halt) halts.cause
+
+pub returns-in-Err-clause-fails : goal.returns-in-Err-clause-fails
+returns-in-Err-clause-fails g c = λ failed.
+    let is : c.command_fault.result ≡ faults.Failed = (let e = failed in cc) in
+    (c.in-Err.ensures.read.obeys.fails (ap Err (c.command_fault.ensures.failed is))).0
 
 pub returns-clause-asks : goal.returns-clause-asks
 returns-clause-asks g c =
     let e = c.in_default.ensures.read in
-    rw (← c.disk.view_is) (record { shape = record { geometry = e.obeys.geometry; trusted = e.obeys.trusted }; tables = refl; completed = e.obeys.completed })
+    rw (← c.disk.view_is) (record { shape = record { geometry = e.obeys.geometry; trusted = e.obeys.trusted; unfailing = e.obeys.unfailing }; tables = refl; completed = e.obeys.completed })
 
 pub returns-clause-adds : goal.returns-clause-adds
 returns-clause-adds g c =

@@ -14,13 +14,13 @@ pub returns-in-Ok-clause-sane : goal.returns-in-Ok-clause-sane
 returns-in-Ok-clause-sane g c = mounted-sane (g.D.Device.drive c.disk.inside.device) (g.D.Device.drive c.mount.new.device) c.in-Ok.tables c.given.result c.mount.ensures.stays c.in-Ok.ensures.asked c.in-Ok.ensures.sane
 
 pub returns-in-Err-clause-sane : goal.returns-in-Err-clause-sane
-returns-in-Err-clause-sane g c = sane-same (g.D.Device.drive c.disk.inside.device) (g.D.Device.drive c.mount.new.device) c.disk.inside.tables c.mount.ensures.stays.geometry (rw (← c.disk.view_is) at c.requires)
+returns-in-Err-clause-sane g c = sane-same (g.D.Device.drive c.disk.inside.device) (g.D.Device.drive c.mount.new.device) c.disk.inside.tables (record { geometry = c.mount.ensures.stays.geometry; trusted = c.mount.ensures.stays.trusted; unfailing = c.mount.ensures.stays.unfailing }) (rw (← c.disk.view_is) at c.requires)
 
 pub returns-in-Ok-clause-shape : goal.returns-in-Ok-clause-shape
-returns-in-Ok-clause-shape g c = rw (← c.disk.view_is) (record { geometry = c.mount.ensures.stays.geometry; trusted = c.mount.ensures.stays.trusted })
+returns-in-Ok-clause-shape g c = rw (← c.disk.view_is) (record { geometry = c.mount.ensures.stays.geometry; trusted = c.mount.ensures.stays.trusted; unfailing = c.mount.ensures.stays.unfailing })
 
 pub returns-in-Err-clause-shape : goal.returns-in-Err-clause-shape
-returns-in-Err-clause-shape g c = rw (← c.disk.view_is) (record { geometry = c.mount.ensures.stays.geometry; trusted = c.mount.ensures.stays.trusted })
+returns-in-Err-clause-shape g c = rw (← c.disk.view_is) (record { geometry = c.mount.ensures.stays.geometry; trusted = c.mount.ensures.stays.trusted; unfailing = c.mount.ensures.stays.unfailing })
 
 pub returns-in-Ok-clause-ok : goal.returns-in-Ok-clause-ok
 returns-in-Ok-clause-ok g c = λ clean. rw (← c.disk.view_is, ← c.given.ensures) (c.in-Ok.ensures.ok clean)

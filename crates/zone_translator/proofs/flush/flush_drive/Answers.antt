@@ -9,7 +9,7 @@ pub returns-clause-durable : goal.returns-clause-durable
 returns-clause-durable g c = c.in_default.ensures.flushed.durable
 
 pub returns-clause-shape : goal.returns-clause-shape
-returns-clause-shape g c = rw (← c.disk.view_is) (record { geometry = c.in_default.ensures.kept.contents.geometry; trusted = c.in_default.ensures.trusted })
+returns-clause-shape g c = rw (← c.disk.view_is) (record { geometry = c.in_default.ensures.kept.contents.geometry; trusted = c.in_default.ensures.trusted; unfailing = c.in_default.ensures.unfailing })
 
 pub returns-in-Err-clause-kept : goal.returns-in-Err-clause-kept
 returns-in-Err-clause-kept g c = λ clean.
@@ -24,4 +24,4 @@ returns-in-Err-clause-err g c =
     rw (c.fault_of.ensures fails.halt) fails.cause
 
 pub returns-in-Err-clause-shape : goal.returns-in-Err-clause-shape
-returns-in-Err-clause-shape g c = rw (← c.disk.view_is) (record { geometry = c.in-Err.ensures.kept.contents.geometry; trusted = c.in-Err.ensures.trusted })
+returns-in-Err-clause-shape g c = rw (← c.disk.view_is) (record { geometry = c.in-Err.ensures.kept.contents.geometry; trusted = c.in-Err.ensures.trusted; unfailing = c.in-Err.ensures.unfailing })

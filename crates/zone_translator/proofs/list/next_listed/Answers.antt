@@ -4,6 +4,7 @@ use Rattle.drive_port.specs.Drive.{DriveState}
 use Rattle.zone_choice.specs.declared.roles.Filling.{Filling}
 use Rattle.zone_choice.specs.Changes.{built_for, fault_halt}
 use Rattle.zone_translator.proofs.CleaningLaws.{append-stays, stays-cleaning, stays-join}
+use Rattle.zone_translator.proofs.CostLaws.{costs-sent, costs-unsent}
 use Rattle.zone_translator.proofs.RangeLaws.{range-more}
 use Rattle.zone_translator.proofs.RoomLaws.{room-keeps}
 use Rattle.zone_translator.proofs.SendLaws.{range-appended, range-ready}
@@ -162,3 +163,17 @@ returns-in-Err-clause-stays g c =
     let says = c.in_ok-taken.ensures.size ∙ ap (λ n. Some n) (sym ready.size) in
     let sent = range-appended c.build_listed.new.disk c.append_batch.new.disk c.in_ok-host.host.zone (built_for c.build_listed.new.disk c.build_listed.new.batch) c.append_batch.result says c.append_batch.ensures.stays c.append_batch.ensures.sane c.append_batch.ensures.tables in
     range-more c.args.disk.now c.build_listed.new.disk c.append_batch.new.disk (range-more c.args.disk.now c.find_room.new.disk c.build_listed.new.disk found ready) sent
+
+-- ---- what it costs
+
+pub returns-in_err-host-clause-costs : goal.returns-in_err-host-clause-costs
+returns-in_err-host-clause-costs g c = costs-unsent c.args.disk.now.drive c.find_room.new.disk.drive c.find_room.ensures.costs
+
+pub returns-in_err-taken-clause-costs : goal.returns-in_err-taken-clause-costs
+returns-in_err-taken-clause-costs g c = rw c.build_listed.ensures.drive (costs-unsent c.args.disk.now.drive c.find_room.new.disk.drive c.find_room.ensures.costs)
+
+pub returns-in-Ok-clause-costs : goal.returns-in-Ok-clause-costs
+returns-in-Ok-clause-costs g c = costs-sent c.args.disk.now.drive c.build_listed.new.disk.drive c.append_batch.new.disk.drive (rw c.build_listed.ensures.drive c.find_room.ensures.costs) c.append_batch.ensures.stays.unfailing c.append_batch.ensures.completed
+
+pub returns-in-Err-clause-costs : goal.returns-in-Err-clause-costs
+returns-in-Err-clause-costs g c = costs-sent c.args.disk.now.drive c.build_listed.new.disk.drive c.append_batch.new.disk.drive (rw c.build_listed.ensures.drive c.find_room.ensures.costs) c.append_batch.ensures.stays.unfailing c.append_batch.ensures.completed

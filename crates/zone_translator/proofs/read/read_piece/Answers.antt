@@ -71,10 +71,10 @@ pub returns-clause-added : goal.returns-clause-added
 returns-clause-added g c = rw (← c.disk.view_is) c.in_default-read_extending.ensures.shown.length_is
 
 pub returns-in_default-clause-shape : goal.returns-in_default-clause-shape
-returns-in_default-clause-shape g c = record { geometry = refl; trusted = λ t. t }
+returns-in_default-clause-shape g c = record { geometry = refl; trusted = λ t. t; unfailing = λ up. up }
 
 pub returns-in-Err-clause-shape : goal.returns-in-Err-clause-shape
-returns-in-Err-clause-shape g c = rw (← c.disk.view_is) (record { geometry = c.in-Err.ensures.obeys.geometry; trusted = c.in-Err.ensures.obeys.trusted })
+returns-in-Err-clause-shape g c = rw (← c.disk.view_is) (record { geometry = c.in-Err.ensures.obeys.geometry; trusted = c.in-Err.ensures.obeys.trusted; unfailing = c.in-Err.ensures.obeys.unfailing })
 
 pub returns-clause-shape : goal.returns-clause-shape
-returns-clause-shape g c = rw (← c.disk.view_is) (record { geometry = c.read_extending.ensures.obeys.geometry; trusted = c.read_extending.ensures.obeys.trusted })
+returns-clause-shape g c = rw (← c.disk.view_is) (record { geometry = c.read_extending.ensures.obeys.geometry; trusted = c.read_extending.ensures.obeys.trusted; unfailing = c.read_extending.ensures.obeys.unfailing })

@@ -16,7 +16,7 @@ returns-clause-zones g c =
     rw (← c.disk.view_is) (reports-all (g.D.Device.drive c.disk.inside.device) _ _ _ sane.geometry c.in_default.ensures.obeys.was_lawful.count (omega (arith, zones)) c.in_default.ensures.shown)
 
 pub returns-clause-shape : goal.returns-clause-shape
-returns-clause-shape g c = rw (← c.disk.view_is) (record { geometry = c.in_default.ensures.obeys.geometry; trusted = c.in_default.ensures.obeys.trusted })
+returns-clause-shape g c = rw (← c.disk.view_is) (record { geometry = c.in_default.ensures.obeys.geometry; trusted = c.in_default.ensures.obeys.trusted; unfailing = c.in_default.ensures.obeys.unfailing })
 
 pub returns-in-Err-clause-kept : goal.returns-in-Err-clause-kept
 returns-in-Err-clause-kept g c = λ clean.
@@ -30,4 +30,4 @@ returns-in-Err-clause-err g c =
     rw (c.fault_of.ensures fails.halt) fails.cause
 
 pub returns-in-Err-clause-shape : goal.returns-in-Err-clause-shape
-returns-in-Err-clause-shape g c = rw (← c.disk.view_is) (record { geometry = c.in-Err.ensures.obeys.geometry; trusted = c.in-Err.ensures.obeys.trusted })
+returns-in-Err-clause-shape g c = rw (← c.disk.view_is) (record { geometry = c.in-Err.ensures.obeys.geometry; trusted = c.in-Err.ensures.obeys.trusted; unfailing = c.in-Err.ensures.obeys.unfailing })

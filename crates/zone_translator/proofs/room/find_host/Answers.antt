@@ -3,10 +3,11 @@ use Rattle.std.specs.Prelude.{IsTrue}
 use Rattle.drive_port.specs.Drive.{DriveState}
 use Rattle.zone_choice.specs.Agreement.{MountedView}
 use Rattle.zone_choice.specs.declared.roles.Filling.{Filling}
-use Rattle.zone_cleaner.specs.Answering.{CleanAnswers}
+use Rattle.zone_cleaner.specs.Answering.{CleanAnswers, CostsClean}
 use Rattle.zone_cleaner.specs.Start.{CleanLeaves, KeepsByCleaning}
 use Rattle.zone_translator.specs.Answering.{StaysOfSize}
 use Rattle.zone_translator.proofs.CleaningLaws.{stays-cleaning, stays-join, zone-fails, zone-stays}
+use Rattle.zone_translator.proofs.CostLaws.{costs-few}
 use Rattle.zone_translator.proofs.RangeLaws.{range-cleaned, range-more, range-take}
 use Rattle.zone_translator.proofs.RoomLaws.{clean_cause, room-cleaned, room-join, take_gives}
 use Rattle.zone_translator.proofs.room.find_host.Goals as goal
@@ -32,8 +33,8 @@ returns-in-Some-clause-clean g c = λ clean.
 pub returns-in-Some-clause-stays : goal.returns-in-Some-clause-stays
 returns-in-Some-clause-stays g c = range-take c.args.disk.now c.take.new.disk c.in-Some.host c.requires.host c.take.ensures.drive c.in-Some.ensures.some c.requires.sane
 
-pub returns-in-Some-clause-completed : goal.returns-in-Some-clause-completed
-returns-in-Some-clause-completed g c = rw c.take.ensures.drive (omega (arith, c.requires.sane.geometry.capacity))
+pub returns-in-Some-clause-costs : goal.returns-in-Some-clause-costs
+returns-in-Some-clause-costs g c = costs-few 2 c.args.disk.now.drive c.take.new.disk.drive c.requires.sane.geometry (omega arith) (rw c.take.ensures.drive (omega arith))
 
 -- ---- one is cleaned
 
@@ -65,8 +66,8 @@ returns-in-Err-clause-clean g c = λ clean.
 pub returns-in-Err-clause-stays : goal.returns-in-Err-clause-stays
 returns-in-Err-clause-stays g c = subst (λ (d : MountedView). StaysOfSize d c.clean_zone.new.disk) c.in_default.ensures.none.1 (range-cleaned c.take.new.disk c.clean_zone.new.disk c.clean_zone.ensures.stays)
 
-pub returns-in-Err-clause-completed : goal.returns-in-Err-clause-completed
-returns-in-Err-clause-completed g c = subst (λ (d : MountedView). c.clean_zone.new.disk.drive.completed + 2 ≤ d.drive.completed + 2 * d.drive.geometry.capacity) c.in_default.ensures.none.1 c.clean_zone.ensures.completed
+pub returns-in-Err-clause-costs : goal.returns-in-Err-clause-costs
+returns-in-Err-clause-costs g c = subst (λ (d : MountedView). CostsClean 2 d.drive c.clean_zone.new.disk.drive) c.in_default.ensures.none.1 c.clean_zone.ensures.costs
 
 -- ---- the zone that it leaves is taken
 
@@ -106,3 +107,8 @@ returns-in-Some-take-clause-stays g c =
     let none = c.clean_zone.ensures.stays.host (rw c.in_default.ensures.none.1 c.in_default.ensures.none.0.host) in
     range-more c.args.disk.now middle c.take-2.new.disk (subst (λ (d : MountedView). StaysOfSize d middle) c.in_default.ensures.none.1 (range-cleaned c.take.new.disk middle c.clean_zone.ensures.stays))
     (range-take middle c.take-2.new.disk c.in-Some-take.host none c.take-2.ensures.drive c.in-Some-take.ensures.some c.clean_zone.ensures.stays.sane)
+
+pub returns-in-Some-take-clause-costs : goal.returns-in-Some-take-clause-costs
+returns-in-Some-take-clause-costs g c =
+    let costs = subst (λ (d : MountedView). CostsClean 2 d.drive c.clean_zone.new.disk.drive) c.in_default.ensures.none.1 c.clean_zone.ensures.costs in
+    rw c.take-2.ensures.drive costs

@@ -1,8 +1,9 @@
-use Rattle.std.proofs.Common.{Ok}
+use Rattle.std.proofs.Common.{Ok, arith}
 use Rattle.zone_choice.specs.declared.roles.Filling.{Filling}
 use Rattle.zone_choice.proofs.ChangeLaws.{keeps-refl}
 use Rattle.zone_cleaner.proofs.TurnLaws.{keeps-none}
 use Rattle.zone_translator.proofs.CleaningLaws.{array-first, array-stays, stays-cleaning}
+use Rattle.zone_translator.proofs.CostLaws.{costs-after, costs-few, costs-less}
 use Rattle.zone_translator.proofs.RangeLaws.{range-more, range-same}
 use Rattle.zone_translator.proofs.RoomLaws.{keeps-serving, retire_clean, retire_room, room-join}
 use Rattle.zone_translator.proofs.room.make_room.Goals as goal
@@ -48,3 +49,17 @@ returns-clause-clean g c = λ clean.
 
 pub returns-clause-stays : goal.returns-clause-stays
 returns-clause-stays g c = range-more c.args.disk.now c.retire.new.disk c.find_host-2.new.disk c.retire.ensures.stays c.find_host-2.ensures.stays
+
+-- ---- what it costs
+
+pub returns-in_default-clause-costs : goal.returns-in_default-clause-costs
+returns-in_default-clause-costs g c = costs-less c.args.disk.now.drive c.find_host.new.disk.drive c.find_host.ensures.costs
+
+pub returns-then-host-geometry-clause-costs : goal.returns-then-host-geometry-clause-costs
+returns-then-host-geometry-clause-costs g c = costs-few 1 c.args.disk.now.drive c.args.disk.now.drive c.requires.sane.geometry (omega arith) (omega arith)
+
+pub returns-in-Err-clause-costs : goal.returns-in-Err-clause-costs
+returns-in-Err-clause-costs g c = costs-few 1 c.args.disk.now.drive c.retire.new.disk.drive c.requires.sane.geometry (omega arith) c.retire.ensures.completed
+
+pub returns-clause-costs : goal.returns-clause-costs
+returns-clause-costs g c = costs-after c.args.disk.now.drive c.retire.new.disk.drive c.find_host-2.new.disk.drive c.retire.ensures.stays.range.shape.geometry c.retire.ensures.completed c.find_host-2.ensures.costs

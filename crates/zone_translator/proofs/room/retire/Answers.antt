@@ -22,7 +22,7 @@ returns-then-host-geometry-clause-leaves g c = λ clean.
 pub returns-then-host-geometry-clause-stays : goal.returns-then-host-geometry-clause-stays
 returns-then-host-geometry-clause-stays g c =
     let drive = g.D.Device.drive c.disk.inside.device in
-    rw (← c.disk.view_is) (range-seal drive drive c.disk.inside.tables c.seal.new.self refl (λ t. t) c.seal.ensures (rw (← c.disk.view_is) at c.requires.sane))
+    rw (← c.disk.view_is) (range-seal drive drive c.disk.inside.tables c.seal.new.self (record { geometry = refl; trusted = λ t. t; unfailing = λ up. up }) c.seal.ensures (rw (← c.disk.view_is) at c.requires.sane))
 
 -- ---- it is finished
 
@@ -53,7 +53,7 @@ pub returns-in-Err-clause-stays : goal.returns-in-Err-clause-stays
 returns-in-Err-clause-stays g c =
     let after = mounted (g.D.Device.drive c.finish.new.device) c.disk.inside.tables in
     subst (λ (before : MountedView). StaysOfSize before after) c.disk.view_is
-    (range-sent (g.D.Device.drive c.disk.inside.device) (g.D.Device.drive c.finish.new.device) c.disk.inside.tables c.finish.ensures.obeys.geometry c.finish.ensures.obeys.trusted (rw (← c.disk.view_is) at c.requires.sane))
+    (range-sent (g.D.Device.drive c.disk.inside.device) (g.D.Device.drive c.finish.new.device) c.disk.inside.tables (record { geometry = c.finish.ensures.obeys.geometry; trusted = c.finish.ensures.obeys.trusted; unfailing = c.finish.ensures.obeys.unfailing }) (rw (← c.disk.view_is) at c.requires.sane))
 
 pub returns-clause-leaves : goal.returns-clause-leaves
 returns-clause-leaves g c = λ clean.
@@ -68,4 +68,4 @@ returns-clause-leaves g c = λ clean.
 
 pub returns-clause-stays : goal.returns-clause-stays
 returns-clause-stays g c =
-    rw (← c.disk.view_is) (range-seal (g.D.Device.drive c.disk.inside.device) (g.D.Device.drive c.finish.new.device) c.disk.inside.tables c.seal-2.new.self c.finish.ensures.obeys.geometry c.finish.ensures.obeys.trusted c.seal-2.ensures (rw (← c.disk.view_is) at c.requires.sane))
+    rw (← c.disk.view_is) (range-seal (g.D.Device.drive c.disk.inside.device) (g.D.Device.drive c.finish.new.device) c.disk.inside.tables c.seal-2.new.self (record { geometry = c.finish.ensures.obeys.geometry; trusted = c.finish.ensures.obeys.trusted; unfailing = c.finish.ensures.obeys.unfailing }) c.seal-2.ensures (rw (← c.disk.view_is) at c.requires.sane))

@@ -1,4 +1,5 @@
 use Rattle.std.proofs.Common.{◌∙◌, Err, Ok, ap, refl, rules, arith, true}
+use Rattle.zone_translator.proofs.CostLaws.{costs-nothing, costs-sent, costs-unsent}
 use Rattle.zone_translator.proofs.BatchLaws.{host-heading}
 use Rattle.zone_translator.proofs.CleaningLaws.{append-stays, cleaning-stays, stays-cleaning, stays-join}
 use Rattle.zone_choice.specs.declared.roles.Filling.{Filling}
@@ -127,4 +128,21 @@ pub returns-then-blocks-eq0-clause-clean : goal.returns-then-blocks-eq0-clause-c
 returns-then-blocks-eq0-clause-clean g c = λ clean. absurd (omega (arith, (c.requires.reserve clean).0, c.if-blocks-eq0.true))
 
 pub returns-then-blocks-eq0-clause-stays : goal.returns-then-blocks-eq0-clause-stays
-returns-then-blocks-eq0-clause-stays g c = record { shape = record { geometry = refl; trusted = λ t. t }; sane = c.requires.sane; given = refl }
+returns-then-blocks-eq0-clause-stays g c = record { shape = record { geometry = refl; trusted = λ t. t; unfailing = λ up. up }; sane = c.requires.sane; given = refl }
+
+-- ---- what it costs
+
+pub returns-in_err-host-clause-costs : goal.returns-in_err-host-clause-costs
+returns-in_err-host-clause-costs g c = costs-unsent c.args.disk.now.drive c.find_room.new.disk.drive c.find_room.ensures.costs
+
+pub returns-in_err-encode-clause-costs : goal.returns-in_err-encode-clause-costs
+returns-in_err-encode-clause-costs g c = costs-unsent c.args.disk.now.drive c.find_room.new.disk.drive c.find_room.ensures.costs
+
+pub returns-then-blocks-eq0-clause-costs : goal.returns-then-blocks-eq0-clause-costs
+returns-then-blocks-eq0-clause-costs g c = costs-nothing c.args.disk.now.drive
+
+pub returns-in-Ok-clause-costs : goal.returns-in-Ok-clause-costs
+returns-in-Ok-clause-costs g c = costs-sent c.args.disk.now.drive c.find_room.new.disk.drive c.append_batch.new.disk.drive c.find_room.ensures.costs c.append_batch.ensures.stays.unfailing c.append_batch.ensures.completed
+
+pub returns-in-Err-clause-costs : goal.returns-in-Err-clause-costs
+returns-in-Err-clause-costs g c = costs-sent c.args.disk.now.drive c.find_room.new.disk.drive c.append_batch.new.disk.drive c.find_room.ensures.costs c.append_batch.ensures.stays.unfailing c.append_batch.ensures.completed

@@ -13,7 +13,7 @@ returns-in-Ok-clause-ok g c = λ clean.
     takes-all old (g.D.Device.drive c.append.new.device) c.args.zone _ _ c.args.batch.now _ c.bytes.ensures (c.start_of-start.ensures ∙ ap (λ (x : Geometry). c.args.zone * x.size) c.geometry.ensures.value) (c.requires.can (c.in-Ok.ensures.obeys.trusted clean)) c.in-Ok.ensures.appended c.in-Ok.ensures.leaves c.in-Ok.ensures.obeys.lawful c.in-Ok.ensures.obeys.durable
 
 pub returns-in-Ok-clause-stays : goal.returns-in-Ok-clause-stays
-returns-in-Ok-clause-stays g c = record { geometry = c.in-Ok.ensures.obeys.geometry; lawful = c.in-Ok.ensures.obeys.lawful; trusted = c.in-Ok.ensures.obeys.trusted }
+returns-in-Ok-clause-stays g c = record { geometry = c.in-Ok.ensures.obeys.geometry; lawful = c.in-Ok.ensures.obeys.lawful; trusted = c.in-Ok.ensures.obeys.trusted; unfailing = c.in-Ok.ensures.obeys.unfailing }
 
 pub returns-in-Err-clause-left : goal.returns-in-Err-clause-left
 returns-in-Err-clause-left g c = λ clean.
@@ -31,4 +31,4 @@ returns-in-Err-clause-err g c = λ clean.
     rw (c.fault_or_damaged.ensures h.halt) h.cause
 
 pub returns-in-Err-clause-stays : goal.returns-in-Err-clause-stays
-returns-in-Err-clause-stays g c = record { geometry = c.in-Err.ensures.obeys.geometry; lawful = c.in-Err.ensures.obeys.lawful; trusted = c.in-Err.ensures.obeys.trusted }
+returns-in-Err-clause-stays g c = record { geometry = c.in-Err.ensures.obeys.geometry; lawful = c.in-Err.ensures.obeys.lawful; trusted = c.in-Err.ensures.obeys.trusted; unfailing = c.in-Err.ensures.obeys.unfailing }

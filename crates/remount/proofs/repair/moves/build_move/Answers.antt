@@ -18,10 +18,10 @@ pub returns-in_err-encode-clause-kept : goal.returns-in_err-encode-clause-kept
 returns-in_err-encode-clause-kept g c = λ can. keeps-none (g.D.Device.drive c.args.device.now) can.known.lawful
 
 pub returns-in_err-name_records-clause-stays : goal.returns-in_err-name_records-clause-stays
-returns-in_err-name_records-clause-stays g c = record { geometry = refl; lawful = c.geometry-block_bytes.ensures.lawful; trusted = λ clean. clean }
+returns-in_err-name_records-clause-stays g c = record { geometry = refl; lawful = c.geometry-block_bytes.ensures.lawful; trusted = λ clean. clean; unfailing = λ up. up }
 
 pub returns-in_err-encode-clause-stays : goal.returns-in_err-encode-clause-stays
-returns-in_err-encode-clause-stays g c = record { geometry = refl; lawful = c.geometry-block_bytes.ensures.lawful; trusted = λ clean. clean }
+returns-in_err-encode-clause-stays g c = record { geometry = refl; lawful = c.geometry-block_bytes.ensures.lawful; trusted = λ clean. clean; unfailing = λ up. up }
 
 pub returns-clause-shaped : goal.returns-clause-shaped
 returns-clause-shaped g c =

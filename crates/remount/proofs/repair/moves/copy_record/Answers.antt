@@ -17,20 +17,20 @@ returns-in_default g c =
       err = λ known is. tt;
       heading = refl;
       kept = λ known. keeps-none old known.lawful;
-      stays = record { geometry = refl; lawful = c.geometry-geometry.ensures.lawful; trusted = λ clean. clean };
+      stays = record { geometry = refl; lawful = c.geometry-geometry.ensures.lawful; trusted = λ clean. clean; unfailing = λ up. up };
     }
 
 pub returns-then-address-start-clause-kept : goal.returns-then-address-start-clause-kept
 returns-then-address-start-clause-kept g c = λ known. keeps-none _ known.lawful
 
 pub returns-then-address-start-clause-stays : goal.returns-then-address-start-clause-stays
-returns-then-address-start-clause-stays g c = record { geometry = refl; lawful = c.geometry-geometry.ensures.lawful; trusted = λ clean. clean }
+returns-then-address-start-clause-stays g c = record { geometry = refl; lawful = c.geometry-geometry.ensures.lawful; trusted = λ clean. clean; unfailing = λ up. up }
 
 pub returns-then-offset-zone-clause-kept : goal.returns-then-offset-zone-clause-kept
 returns-then-offset-zone-clause-kept g c = λ known. keeps-none _ known.lawful
 
 pub returns-then-offset-zone-clause-stays : goal.returns-then-offset-zone-clause-stays
-returns-then-offset-zone-clause-stays g c = record { geometry = refl; lawful = c.geometry-geometry.ensures.lawful; trusted = λ clean. clean }
+returns-then-offset-zone-clause-stays g c = record { geometry = refl; lawful = c.geometry-geometry.ensures.lawful; trusted = λ clean. clean; unfailing = λ up. up }
 
 pub returns-in-Err-clause-err : goal.returns-in-Err-clause-err
 returns-in-Err-clause-err g c = λ known is.
@@ -46,13 +46,13 @@ returns-in-Err-clause-kept g c = λ known.
     (read-halts old _ c.args.zone.number (c.in-At.address - c.start_of-start.result) c.in-At.address c.args.zone.reported _ c.in-Err.fault known (omega (arith, c.if-offset-zone.false)) (omega (arith, start, c.if-address-start.false)) c.in-Err.ensures.gives c.read.ensures.kept.closing c.in-Err.ensures.obeys c.in-Err.ensures.taken).kept
 
 pub returns-in-Err-clause-stays : goal.returns-in-Err-clause-stays
-returns-in-Err-clause-stays g c = record { geometry = c.in-Err.ensures.obeys.geometry; lawful = c.in-Err.ensures.obeys.lawful; trusted = c.in-Err.ensures.obeys.trusted }
+returns-in-Err-clause-stays g c = record { geometry = c.in-Err.ensures.obeys.geometry; lawful = c.in-Err.ensures.obeys.lawful; trusted = c.in-Err.ensures.obeys.trusted; unfailing = c.in-Err.ensures.obeys.unfailing }
 
 pub returns-in_err-copy-clause-kept : goal.returns-in_err-copy-clause-kept
 returns-in_err-copy-clause-kept g c = λ known. read-kept _ _ c.in_default-read.ensures.obeys c.read.ensures.kept.closing c.in_default-read.ensures.shown.counts
 
 pub returns-in_err-copy-clause-stays : goal.returns-in_err-copy-clause-stays
-returns-in_err-copy-clause-stays g c = record { geometry = c.in_default-read.ensures.obeys.geometry; lawful = c.in_default-read.ensures.obeys.lawful; trusted = c.in_default-read.ensures.obeys.trusted }
+returns-in_err-copy-clause-stays g c = record { geometry = c.in_default-read.ensures.obeys.geometry; lawful = c.in_default-read.ensures.obeys.lawful; trusted = c.in_default-read.ensures.obeys.trusted; unfailing = c.in_default-read.ensures.obeys.unfailing }
 
 pub returns-clause-bytes : goal.returns-clause-bytes
 returns-clause-bytes g c = λ clean known is.
@@ -77,4 +77,4 @@ pub returns-clause-kept : goal.returns-clause-kept
 returns-clause-kept g c = λ known. read-kept _ _ c.in_default-read.ensures.obeys c.read.ensures.kept.closing c.in_default-read.ensures.shown.counts
 
 pub returns-clause-stays : goal.returns-clause-stays
-returns-clause-stays g c = record { geometry = c.in_default-read.ensures.obeys.geometry; lawful = c.in_default-read.ensures.obeys.lawful; trusted = c.in_default-read.ensures.obeys.trusted }
+returns-clause-stays g c = record { geometry = c.in_default-read.ensures.obeys.geometry; lawful = c.in_default-read.ensures.obeys.lawful; trusted = c.in_default-read.ensures.obeys.trusted; unfailing = c.in_default-read.ensures.obeys.unfailing }

@@ -21,7 +21,7 @@ returns-in-Err-clause-kept g c =
     reset-halts n start now (g.D.Device.drive c.reset.new.device) tables c.args.plan.now heads _ c.in-Err.fault a can.at c.in-Err.ensures.kept c.in-Err.ensures.leaves c.in-Err.ensures.obeys (c.in-Err.ensures.taken (can-reset now c.args.plan.now.torn _ can.at can.usable))
 
 pub returns-in-Err-clause-stays : goal.returns-in-Err-clause-stays
-returns-in-Err-clause-stays g c = record { geometry = c.in-Err.ensures.obeys.geometry; lawful = c.in-Err.ensures.obeys.lawful; trusted = c.in-Err.ensures.obeys.trusted }
+returns-in-Err-clause-stays g c = record { geometry = c.in-Err.ensures.obeys.geometry; lawful = c.in-Err.ensures.obeys.lawful; trusted = c.in-Err.ensures.obeys.trusted; unfailing = c.in-Err.ensures.obeys.unfailing }
 
 pub returns-clause-ok : goal.returns-clause-ok
 returns-clause-ok g c =
@@ -38,4 +38,4 @@ returns-clause-kept g c =
     emptied-mountable n start now (g.D.Device.drive c.reset.new.device) tables c.args.plan.now heads a c.in_default.ensures.reset.geometry c.in_default.ensures.obeys.lawful c.in_default.ensures.reset.counts.refused c.in_default.ensures.obeys.durable (rw can.at.index at c.in_default.ensures.reset.contents)
 
 pub returns-clause-stays : goal.returns-clause-stays
-returns-clause-stays g c = record { geometry = c.in_default.ensures.obeys.geometry; lawful = c.in_default.ensures.obeys.lawful; trusted = c.in_default.ensures.obeys.trusted }
+returns-clause-stays g c = record { geometry = c.in_default.ensures.obeys.geometry; lawful = c.in_default.ensures.obeys.lawful; trusted = c.in_default.ensures.obeys.trusted; unfailing = c.in_default.ensures.obeys.unfailing }

@@ -25,6 +25,11 @@ returns-clause-placed c drive logs same knows =
       unreadable = kept.unreadable ∙ ap (λ (t : TablesView). t.unreadable) begun ∙ fresh.unreadable;
     }
 
+pub returns-clause-readable : goal.returns-clause-readable
+returns-clause-readable c =
+    let begun : c.reserve_zones.new.tables ≡ c.in_ok-tables.tables = c.reserve_zones.ensures in
+    c.in_ok-place_batches.ensures.kept.unreadable ∙ ap (λ (t : TablesView). t.unreadable) begun ∙ c.in_ok-tables.ensures.unreadable
+
 pub returns-clause-few : goal.returns-clause-few
 returns-clause-few c =
     let fresh = c.in_ok-tables.ensures in

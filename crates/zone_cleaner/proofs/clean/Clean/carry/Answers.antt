@@ -169,7 +169,7 @@ returns-in-Err-append_batch-clause-leaves g c = λ clean.
     let at = c.requires.at (rw (← c.disk.view_is) (c.append_batch.ensures.stays.trusted clean)) in
     let leaves = c.in-Err-append_batch.ensures.leaves clean in
     let left = subst (λ (m : MountedView). BatchLeaves m c.append_batch.new.disk f.zone (built_for m batch) (Err (fault_halt c.in-Err-append_batch.fault))) same leaves.1 in
-    (rw (c.command_fault.ensures leaves.0) (carry_failed c.args.disk.now c.append_batch.new.disk c.args.self.now f batch (fault_halt c.in-Err-append_batch.fault) (k at) left), rw (c.in_default-build.ensures.records, ← c.self.view_is, c.truncate.ensures.items, c.in_default-note_move.ensures.ok, take_at c.self.inside.moved.items (map (entry_moved c.reserve_moves.new.self.map.places) c.entries.result.now) c.len-before.result (omega (arith, c.len-before.ensures, c.self.inside.moved.ok))) refl)
+    (rw (c.command_fault.ensures.halt leaves.0) (carry_failed c.args.disk.now c.append_batch.new.disk c.args.self.now f batch (fault_halt c.in-Err-append_batch.fault) (k at) left), rw (c.in_default-build.ensures.records, ← c.self.view_is, c.truncate.ensures.items, c.in_default-note_move.ensures.ok, take_at c.self.inside.moved.items (map (entry_moved c.reserve_moves.new.self.map.places) c.entries.result.now) c.len-before.result (omega (arith, c.len-before.ensures, c.self.inside.moved.ok))) refl)
 
 pub returns-in-Ok-clause-stays : goal.returns-in-Ok-clause-stays
 returns-in-Ok-clause-stays g c =

@@ -13,12 +13,12 @@ returns-in-Err-clause-err g c = λ clean.
     let due = reset-due (mounted old c.disk.inside.tables) (batch_most old.geometry) c.args.self.now at.due in
     let e = c.in-Err.ensures in
     let halts = reset_fails old _ c.disk.inside.tables c.args.self.now _ c.in-Err.fault at.agrees at.clean_is due (rw (c.start_of-start.ensures, c.geometry.ensures, ← c.disk.view_is, ← c.self.view_is) refl) e.gives e.kept e.leaves e.obeys e.taken in
-    rw (c.command_fault.ensures halts.halt, ← c.disk.view_is) halts.fails
+    rw (c.command_fault.ensures.halt halts.halt, ← c.disk.view_is) halts.fails
 
 pub returns-in-Err-clause-stays : goal.returns-in-Err-clause-stays
 returns-in-Err-clause-stays g c = record {
-  shape = rw (← c.disk.view_is) (record { geometry = c.reset.ensures.obeys.geometry; trusted = c.reset.ensures.obeys.trusted });
-  sane = sane-same (g.D.Device.drive c.disk.inside.device) _ c.disk.inside.tables c.reset.ensures.obeys.geometry (rw (← c.disk.view_is) at c.requires.sane);
+  shape = rw (← c.disk.view_is) (record { geometry = c.reset.ensures.obeys.geometry; trusted = c.reset.ensures.obeys.trusted; unfailing = c.reset.ensures.obeys.unfailing });
+  sane = sane-same (g.D.Device.drive c.disk.inside.device) _ c.disk.inside.tables (record { geometry = c.reset.ensures.obeys.geometry; trusted = c.reset.ensures.obeys.trusted; unfailing = c.reset.ensures.obeys.unfailing }) (rw (← c.disk.view_is) at c.requires.sane);
   size = rw (← c.disk.view_is) refl;
   given = rw (← c.disk.view_is) refl;
   host = rw (← c.disk.view_is) (λ none. none);
@@ -34,8 +34,8 @@ returns-clause-ok g c = λ clean.
 
 pub returns-clause-stays : goal.returns-clause-stays
 returns-clause-stays g c = record {
-  shape = rw (← c.disk.view_is) (record { geometry = c.reset.ensures.obeys.geometry; trusted = c.reset.ensures.obeys.trusted });
-  sane = rw c.end_clean.ensures (sane-ended (g.D.Device.drive c.disk.inside.device) _ c.disk.inside.tables _ c.reset.ensures.obeys.geometry (rw (← c.disk.view_is) at c.requires.sane));
+  shape = rw (← c.disk.view_is) (record { geometry = c.reset.ensures.obeys.geometry; trusted = c.reset.ensures.obeys.trusted; unfailing = c.reset.ensures.obeys.unfailing });
+  sane = rw c.end_clean.ensures (sane-ended (g.D.Device.drive c.disk.inside.device) _ c.disk.inside.tables _ (record { geometry = c.reset.ensures.obeys.geometry; trusted = c.reset.ensures.obeys.trusted; unfailing = c.reset.ensures.obeys.unfailing }) (rw (← c.disk.view_is) at c.requires.sane));
   size = rw (← c.disk.view_is, c.end_clean.ensures) refl;
   given = rw (← c.disk.view_is, c.end_clean.ensures) refl;
   host = rw (← c.disk.view_is, c.end_clean.ensures) (λ none. none);

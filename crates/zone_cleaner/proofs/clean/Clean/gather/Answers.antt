@@ -1,10 +1,11 @@
-use Rattle.std.proofs.Common.{◌+◌, ◌<◌, ◌∙◌, ap, subst, arith, refl}
+use Rattle.std.proofs.Common.{◌+◌, ◌<◌, ◌∙◌, Err, ap, subst, arith, refl}
 use Rattle.std.specs.Prelude.{IsTrue}
 use Rattle.zone_choice.specs.Agreement.{MountedView, mounted}
 use Rattle.zone_choice.specs.Tables.{size_of}
 use Rattle.zone_cleaner.proofs.BuildLaws.{data-whole}
 use Rattle.zone_cleaner.proofs.FailLaws.{lost_gives, next_record}
 use Rattle.zone_cleaner.proofs.RecordLaws.{below-more}
+use Rattle.zone_cleaner.proofs.SaneLaws.{noted-asks}
 use Rattle.zone_cleaner.proofs.clean.Clean.gather.Goals as goal
 
 pub gather-requires-clause-stored : goal.gather-requires-clause-stored
@@ -32,6 +33,15 @@ returns-in-Err-clause-leaves g c = λ clean.
           at.agrees at.clean_is reads.kept reads.tables (e.err up) drive (λ is. rw (← tables) (c.note_lost.ensures.failed is)) (λ is. c.note_lost.ensures.other is ∙ tables) (c.note_lost.ensures.fault below),
       rw (e.failed, ← c.self.view_is) refl,
     )
+
+pub returns-in-Err-clause-asks : goal.returns-in-Err-clause-asks
+returns-in-Err-clause-asks g c =
+    let e = c.in-Err.ensures in
+    let n = c.note_lost.ensures in
+    let drive = ap (λ m. m.drive) c.disk.view_is in
+    let tables = ap (λ m. m.tables) c.disk.view_is in
+    noted-asks c.args.disk.now c.gather.new.disk (mounted (g.D.Device.drive c.disk.inside.device) c.note_lost.new.tables) c.args.block c.args.place c.note_lost.result
+    e.asks drive (λ is. e.fails (ap Err (n.cause is))) (λ is. rw tables at n.failed is) (λ is. n.other is ∙ tables)
 
 pub invariant_of-self-2 : goal.invariant_of-self-2
 invariant_of-self-2 g c =

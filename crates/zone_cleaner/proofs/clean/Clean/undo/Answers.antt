@@ -22,7 +22,7 @@ returns-in-Err-clause-err g c = λ clean.
     let f = destination-is at.clean_is.destination c.in-Some.destination (sym at.clean_is.second ∙ c.in-Some.ensures.some) in
     let e = c.in-Err.ensures in
     let halts = undo_fails old _ c.disk.inside.tables c.args.self.now _ c.in-Err.fault at.agrees at.clean_is (rw (c.start_of-start.ensures, c.geometry.ensures, ← c.disk.view_is, f) refl) e.gives e.kept e.leaves e.obeys e.taken in
-    rw (c.command_fault.ensures halts.halt, ← c.disk.view_is) halts.fails
+    rw (c.command_fault.ensures.halt halts.halt, ← c.disk.view_is) halts.fails
 
 pub returns-clause-ok : goal.returns-clause-ok
 returns-clause-ok g c = λ clean.
@@ -48,8 +48,8 @@ returns-clause-stays g c =
     let tables : c.undo_clean.new.self ≡ record c.disk.inside.tables { map = record c.disk.inside.tables.map { places = all }; roles = clean_undone c.disk.inside.tables.roles } = c.undo_clean.ensures ∙ ap (λ (s : TablesView). record s { roles = clean_undone s.roles })
     (c.put_back.ensures ∙ ap (λ (ms : List Moved). with_places c.disk.inside.tables (put_back c.disk.inside.tables.map.zone_size c.in-Some.destination.zone ms c.disk.inside.tables.map.places)) c.as_slice.ensures.value) in
     record {
-      shape = rw (← c.disk.view_is) (record { geometry = c.reset.ensures.obeys.geometry; trusted = c.reset.ensures.obeys.trusted });
-      sane = rw tables (sane-undone (g.D.Device.drive c.disk.inside.device) _ c.disk.inside.tables all c.reset.ensures.obeys.geometry long (rw (← c.disk.view_is) at c.requires.sane));
+      shape = rw (← c.disk.view_is) (record { geometry = c.reset.ensures.obeys.geometry; trusted = c.reset.ensures.obeys.trusted; unfailing = c.reset.ensures.obeys.unfailing });
+      sane = rw tables (sane-undone (g.D.Device.drive c.disk.inside.device) _ c.disk.inside.tables all (record { geometry = c.reset.ensures.obeys.geometry; trusted = c.reset.ensures.obeys.trusted; unfailing = c.reset.ensures.obeys.unfailing }) long (rw (← c.disk.view_is) at c.requires.sane));
       size = rw (← c.disk.view_is, tables) long;
       given = rw (← c.disk.view_is, tables) refl;
       host = rw (← c.disk.view_is, tables) (λ none. none);

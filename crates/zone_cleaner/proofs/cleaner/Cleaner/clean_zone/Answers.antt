@@ -1,55 +1,40 @@
-use Rattle.std.proofs.Common.{◌≡◌, ◌-◌, ◌+◌, arith, ap, sym, subst, false, is_some, ◌∙◌}
-use Rattle.std.specs.Prelude.{IsTrue}
-use Rattle.zone_states.specs.declared.geometry.Geometry.{Geometry}
+use Rattle.std.proofs.Common.{◌≡◌, ◌≢◌, ℕ, ◌+◌, ◌*◌, ◌≤◌, ◌<◌, [], None, true, length, arith, ap, sym, subst, ◌∙◌}
+use Rattle.std.specs.Prelude.{IsFalse, IsTrue}
+use Rattle.std.proofs.lemmas.Bool.{eq-eqb}
 use Rattle.zone_choice.specs.Agreement.{MountedView}
-use Rattle.zone_choice.specs.Roles.{next_of}
-use Rattle.zone_cleaner.specs.Start.{unfinished}
+use Rattle.zone_cleaner.specs.Answering.{CostsClean}
+use Rattle.zone_cleaner.specs.Start.{CanTake, unfinished}
+use Rattle.zone_cleaner.proofs.BudgetLaws.{first-round, round-more, rounds-most}
 use Rattle.zone_cleaner.proofs.SaneLaws.{stays-more, stays-same}
-use Rattle.zone_cleaner.proofs.SoFarLaws.{HasRun, run-found, run-more, run-none, run-over, run-refused}
+use Rattle.zone_cleaner.proofs.SoFarLaws.{HasTried, round-found, tried-found, tried-more, tried-none, tried-over, tried-refused}
 use Rattle.zone_cleaner.proofs.cleaner.Cleaner.clean_zone.Goals as goal
 
 pub loop-init : goal.loop-init
 loop-init g c = (
   stays-same c.args.disk.now c.requires.sane,
   omega arith,
-  λ n one clean. subst (λ n. HasRun c.args.disk.now c.args.self.now n c.args.disk.now c.args.self.now) (omega (arith, one)) (run-none c.args.disk.now c.args.self.now (c.requires.cleaned clean) c.requires.lacks),
-  omega arith,
+  λ clean. tried-none c.args.disk.now c.args.self.now (c.requires.cleaned clean) c.requires.lacks,
+  λ one. absurd (omega (arith, one)),
 )
-
-pub go_on-requires-clause-cleaned : goal.go_on-requires-clause-cleaned
-go_on-requires-clause-cleaned g c = λ clean. (c.loop.invariant.2 (c.loop.counter - 1) (omega (arith, c.loop.invariant.3)) clean).agrees
-
-pub go_on-requires-clause-lacks : goal.go_on-requires-clause-lacks
-go_on-requires-clause-lacks g c = λ clean none all. ((c.loop.invariant.2 (c.loop.counter - 1) (omega (arith, c.loop.invariant.3)) clean).idle all none).1
 
 pub returns-in-Err-clause-answers : goal.returns-in-Err-clause-answers
 returns-in-Err-clause-answers g c = λ clean.
-    let turn = c.in-Err.ensures in
-    run-refused c.args.disk.now c.loop.disk c.go_on.new.disk c.args.self.now c.loop.self c.go_on.new.self (c.loop.counter - 1) c.in-Err.fault
-    (c.loop.invariant.2 (c.loop.counter - 1) (omega (arith, c.loop.invariant.3)) (turn.stays.shape.trusted clean)) (turn.answers clean)
+    let round = c.in-Err.ensures in
+    tried-refused c.args.disk.now c.loop.disk c.take_turns.new.disk c.args.self.now c.loop.self c.take_turns.new.self c.in-Err.fault (c.loop.invariant.2 (round.stays.shape.trusted clean)) (round.answers clean)
 
-pub returns-then-has_next-clause-answers : goal.returns-then-has_next-clause-answers
-returns-then-has_next-clause-answers g c = λ clean.
-    let turn = c.in_default.ensures in
-    let stays = stays-more c.args.disk.now c.loop.disk c.go_on.new.disk c.loop.invariant.0 turn.stays in
-    run-found c.args.disk.now c.loop.disk c.go_on.new.disk c.args.self.now c.loop.self c.go_on.new.self (c.loop.counter - 1)
-    (c.loop.invariant.2 (c.loop.counter - 1) (omega (arith, c.loop.invariant.3)) (turn.stays.shape.trusted clean)) (turn.answers clean) (stays.host c.requires.lacks.host)
-    (sym (ap (λ (m : MountedView). is_some (next_of m.tables.roles.second)) c.disk-in-loop.view_is) ∙ sym c.has_next.ensures ∙ c.if-has_next.true)
+pub returns-then-finds_zone-clause-answers : goal.returns-then-finds_zone-clause-answers
+returns-then-finds_zone-clause-answers g c = λ clean.
+    let round = c.in_default.ensures in
+    let host = (stays-more c.args.disk.now c.loop.disk c.take_turns.new.disk c.loop.invariant.0 round.stays).host c.requires.lacks.host in
+    tried-found c.args.disk.now c.loop.disk c.take_turns.new.disk c.args.self.now c.loop.self c.take_turns.new.self (c.loop.invariant.2 (round.stays.shape.trusted clean)) (round.answers clean) host
+    (subst (λ (m : MountedView). (c.take_turns.new.self ≡ None) × CanTake m.tables.roles) c.disk-in-loop.view_is (c.finds_zone.ensures.some c.if-finds_zone.true))
 
 pub loop-preserved : goal.loop-preserved
 loop-preserved g c =
-    let so_far = c.loop.invariant in
-    let turn = c.in_default.ensures in (
-      stays-more c.args.disk.now c.loop.disk c.go_on.new.disk so_far.0 turn.stays,
-      omega (arith, so_far.1, turn.completed),
-      λ n one clean.
-          let before = so_far.2 (c.loop.counter - 1) (omega (arith, so_far.3)) (turn.stays.shape.trusted clean) in
-          let after = run-more c.args.disk.now c.loop.disk c.go_on.new.disk c.args.self.now c.loop.self c.go_on.new.self (c.loop.counter - 1) c.requires.sane.geometry.capacity.0 before (turn.answers clean) (sym (ap (λ (m : MountedView). is_some (next_of m.tables.roles.second)) c.disk-in-loop.view_is) ∙ sym c.has_next.ensures ∙ c.if-has_next.false) in
-          subst (λ n. HasRun c.args.disk.now c.args.self.now n c.go_on.new.disk c.go_on.new.self) (omega (arith, one, so_far.3)) after,
-      omega arith,
+    let round = c.in_default.ensures in
+    let lost : c.take_turns.new.disk.tables.unreadable ≢ [] = λ none. (let bad = sym c.if-is_empty.false ∙ c.is_empty.ensures ∙ eq-eqb _ 0 (ap length (c.unreadable.ensures ∙ ap (λ (m : MountedView). m.tables.unreadable) c.disk-in-loop.view_is ∙ none)) in absurd (cc)) in (
+      stays-more c.args.disk.now c.loop.disk c.take_turns.new.disk c.loop.invariant.0 round.stays,
+      round-more c.loop.counter (2 * c.args.disk.now.drive.geometry.capacity) c.loop.disk.drive.completed c.args.disk.now.drive.completed c.take_turns.new.disk.drive.completed c.loop.invariant.1 (rw c.loop.invariant.0.shape.geometry at round.completed),
+      λ clean. tried-more c.args.disk.now c.loop.disk c.take_turns.new.disk c.args.self.now c.loop.self c.take_turns.new.self (c.loop.invariant.2 (round.stays.shape.trusted clean)) (round.answers clean) lost,
+      λ one. lost,
     )
-
-pub returns-clause-answers : goal.returns-clause-answers
-returns-clause-answers g c = λ clean.
-    run-over c.args.disk.now c.loop.disk c.args.self.now c.loop.self (c.loop.counter - 1) c.unfinished.result c.requires.sane.geometry.capacity.0 (c.loop.invariant.2 (c.loop.counter - 1) (omega (arith, c.loop.invariant.3)) clean)
-    (omega (arith, c.loop.invariant.3, c.loop-test.false, ap (λ (g : Geometry). g.capacity) c.geometry-end.ensures, ap (λ (m : MountedView). m.drive.geometry.capacity) c.disk.view_is)) (c.unfinished.ensures ∙ ap (λ (m : MountedView). unfinished m.tables) c.disk-2.view_is)

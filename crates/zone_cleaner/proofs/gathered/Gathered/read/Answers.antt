@@ -1,6 +1,8 @@
 use Rattle.std.proofs.Common.{◌≡◌, ◌+◌, ap, arith, length, ◌∙◌, Some}
 use Rattle.std.proofs.lemmas.List.{length-append}
+use Rattle.zone_cleaner.specs.Reading.{data_record}
 use Rattle.zone_cleaner.proofs.EntryLaws.{adds-data, on-ok}
+use Rattle.zone_cleaner.proofs.FetchLaws.{gather-refused}
 use Rattle.zone_cleaner.proofs.gathered.Gathered.read.Goals as goal
 
 pub invariant_of-self-2 : goal.invariant_of-self-2
@@ -29,7 +31,12 @@ returns g c =
       asks = c.fetch.ensures.asks;
       adds = (Some more.0, rw (← same) (adds-data s.block_bytes c.args.block (length c.bytes-position.result.now) s.records.entries c.insert.new.self.entries s.batch.bytes more.0 c.fetch.new.batch.bytes c.self.invariant.0 c.self.invariant.1 above at entries more.1 longer).shows);
       failed = tt;
+      fails = λ failed. absurd (let e = failed in cc);
       reads = c.fetch.ensures.reads;
       ok = λ clean. rw (← same) (adds-data s.block_bytes c.args.block (length c.bytes-position.result.now) s.records.entries c.insert.new.self.entries s.batch.bytes _ c.fetch.new.batch.bytes c.self.invariant.0 c.self.invariant.1 above at entries (c.in_ok-fetch.ensures.ok clean) longer).shows;
       err = λ clean. tt;
     }
+
+pub returns-in_err-make_room : goal.returns-in_err-make_room
+returns-in_err-make_room g c = gather-refused c.args.disk.now c.args.self.now.records c.make_room.new.self.records (data_record c.args.disk.now c.args.block) c.from_residual.result c.in_err-make_room.field-0.0 c.from_residual.ensures.1 c.in_err-make_room.ensures.read c.in_err-make_room.ensures.records
+    (λ clean. (c.requires.stored clean).agrees) (λ clean. c.in_err-make_room.ensures.err (rw c.geometry-block_bytes.ensures (c.requires.whole clean)))

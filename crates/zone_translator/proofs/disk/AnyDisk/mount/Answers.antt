@@ -18,10 +18,10 @@ returns-in-Ok-clause-disk g c =
     rw (c.new-in-Ok.ensures, c.new.ensures) (λ clean. is-mounted (g.D.Device.drive c.args.device) (g.D.Device.drive c.mount.new.device) c.args.blocks c.in-Ok.tables (c.mount.ensures.kept clean) (c.in-Ok.ensures.ok clean))
 
 pub returns-in-Ok-clause-shape : goal.returns-in-Ok-clause-shape
-returns-in-Ok-clause-shape g c = rw c.new.ensures (record { geometry = c.mount.ensures.stays.geometry; trusted = c.mount.ensures.stays.trusted })
+returns-in-Ok-clause-shape g c = rw c.new.ensures (record { geometry = c.mount.ensures.stays.geometry; trusted = c.mount.ensures.stays.trusted; unfailing = c.mount.ensures.stays.unfailing })
 
 pub returns-in-Err-clause-back : goal.returns-in-Err-clause-back
-returns-in-Err-clause-back g c = record { geometry = c.mount.ensures.stays.geometry; trusted = c.mount.ensures.stays.trusted }
+returns-in-Err-clause-back g c = record { geometry = c.mount.ensures.stays.geometry; trusted = c.mount.ensures.stays.trusted; unfailing = c.mount.ensures.stays.unfailing }
 
 pub returns-in-Err-clause-err : goal.returns-in-Err-clause-err
 returns-in-Err-clause-err g c clean = record {

@@ -1,9 +1,9 @@
 use Rattle.std.proofs.Common.{◌≡◌, ◌∙◌, ◌-◌, ◌+◌, Ok, ℕ, drop, sym, refl, ap, rules, arith}
 use Rattle.zone_states.specs.declared.geometry.Geometry.{Geometry}
 use Rattle.zone_translator.specs.Batches.{blocks_of, is_trim}
-use Rattle.zone_translator.specs.Changes.{batch_commands}
 use Rattle.zone_translator.specs.View.{disk_array, logs_of, most_batches, mounted_of}
-use Rattle.zone_translator.proofs.CallLaws.{batches-less, batches-some, cause-of, done-known, goes-begun, names-all, names-more, spend, write-done, write-front, write-known, write-refused, write-unknown, written-more}
+use Rattle.zone_translator.proofs.CostLaws.{costs-none, spends-all, spends-more, spends-none}
+use Rattle.zone_translator.proofs.CallLaws.{batches-less, batches-some, cause-of, done-known, goes-begun, names-all, names-more, write-done, write-front, write-known, write-refused, write-unknown, written-more}
 use Rattle.std.specs.Prelude.{IsTrue}
 use Rattle.zone_translator.proofs.CleaningLaws.{StaysClean, cleaning-stays, same-stays, stays-join}
 use Rattle.zone_translator.proofs.ContentLaws.{length-blocks, rest-is, rest-whole}
@@ -27,7 +27,7 @@ pub returns-in_err-is_done-clause-stores : goal.returns-in_err-is_done-clause-st
 returns-in_err-is_done-clause-stores g c = λ clean. record { names = search rules; says = search rules; early = search rules; cut = cut-old c.args.self.now.drive.geometry (c.args.first + c.args.blocks - 1) (logs_of c.args.self.now) }
 
 pub returns-in_err-is_done-clause-costs : goal.returns-in_err-is_done-clause-costs
-returns-in_err-is_done-clause-costs g c = λ clean. record { turns = search rules; clean = λ serves. same-clean c.args.self.now; completed = omega arith }
+returns-in_err-is_done-clause-costs g c = λ clean. record { turns = search rules; clean = λ serves. same-clean c.args.self.now; completed = costs-none c.args.self.now _ }
 
 pub returns-then-branch-clause-answers : goal.returns-then-branch-clause-answers
 returns-then-branch-clause-answers g c = λ clean. record {
@@ -49,7 +49,7 @@ returns-then-branch-clause-stores g c = λ clean.
     }
 
 pub returns-then-branch-clause-costs : goal.returns-then-branch-clause-costs
-returns-then-branch-clause-costs g c = λ clean. record { turns = omega arith; clean = λ serves. same-clean c.args.self.now; completed = omega arith }
+returns-then-branch-clause-costs g c = λ clean. record { turns = omega arith; clean = λ serves. same-clean c.args.self.now; completed = costs-none c.args.self.now _ }
 
 -- ---- batch by batch
 
@@ -65,7 +65,7 @@ loop-done-init g c =
       λ clean. record { named = λ block low high. absurd (omega arith); others = λ block out. refl },
       λ clean some. absurd (omega arith),
       λ clean some. absurd (omega arith),
-      rw whole (omega arith),
+      rw whole (spends-none disk _ _ refl),
       λ clean. cut-old disk.drive.geometry (c.args.first + c.args.blocks - 1) (logs_of disk),
       λ clean. same-stays (mounted_of disk) disk.clean,
     )
@@ -95,7 +95,6 @@ loop-done-preserved g c =
     let done = c.in-Ok.ensures in
     let was : IsTrue new.drive.clean → IsTrue now.drive.clean = c.write_some.ensures.alike.shape.trusted in
     let fewer : c.args.blocks - (c.loop-done.done + c.in-Ok.count) ≡ left - c.in-Ok.count = omega (arith, done.taken, so_far.3) in
-    let each = batch_commands disk.drive.geometry in
     let less = batches-less (is_trim c.args.content) disk left c.in-Ok.count c.is_done.ensures.sound.range done.taken.0 done.taken.1 (rw (so_far.1.shape.geometry, rest.trim) at done.taken.2) in
     let stays : IsTrue new.drive.clean → StaysClean (mounted_of now) now.clean (mounted_of new) new.clean = λ clean. cleaning-stays {V = ℕ} (mounted_of now) (mounted_of new) now.clean new.clean c.in-Ok.count (omega (arith, (done.kept clean).kept.next, (done.kept clean).kept.appended)) (done.kept clean).kept.geometry (done.clean clean) in (
       λ clean. still-join disk now new (so_far.0 (was clean)) (done.kept clean),
@@ -107,7 +106,7 @@ loop-done-preserved g c =
       λ clean. names-more (is_trim c.args.content) _ _ _ c.args.first c.loop-done.done _ c.in-Ok.count _ refl refl (so_far.5 (was clean)) (rw rest.trim at (done.wrote clean).names),
       λ clean some. (done.wrote clean).says,
       λ clean some. rw so_far.1.shape.geometry at (done.wrote clean).early,
-      rw fewer (spend (most_batches (is_trim c.args.content) disk left) _ each _ new.drive.completed _ less (rw so_far.1.shape.geometry at done.completed) so_far.8),
+      rw fewer (spends-more disk now new (most_batches (is_trim c.args.content) disk c.args.blocks) (most_batches (is_trim c.args.content) disk left) _ so_far.1.shape.geometry c.write_some.ensures.alike.shape.unfailing less so_far.8 done.completed),
       λ clean. cut-step disk.drive.geometry now.drive.geometry (logs_of disk) (c.args.first + c.args.blocks - 1) _ (logs_of now) (logs_of new) so_far.1.shape.geometry (omega (arith, so_far.3)) (done.cut clean (logs_of disk)) (so_far.9 (was clean)),
       λ clean. stays-join (mounted_of disk) (mounted_of now) (mounted_of new) disk.clean now.clean new.clean (so_far.10 (was clean)) (stays clean),
     )
@@ -159,12 +158,11 @@ returns-in-Err-clause-costs g c = λ clean.
     let new = c.write_some.new.self in
     let lost = c.in-Err.ensures in
     let one = batches-some (is_trim c.args.content) disk (c.args.blocks - c.loop-done.done) c.is_done.ensures.sound.range (omega (arith, c.loop-done-test.true)) in
-    let each = batch_commands disk.drive.geometry in
-    let last = spend (most_batches (is_trim c.args.content) disk (c.args.blocks - c.loop-done.done)) 0 each _ new.drive.completed _ (omega (arith, one)) (rw so_far.1.shape.geometry at lost.completed) so_far.8 in
+    let last = spends-more disk now new (most_batches (is_trim c.args.content) disk c.args.blocks) (most_batches (is_trim c.args.content) disk (c.args.blocks - c.loop-done.done)) 0 so_far.1.shape.geometry c.write_some.ensures.alike.shape.unfailing (omega (arith, one)) so_far.8 lost.completed in
     record {
       turns = tt;
       clean = λ serves. refused-clean (mounted_of disk) (mounted_of now) (mounted_of new) disk.clean now.clean new.clean disk.status new.status c.in-Err.fault (c.write_some.ensures.alike.shape.geometry ∙ so_far.1.shape.geometry) (so_far.10 was) (lost.clean clean) (sym (lost.err clean).status ∙ serves);
-      completed = omega (arith, last);
+      completed = spends-all disk new _ 0 last;
     }
 
 -- ---- all is done
@@ -201,7 +199,7 @@ returns-clause-costs g c = λ clean.
     record {
       turns = turns-on (mounted_of disk) (mounted_of new) disk.clean new.clean disk.status new.status so_far.1.shape.geometry (so_far.10 clean).turns;
       clean = λ serves. done-clean (mounted_of disk) (mounted_of new) disk.clean new.clean disk.status new.status (so_far.10 clean);
-      completed = omega (arith, so_far.8);
+      completed = spends-all disk new _ _ so_far.8;
     }
 
 -- ---- whatever the Reads returned
@@ -226,9 +224,14 @@ returns-in-Err-clause-completed g c =
     let new = c.write_some.new.self in
     let lost = c.in-Err.ensures in
     let one = batches-some (is_trim c.args.content) disk (c.args.blocks - c.loop-done.done) c.is_done.ensures.sound.range (omega (arith, c.loop-done-test.true)) in
-    let each = batch_commands disk.drive.geometry in
-    let last = spend (most_batches (is_trim c.args.content) disk (c.args.blocks - c.loop-done.done)) 0 each _ new.drive.completed _ (omega (arith, one)) (rw so_far.1.shape.geometry at lost.completed) so_far.8 in
-    omega (arith, last)
+    let last = spends-more disk now new (most_batches (is_trim c.args.content) disk c.args.blocks) (most_batches (is_trim c.args.content) disk (c.args.blocks - c.loop-done.done)) 0 so_far.1.shape.geometry c.write_some.ensures.alike.shape.unfailing (omega (arith, one)) so_far.8 lost.completed in
+    spends-all disk new _ 0 last
 
 pub returns-clause-completed : goal.returns-clause-completed
-returns-clause-completed g c = omega (arith, c.loop-done.invariant.8)
+returns-clause-completed g c = spends-all c.args.self.now c.loop-done.self _ _ c.loop-done.invariant.8
+
+pub returns-in_err-is_done-clause-completed : goal.returns-in_err-is_done-clause-completed
+returns-in_err-is_done-clause-completed g c = costs-none c.args.self.now _
+
+pub returns-then-branch-clause-completed : goal.returns-then-branch-clause-completed
+returns-then-branch-clause-completed g c = costs-none c.args.self.now _

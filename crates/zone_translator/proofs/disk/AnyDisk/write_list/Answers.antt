@@ -3,12 +3,12 @@ use Rattle.std.proofs.lemmas.List.{length-drop, take_all}
 use Rattle.zone_states.specs.declared.geometry.Geometry.{Geometry}
 use Rattle.batch_log.specs.declared.header.Entry.{Entry}
 use Rattle.batch_log.specs.Log.{data_count}
-use Rattle.zone_translator.specs.Changes.{batch_commands}
 use Rattle.zone_translator.specs.Flat.{Put, put_all}
 use Rattle.zone_translator.specs.Listed.{NamesAll, last_block, left_puts, list_puts}
 use Rattle.zone_translator.specs.View.{disk_array, disk_places, logs_of, mounted_of}
 use Rattle.zone_translator.specs.declared.list.Taken.{Taken}
-use Rattle.zone_translator.proofs.CallLaws.{cause-of, spend}
+use Rattle.zone_translator.proofs.CostLaws.{costs-none, spends-all, spends-more, spends-none}
+use Rattle.zone_translator.proofs.CallLaws.{cause-of}
 use Rattle.std.specs.Prelude.{IsTrue}
 use Rattle.zone_translator.proofs.CleaningLaws.{StaysClean, cleaning-stays, same-stays, stays-join}
 use Rattle.zone_translator.proofs.DiskLaws.{alike-join, alike-same, done-clean, kept-refl, same-clean, still-join, still-refl, turns-on}
@@ -33,7 +33,7 @@ pub returns-in_err-is_list_done-clause-stores : goal.returns-in_err-is_list_done
 returns-in_err-is_list_done-clause-stores g c = λ clean. record { names = search rules; says = search rules; early = search rules; cut = cut-old c.args.self.now.drive.geometry (last_block c.args.entries.now) (logs_of c.args.self.now) }
 
 pub returns-in_err-is_list_done-clause-costs : goal.returns-in_err-is_list_done-clause-costs
-returns-in_err-is_list_done-clause-costs g c = λ clean. record { turns = search rules; clean = λ serves. same-clean c.args.self.now; completed = omega arith }
+returns-in_err-is_list_done-clause-costs g c = λ clean. record { turns = search rules; clean = λ serves. same-clean c.args.self.now; completed = costs-none c.args.self.now _ }
 
 pub returns-then-branch-clause-answers : goal.returns-then-branch-clause-answers
 returns-then-branch-clause-answers g c = λ clean. record {
@@ -55,7 +55,7 @@ returns-then-branch-clause-stores g c = λ clean.
     }
 
 pub returns-then-branch-clause-costs : goal.returns-then-branch-clause-costs
-returns-then-branch-clause-costs g c = λ clean. record { turns = omega arith; clean = λ serves. same-clean c.args.self.now; completed = omega arith }
+returns-then-branch-clause-costs g c = λ clean. record { turns = omega arith; clean = λ serves. same-clean c.args.self.now; completed = costs-none c.args.self.now _ }
 
 -- ---- batch by batch
 
@@ -72,7 +72,7 @@ loop-named-init g c =
       λ clean. record { named = tt; others = λ block out. refl },
       λ clean some. absurd (omega arith),
       λ clean some. absurd (omega arith),
-      rw whole (omega arith),
+      rw whole (spends-none disk _ _ refl),
       λ clean. cut-old disk.drive.geometry (last_block c.args.entries.now) (logs_of disk),
       λ clean. same-stays (mounted_of disk) disk.clean,
     )
@@ -130,7 +130,6 @@ loop-named-preserved g c =
     let names : IsTrue new.drive.clean → NamesAll (take taken.entries (drop c.loop-named.named es)) (disk_places now) (disk_places new) = λ clean. rw (← entries_are) (done.wrote clean).names in
     let fewer : length es - (c.loop-named.named + taken.entries) ≡ length es - c.loop-named.named - taken.entries = omega (arith, done.taken.few, so_far.3) in
     let less : length es - c.loop-named.named - taken.entries + 1 ≤ length es - c.loop-named.named = omega (arith, done.taken.some, done.taken.few, same, long, so_far.3) in
-    let each = batch_commands disk.drive.geometry in
     let last : last_block left.entries.now ≡ last_block es = ap last_block entries_are ∙ last-left c.loop-named.named es c.loop-named-test.true in
     let stays : IsTrue new.drive.clean → StaysClean (mounted_of now) now.clean (mounted_of new) new.clean = λ clean. cleaning-stays {V = Taken} (mounted_of now) (mounted_of new) now.clean new.clean taken (omega (arith, (done.kept clean).kept.next, (done.kept clean).kept.appended)) (done.kept clean).kept.geometry (done.clean clean) in (
       λ clean. still-join disk now new (so_far.0 (was clean)) (done.kept clean),
@@ -142,7 +141,7 @@ loop-named-preserved g c =
       λ clean. names-again es c.loop-named.named taken.entries (c.loop-named.named + taken.entries) (disk_places disk) (disk_places now) (disk_places new) refl c.requires.distinct (so_far.6 (was clean)) (names clean),
       λ clean some. (done.wrote clean).says,
       λ clean some. rw so_far.1.shape.geometry at (done.wrote clean).early,
-      rw fewer (spend (length es - c.loop-named.named) _ each _ new.drive.completed _ less (rw so_far.1.shape.geometry at done.completed) so_far.9),
+      rw fewer (spends-more disk now new (length es) (length es - c.loop-named.named) _ so_far.1.shape.geometry c.write_listed.ensures.alike.shape.unfailing less so_far.9 done.completed),
       λ clean. cut-step disk.drive.geometry now.drive.geometry (logs_of disk) (last_block es) (last_block left.entries.now) (logs_of now) (logs_of new) so_far.1.shape.geometry last (done.cut clean (logs_of disk)) (so_far.10 (was clean)),
       λ clean. stays-join (mounted_of disk) (mounted_of now) (mounted_of new) disk.clean now.clean new.clean (so_far.11 (was clean)) (stays clean),
     )
@@ -196,12 +195,11 @@ returns-in-Err-clause-costs g c = λ clean.
     let new = c.write_listed.new.self in
     let lost = c.in-Err.ensures in
     let es = c.args.entries.now in
-    let each = batch_commands disk.drive.geometry in
-    let last = spend (length es - c.loop-named.named) 0 each _ new.drive.completed _ (omega (arith, c.loop-named-test.true)) (rw so_far.1.shape.geometry at lost.completed) so_far.9 in
+    let last = spends-more disk now new (length es) (length es - c.loop-named.named) 0 so_far.1.shape.geometry c.write_listed.ensures.alike.shape.unfailing (omega (arith, c.loop-named-test.true)) so_far.9 lost.completed in
     record {
       turns = tt;
       clean = λ serves. refused-list-clean (mounted_of disk) (mounted_of now) (mounted_of new) disk.clean now.clean new.clean disk.status new.status c.in-Err.fault (c.write_listed.ensures.alike.shape.geometry ∙ so_far.1.shape.geometry) (so_far.11 was) (lost.clean clean) (sym (lost.err clean).status ∙ serves);
-      completed = omega (arith, last);
+      completed = spends-all disk new _ 0 last;
     }
 
 -- ---- all is done
@@ -243,7 +241,7 @@ returns-clause-costs g c = λ clean.
     record {
       turns = turns-on (mounted_of disk) (mounted_of new) disk.clean new.clean disk.status new.status so_far.1.shape.geometry (so_far.11 clean).turns;
       clean = λ serves. done-clean (mounted_of disk) (mounted_of new) disk.clean new.clean disk.status new.status (so_far.11 clean);
-      completed = omega (arith, so_far.9);
+      completed = spends-all disk new _ _ so_far.9;
     }
 
 -- ---- whatever the Reads returned
@@ -268,9 +266,14 @@ returns-in-Err-clause-completed g c =
     let new = c.write_listed.new.self in
     let lost = c.in-Err.ensures in
     let es = c.args.entries.now in
-    let each = batch_commands disk.drive.geometry in
-    let last = spend (length es - c.loop-named.named) 0 each _ new.drive.completed _ (omega (arith, c.loop-named-test.true)) (rw so_far.1.shape.geometry at lost.completed) so_far.9 in
-    omega (arith, last)
+    let last = spends-more disk now new (length es) (length es - c.loop-named.named) 0 so_far.1.shape.geometry c.write_listed.ensures.alike.shape.unfailing (omega (arith, c.loop-named-test.true)) so_far.9 lost.completed in
+    spends-all disk new _ 0 last
 
 pub returns-clause-completed : goal.returns-clause-completed
-returns-clause-completed g c = omega (arith, c.loop-named.invariant.9)
+returns-clause-completed g c = spends-all c.args.self.now c.loop-named.self _ _ c.loop-named.invariant.9
+
+pub returns-in_err-is_list_done-clause-completed : goal.returns-in_err-is_list_done-clause-completed
+returns-in_err-is_list_done-clause-completed g c = costs-none c.args.self.now _
+
+pub returns-then-branch-clause-completed : goal.returns-then-branch-clause-completed
+returns-then-branch-clause-completed g c = costs-none c.args.self.now _
