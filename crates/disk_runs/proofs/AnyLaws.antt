@@ -1,16 +1,17 @@
 -- What holds of lines and of runs over any device.
 use Rattle.std.proofs.Common.{◌≡◌, ◌⊎◌, ℕ, ◌+◌, true, false, List, [], ◌∷◌, ◌++◌, length, Option, Some, None, Ok, Err, inl, inr, refl, sym, ap, subst, ◌∙◌, arith}
 use Rattle.std.specs.Prelude.{Bool, IsTrue, OnErr, OnOk, Result}
+use Rattle.zone_states.specs.declared.geometry.Geometry.{Geometry}
 use Rattle.disk_files.specs.Input.{Known}
 use Rattle.disk_files.specs.Reply.{block_lines, ok_text, out_of_range_text}
 use Rattle.disk_files.specs.declared.trace_line.TraceLine.{TraceLine}
 use Rattle.disk_files.specs.declared.trace_line.TraceLine.TheVariants.{Read, Fill, Write, Trim, Idle, Grow, Remount}
 use Rattle.zone_choice.specs.Sane.{KeepsShape}
-use Rattle.zone_translator.specs.View.{CompletesAtMost, DiskView, StaysAlike, disk_size}
+use Rattle.zone_translator.specs.View.{CompletesAtMost, CostsMost, DiskView, StaysAlike, disk_size}
 use Rattle.zone_translator.specs.declared.fault.DiskFault.{DiskFault}
 use Rattle.zone_translator.specs.declared.fault.DiskFault.TheVariants.{OutOfRange}
 use Rattle.disk_runs.specs.AnyDevice.{FormOf, HasForm, MayHaveSize, PutsLines, StaysBy, StaysRead, any_lines, count_shown, first_shown, resizes}
-use Rattle.disk_runs.specs.Costs.{all_commands, most_commands, with_flush}
+use Rattle.disk_runs.specs.Costs.{NoneMounts, all_commands, line_commands, most_commands, with_flush}
 use Rattle.disk_runs.specs.FlatLines.{IsOfDisk, reply_of}
 use Rattle.disk_runs.specs.Laws.{CommandsAreFew, LastIsFew, LinesKeepSize, RunKeepsShape}
 use Rattle.disk_runs.specs.Run.{AnswersAll, IsAnswered, LineStops, StopsAt}
@@ -20,6 +21,7 @@ use Rattle.disk_runs.specs.declared.fault.RunFault.{RunFault}
 use Rattle.disk_runs.specs.declared.fault.RunFault.TheVariants as runs
 use Rattle.disk_runs.specs.declared.fault.RunFault.TheVariants.{Disk, Mount, Output, Memory}
 use Rattle.disk_runs.specs.declared.taking.Taking.{Taking}
+use Rattle.zone_translator.proofs.CostLaws.{costs-join, costs-plain, costs-within}
 use Rattle.disk_runs.proofs.RequestLaws.{nothing-shown}
 use Rattle.disk_runs.proofs.ShapeLaws.{alike_same, shape_join, shape_same}
 use Rattle.disk_runs.proofs.TakenLaws.{Says, flushed_by_call, taken_legal}
@@ -34,7 +36,7 @@ grown (Err fault) ok err = inr err
 -- one that leaves shape and size, and takes no more commands than it may
 pub stays_alike : (said : Option (TraceLine × List ℕ)) (old new : DiskView) → StaysAlike old new
     → (disk_size new ≡ disk_size old → MayHaveSize said (disk_size old) (disk_size new))
-    → CompletesAtMost old (most_commands old.drive.geometry said) new → StaysBy false said old new
+    → CostsMost old (λ each. most_commands each old.drive.geometry said) new → StaysBy false said old new
 stays_alike said old new alike sized costs =
     record { shape = alike.shape; size = sized alike.size; completed = λ none. costs }
 
@@ -47,7 +49,9 @@ pub stays_flushed : (flushed : Bool) (said : Option (TraceLine × List ℕ)) (ol
 stays_flushed flushed said old middle new first then costs = record {
   shape = shape_join old.drive middle.drive new.drive first.shape then.shape;
   size = subst (λ (n : ℕ). MayHaveSize said (disk_size old) n) (sym then.size) first.size;
-  completed = λ none. omega (arith, first.completed none, costs, flush_more flushed (most_commands old.drive.geometry said));
+  completed = λ none.
+      let both = costs-join old middle new (λ each. most_commands each old.drive.geometry said) (λ each. with_flush flushed 0) first.shape.geometry then.shape.unfailing (first.completed none) (costs-plain middle new (with_flush flushed 0) costs) in
+      costs-within old new (λ each. most_commands each old.drive.geometry said + with_flush flushed 0) (λ each. with_flush flushed (most_commands each old.drive.geometry said)) (λ each. omega (arith, flush_more flushed (most_commands each old.drive.geometry said))) both;
 }
 
 -- or none, where it was refused
@@ -169,14 +173,19 @@ lines_keep_size taking old new [] text all none = rw all.1 refl
 lines_keep_size taking old new (line ∷ lines) text all none =
     lines_keep_size taking all.middle new lines all.after all.rest none.1 ∙ size_kept (said_by line) (disk_size old) (disk_size all.middle) none.0 all.answers.always.stays.size
 
+-- a drive that failed has failed from then on
+lines_fail : (taking : Taking) (old new : DiskView) (lines : List (List ℕ)) (text : List ℕ) → AnswersAll (any_lines taking) old lines text new → NoneMounts lines → IsTrue new.drive.unfailing → IsTrue old.drive.unfailing
+lines_fail taking old new [] text all none = rw all.1 (λ up. up)
+lines_fail taking old new (line ∷ lines) text all none = λ up. all.answers.always.stays.shape.unfailing (lines_fail taking all.middle new lines all.after all.rest none.1 up)
+
 pub any_commands_are_few : CommandsAreFew any_lines
-any_commands_are_few taking old new [] text all none = rw all.1 (omega arith)
+any_commands_are_few taking old new [] text all none = rw all.1 (costs-plain old old 0 (omega arith))
 any_commands_are_few taking old new (line ∷ lines) text all none =
     let first = all.answers.always.stays.completed none.0 in
     let same = all.answers.always.stays.shape.geometry in
     let rest = any_commands_are_few taking all.middle new lines all.after all.rest none.1 in
-    let after : CompletesAtMost all.middle (all_commands taking old.drive.geometry lines) new = rw same at rest in
-    omega (arith, first, after)
+    let after = subst (λ (g : Geometry). CostsMost all.middle (λ each. all_commands taking each g lines) new) same rest in
+    costs-join old all.middle new (λ each. line_commands taking each old.drive.geometry line) (λ each. all_commands taking each old.drive.geometry lines) same (lines_fail taking all.middle new lines all.after all.rest none.1) first after
 
 pub any_last_is_few : LastIsFew any_lines
 any_last_is_few taking Output left number old shown new s = λ none. s.does.answers.always.stays.completed none

@@ -1,13 +1,15 @@
 -- Whatever lines are answered, a run makes progress.
-use Rattle.std.proofs.Common.{◌≡◌, ◌⊎◌, ℕ, zero, suc, ◌+◌, ◌*◌, ◌<◌, ◌≤◌, Bool, true, false, List, [], ◌∷◌, Option, Some, None, is_some, Ok, Err, inl, inr, refl, ap, ◌∙◌, arith}
+use Rattle.std.proofs.Common.{◌≡◌, ◌⊎◌, ℕ, zero, suc, ◌+◌, ◌*◌, ◌<◌, ◌≤◌, Bool, true, false, List, [], ◌∷◌, Option, Some, None, is_some, Ok, Err, inl, inr, refl, ap, ◌∙◌, arith, subst}
 use Rattle.std.specs.Prelude.{Result}
 use Rattle.zone_states.specs.declared.geometry.Geometry.{Geometry}
 use Rattle.disk_files.specs.declared.trace_line.TraceLine.{TraceLine}
 use Rattle.disk_files.specs.declared.trace_line.TraceLine.TheVariants.{Read, Fill, Write, Trim, Idle, Grow, Remount}
 use Rattle.zone_cleaner.specs.Clean.{CleanView}
-use Rattle.zone_translator.specs.View.{CompletesAtMost, DiskView, disk_turns}
+use Rattle.zone_translator.specs.View.{CompletesAtMost, CostsMost, DiskView, disk_turns}
 use Rattle.zone_translator.specs.declared.fault.DiskFault.{DiskFault}
-use Rattle.disk_runs.specs.Costs.{all_commands, most_commands, mounts, with_flush}
+use Rattle.zone_choice.proofs.AgreementLaws.{StaysFailed}
+use Rattle.zone_translator.proofs.CostLaws.{costs-join, costs-plain, costs-within}
+use Rattle.disk_runs.specs.Costs.{NoneMounts, all_commands, line_commands, most_commands, mounts, with_flush}
 use Rattle.disk_runs.specs.Laws.{CleansEnd, CommandsAreFew, LastIsFew, Pauses, PausesAmong, PausesAt, PausesWith, TurnsAreFew, all_turns, turns_asked}
 use Rattle.disk_runs.specs.Run.{AnswersAll}
 use Rattle.disk_runs.specs.Taken.{AnswersWith, RefusesWith, disk_lines, is_flushed}
@@ -23,6 +25,10 @@ turns_cost : (n : ℕ) (old new : DiskView) → TakesTurns n old new → Complet
 turns_cost zero old new same = rw same (omega arith)
 turns_cost (suc n) old new taken = omega (arith, taken.1.completed, turns_cost n taken.0 new taken.2)
 
+turns_fail : (n : ℕ) (old new : DiskView) → TakesTurns n old new → StaysFailed old.drive new.drive
+turns_fail zero old new same = rw same (λ up. up)
+turns_fail (suc n) old new taken = λ up. taken.1.served.unfailing (turns_fail n taken.0 new taken.2 up)
+
 turns_keep : (n : ℕ) (old new : DiskView) → TakesTurns n old new → new.drive.geometry ≡ old.drive.geometry
 turns_keep zero old new same = ap (λ (d : DiskView). d.drive.geometry) same
 turns_keep (suc n) old new taken = turns_keep n taken.0 new taken.2 ∙ taken.1.served.geometry
@@ -37,14 +43,24 @@ by_cost (Err fault) n old new taken = fewer_cost n fault old new taken
 
 -- what a line does, done or refused, that does not mount the drive again
 does_few : (line : TraceLine) (bytes : List ℕ) (result : Result (Unit {0}) DiskFault) (old new : DiskView) → mounts (Some (line, bytes)) ≡ false → Does line bytes result old new
-    → CompletesAtMost old (most_commands old.drive.geometry (Some (line, bytes))) new
-does_few (Read first n) bytes result old new none does = does.1.completed
+    → CostsMost old (λ each. most_commands each old.drive.geometry (Some (line, bytes))) new
+does_few (Read first n) bytes result old new none does = costs-plain old new n does.1.completed
 does_few (Fill first n byte) bytes result old new none does = does.costs.completed
 does_few (Write first) bytes result old new none does = does.costs.completed
 does_few (Trim first n) bytes result old new none does = does.costs.completed
-does_few (Idle n) bytes result old new none does = by_cost result n old new does.1
-does_few (Grow size) bytes result old new none does = does.completed
+does_few (Idle n) bytes result old new none does = costs-plain old new (2 * n) (by_cost result n old new does.1)
+does_few (Grow size) bytes result old new none does = costs-within old new (λ each. 1 * each) (λ each. each) (λ each. omega arith) does.completed
 does_few Remount bytes result old new none does = absurd (cc)
+
+-- a drive that failed has failed from then on
+does_fail : (line : TraceLine) (bytes : List ℕ) (old new : DiskView) → mounts (Some (line, bytes)) ≡ false → Does line bytes (Ok tt) old new → StaysFailed old.drive new.drive
+does_fail (Read first n) bytes old new none does = does.0.unfailing
+does_fail (Fill first n byte) bytes old new none does = does.served.unfailing
+does_fail (Write first) bytes old new none does = does.served.unfailing
+does_fail (Trim first n) bytes old new none does = does.served.unfailing
+does_fail (Idle n) bytes old new none does = turns_fail n old new does.1
+does_fail (Grow size) bytes old new none does = does.served.unfailing
+does_fail Remount bytes old new none does = absurd (cc)
 
 does_keep : (line : TraceLine) (bytes : List ℕ) (old new : DiskView) → Does line bytes (Ok tt) old new → new.drive.geometry ≡ old.drive.geometry
 does_keep (Read first n) bytes old new does = does.0.geometry
@@ -55,9 +71,13 @@ does_keep (Idle n) bytes old new does = does.0.geometry
 does_keep (Grow size) bytes old new does = does.served.geometry
 does_keep Remount bytes old new does = does.kept.geometry
 
-said_few : (said : Option (TraceLine × List ℕ)) (old new : DiskView) → mounts said ≡ false → DoesSaid said old new → CompletesAtMost old (most_commands old.drive.geometry said) new
-said_few None old new none does = rw does (omega arith)
+said_few : (said : Option (TraceLine × List ℕ)) (old new : DiskView) → mounts said ≡ false → DoesSaid said old new → CostsMost old (λ each. most_commands each old.drive.geometry said) new
+said_few None old new none does = rw does (costs-plain old old 0 (omega arith))
 said_few (Some (line, bytes)) old new none does = does_few line bytes (Ok tt) old new none does
+
+said_fail : (said : Option (TraceLine × List ℕ)) (old new : DiskView) → mounts said ≡ false → DoesSaid said old new → StaysFailed old.drive new.drive
+said_fail None old new none does = rw does (λ up. up)
+said_fail (Some (line, bytes)) old new none does = does_fail line bytes old new none does
 
 said_keep : (said : Option (TraceLine × List ℕ)) (old new : DiskView) → DoesSaid said old new → new.drive.geometry ≡ old.drive.geometry
 said_keep None old new does = ap (λ (d : DiskView). d.drive.geometry) does
@@ -65,35 +85,50 @@ said_keep (Some (line, bytes)) old new does = does_keep line bytes old new does
 
 -- a line that is answered, and its flush
 answer_few : (flushed : Bool) (old new : DiskView) (line reply : List ℕ) → mounts (said_by line) ≡ false → AnswersWith flushed old line reply new
-    → CompletesAtMost old (with_flush flushed (most_commands old.drive.geometry (said_by line))) new
+    → CostsMost old (λ each. with_flush flushed (most_commands each old.drive.geometry (said_by line))) new
 answer_few false old new line reply none a = said_few (said_by line) old new none a.does
-answer_few true old new line reply none a = omega (arith, said_few (said_by line) old a.middle none a.answers.does, a.flushed.completed)
+answer_few true old new line reply none a =
+    let geometry = said_keep (said_by line) old a.middle a.answers.does in
+    costs-join old a.middle new (λ each. most_commands each old.drive.geometry (said_by line)) (λ each. 1) geometry a.flushed.answers.kept.unfailing (said_few (said_by line) old a.middle none a.answers.does) (costs-plain a.middle new 1 a.flushed.completed)
+
+answer_fail : (flushed : Bool) (old new : DiskView) (line reply : List ℕ) → mounts (said_by line) ≡ false → AnswersWith flushed old line reply new → StaysFailed old.drive new.drive
+answer_fail false old new line reply none a = said_fail (said_by line) old new none a.does
+answer_fail true old new line reply none a = λ up. said_fail (said_by line) old a.middle none a.answers.does (a.flushed.answers.kept.unfailing up)
 
 answer_keep : (flushed : Bool) (old new : DiskView) (line reply : List ℕ) → AnswersWith flushed old line reply new → new.drive.geometry ≡ old.drive.geometry
 answer_keep false old new line reply a = said_keep (said_by line) old new a.does
 answer_keep true old new line reply a = a.flushed.answers.kept.geometry ∙ said_keep (said_by line) old a.middle a.answers.does
 
+all_fail : (taking : Taking) (old new : DiskView) (lines : List (List ℕ)) (text : List ℕ) → AnswersAll (disk_lines taking) old lines text new → NoneMounts lines → StaysFailed old.drive new.drive
+all_fail taking old new [] text all none = rw all.1 (λ up. up)
+all_fail taking old new (line ∷ lines) text all none =
+    λ up. answer_fail (is_flushed taking line) old all.middle line all.reply none.0 all.answers (all_fail taking all.middle new lines all.after all.rest none.1 up)
+
 pub commands_are_few : CommandsAreFew disk_lines
-commands_are_few taking old new [] text all none = rw all.1 (omega arith)
+commands_are_few taking old new [] text all none = rw all.1 (costs-plain old old 0 (omega arith))
 commands_are_few taking old new (line ∷ lines) text all none =
     let first = answer_few (is_flushed taking line) old all.middle line all.reply none.0 all.answers in
     let same : all.middle.drive.geometry ≡ old.drive.geometry = answer_keep (is_flushed taking line) old all.middle line all.reply all.answers in
     let rest = commands_are_few taking all.middle new lines all.after all.rest none.1 in
-    let after : CompletesAtMost all.middle (all_commands taking old.drive.geometry lines) new = rw same at rest in
-    omega (arith, first, after)
+    let after = subst (λ (g : Geometry). CostsMost all.middle (λ each. all_commands taking each g lines) new) same rest in
+    costs-join old all.middle new (λ each. line_commands taking each old.drive.geometry line) (λ each. all_commands taking each old.drive.geometry lines) same (all_fail taking all.middle new lines all.after all.rest none.1) first after
 
 -- ---- the line that ends a run
 
-refused_few : (said : Option (TraceLine × List ℕ)) (fault : DiskFault) (old new : DiskView) → mounts said ≡ false → StopsSaid said (Disk fault) old new → CompletesAtMost old (most_commands old.drive.geometry said) new
+refused_few : (said : Option (TraceLine × List ℕ)) (fault : DiskFault) (old new : DiskView) → mounts said ≡ false → StopsSaid said (Disk fault) old new → CostsMost old (λ each. most_commands each old.drive.geometry said) new
 refused_few None fault old new none stops = absurd stops
 refused_few (Some (line, bytes)) fault old new none stops = does_few line bytes (Err fault) old new none stops
 
 -- or whose flush is
 refusal_few : (flushed : Bool) (fault : DiskFault) (old new : DiskView) (line : List ℕ) → mounts (said_by line) ≡ false → RefusesWith flushed old line (Disk fault) new
-    → CompletesAtMost old (with_flush flushed (most_commands old.drive.geometry (said_by line))) new
+    → CostsMost old (λ each. with_flush flushed (most_commands each old.drive.geometry (said_by line))) new
 refusal_few false fault old new line none r = refused_few (said_by line) fault old new none r.does
-refusal_few true fault old new line none (inl r) = omega (arith, refused_few (said_by line) fault old new none r.does)
-refusal_few true fault old new line none (inr u) = omega (arith, said_few (said_by line) old u.1.middle none u.1.answers.does, u.1.flushed.completed)
+refusal_few true fault old new line none (inl r) =
+    let most = λ (each : ℕ). most_commands each old.drive.geometry (said_by line) in
+    costs-within old new most (λ each. most each + 1) (λ each. omega arith) (refused_few (said_by line) fault old new none r.does)
+refusal_few true fault old new line none (inr u) =
+    let geometry = said_keep (said_by line) old u.1.middle u.1.answers.does in
+    costs-join old u.1.middle new (λ each. most_commands each old.drive.geometry (said_by line)) (λ each. 1) geometry u.1.flushed.answers.kept.unfailing (said_few (said_by line) old u.1.middle none u.1.answers.does) (costs-plain u.1.middle new 1 u.1.flushed.completed)
 
 pub last_is_few : LastIsFew disk_lines
 last_is_few taking Output left number old shown new s = λ none. answer_few (is_flushed taking s.line) old new s.line s.does.reply none s.does.answers

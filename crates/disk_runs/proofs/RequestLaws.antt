@@ -7,11 +7,11 @@ use Rattle.zone_choice.specs.Agreement.{MountedView}
 use Rattle.zone_cleaner.specs.Clean.{CleanView}
 use Rattle.zone_cleaner.specs.Start.{TurnLeaves, TurnsFewer}
 use Rattle.zone_translator.proofs.KeepingLaws.{keeps_call, keeps_same}
-use Rattle.zone_translator.specs.Answers.{Answers, CostsAtMost, KeepsClean, SaysSize, Stores, write_commands}
+use Rattle.zone_translator.specs.Answers.{Answers, CostsAtMost, KeepsClean, SaysSize, Stores}
 use Rattle.zone_translator.specs.Calls.{IsTurn, is_known}
-use Rattle.zone_translator.specs.Changes.{batch_commands}
+use Rattle.zone_translator.proofs.CostLaws.{costs-none}
 use Rattle.zone_translator.specs.Keeping.{KeepsServed}
-use Rattle.zone_translator.specs.View.{CompletesAtMost, DiskView, KeepsDisk, disk_size, disk_turns, flat_of, mounted_of}
+use Rattle.zone_translator.specs.View.{CompletesAtMost, CostsBatches, DiskView, KeepsDisk, disk_size, disk_turns, flat_of, most_batches, mounted_of}
 use Rattle.zone_translator.specs.Flat.{Answer, Call, FlatCall, FlatDisk, answer_while, grow, idle, known_answer, may_refuse, with_nothing}
 use Rattle.zone_translator.specs.declared.fault.DiskFault.{DiskFault}
 use Rattle.zone_translator.specs.declared.fault.DiskFault.TheVariants as faults
@@ -240,17 +240,17 @@ clean_same disk = by disk.clean refl
     by (Some clean) e = rw e (λ up. inl (record { same = clean; runs = refl; victim = refl; turns = omega arith }))
 
 costs_nothing : (count : ℕ) (disk : DiskView) → CostsAtMost disk count (Ok tt) disk
-costs_nothing count disk = record { turns = omega arith; clean = λ serves. clean_same disk; completed = omega arith }
+costs_nothing count disk = record { turns = omega arith; clean = λ serves. clean_same disk; completed = costs-none disk count }
 
 -- a write, done or refused
 pub write_done : (call : Call) (trim : Bool) (first n : ℕ) (old new : DiskView) (done : Result (Unit {0}) DiskFault)
-    → Answers old call done new → Stores trim old first n done new → CostsAtMost old (write_commands trim old n) done new → WritesOnce call trim first n done old new
+    → Answers old call done new → Stores trim old first n done new → CostsAtMost old (most_batches trim old n) done new → WritesOnce call trim first n done old new
 write_done call trim first n old new done answers stores costs =
     record { served = keeps_call old new answers.kept; untouched = answers.untouched; stores = λ unknown. stores; costs = costs }
 
 -- one that has a reply was done, or changed nothing
 pub writes_once : (call : Call) (trim : Bool) (first n : ℕ) (old new : DiskView) (done : Result (Unit {0}) DiskFault) (result : Result (Unit {0}) RunFault) (reply : List ℕ)
-    → Answers old call done new → Stores trim old first n done new → CostsAtMost old (write_commands trim old n) done new
+    → Answers old call done new → Stores trim old first n done new → CostsAtMost old (most_batches trim old n) done new
     → OnOk result (reply_of 0 [] done ≡ Some reply) → OnOk result (WritesOnce call trim first n (Ok tt) old new)
 writes_once call trim first n old new done (Err fault) reply answers stores costs told = tt
 writes_once call trim first n old new (Ok u) (Ok v) reply answers stores costs told = write_done call trim first n old new (Ok u) answers stores costs
@@ -261,12 +261,12 @@ writes_once call trim first n old new (Err fault) (Ok v) reply answers stores co
       served = keeps_call old new answers.kept;
       untouched = answers.untouched;
       stores = λ unknown. absurd (cc);
-      costs = rw same (costs_nothing (write_commands trim old n) old);
+      costs = rw same (costs_nothing (most_batches trim old n) old);
     }
 
 -- a growth, done or refused
 pub growth_done : (size : ℕ) (old new : DiskView) (done : Result (Unit {0}) DiskFault)
-    → Answers old (grow size) done new → OnOk done (SaysSize old size new) → OnOk done (disk_turns new ≤ disk_turns old) → KeepsClean old new → CompletesAtMost old (batch_commands old.drive.geometry) new
+    → Answers old (grow size) done new → OnOk done (SaysSize old size new) → OnOk done (disk_turns new ≤ disk_turns old) → KeepsClean old new → CostsBatches old 1 new
     → GrowsOnce size done old new
 growth_done size old new done answers says turns clean completed =
     record { served = keeps_call old new answers.kept; untouched = answers.untouched; says = λ unknown. says; turns = turns; clean = clean; completed = completed }

@@ -5,10 +5,10 @@ use Rattle.zone_choice.specs.Sane.{KeepsShape}
 use Rattle.zone_translator.specs.View.{DiskView, StaysAlike}
 
 pub shape_same : (drive : DriveState) → KeepsShape drive drive
-shape_same drive = record { geometry = refl; trusted = λ clean. clean }
+shape_same drive = record { geometry = refl; trusted = λ clean. clean; unfailing = λ up. up }
 
 pub shape_join : (a b c : DriveState) → KeepsShape a b → KeepsShape b c → KeepsShape a c
-shape_join a b c first second = record { geometry = second.geometry ∙ first.geometry; trusted = λ clean. first.trusted (second.trusted clean) }
+shape_join a b c first second = record { geometry = second.geometry ∙ first.geometry; trusted = λ clean. first.trusted (second.trusted clean); unfailing = λ up. first.unfailing (second.unfailing up) }
 
 pub alike_same : (disk : DiskView) → StaysAlike disk disk
 alike_same disk = record { shape = shape_same disk.drive; size = refl }

@@ -7,7 +7,7 @@ use Rattle.zone_cleaner.specs.Gathered.{AreOfLength}
 use Rattle.disk_files.specs.declared.trace_line.TraceLine.{TraceLine}
 use Rattle.disk_files.specs.declared.trace_line.TraceLine.TheVariants.{Read, Grow, Remount}
 use Rattle.disk_files.specs.Reply.{block_lines}
-use Rattle.zone_translator.specs.View.{CompletesAtMost, DiskView, StaysAlike, disk_size}
+use Rattle.zone_translator.specs.View.{CostsMost, DiskView, StaysAlike, disk_size}
 use Rattle.disk_runs.specs.Costs.{most_commands, mounts, with_flush}
 use Rattle.zone_translator.specs.declared.fault.DiskFault.{DiskFault}
 use Rattle.disk_runs.specs.FlatLines.{IsOfDisk, reply_of}
@@ -77,7 +77,7 @@ pub record StaysBy (flushed : Bool) (said : Option (TraceLine × List ℕ)) (old
   pub shape : KeepsShape old.drive new.drive
   pub size : MayHaveSize said (disk_size old) (disk_size new)
   pub completed : mounts said ≡ false
-      → CompletesAtMost old (with_flush flushed (most_commands old.drive.geometry said)) new
+      → CostsMost old (λ each. with_flush flushed (most_commands each old.drive.geometry said)) new
 
 -- a line that has a reply keeps this much, and its reply has its form
 pub record StaysAnswered (flushed : Bool) (said : Option (TraceLine × List ℕ)) (old : DiskView) (reply : List ℕ)

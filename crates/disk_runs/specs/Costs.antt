@@ -7,22 +7,21 @@ use Rattle.drive_port.specs.Calls.{block_count}
 use Rattle.drive_array.specs.Reserve.{batch_most}
 use Rattle.disk_files.specs.declared.trace_line.TraceLine.{TraceLine}
 use Rattle.disk_files.specs.declared.trace_line.TraceLine.TheVariants.{Read, Fill, Write, Trim, Idle, Grow, Remount}
-use Rattle.zone_translator.specs.Changes.{batch_commands}
 use Rattle.disk_runs.specs.Taken.{is_flushed}
 use Rattle.disk_runs.specs.Trace.{said_by}
 use Rattle.disk_runs.specs.declared.taking.Taking.{Taking}
 
--- at most how many commands a line takes: one for each block that it reads, those of each batch of a write and of a
--- growth, and two a turn
-abbrev pub most_commands : Geometry → Option (TraceLine × List ℕ) → ℕ
-most_commands geometry None = 0
-most_commands geometry (Some (Read first n, bytes)) = n
-most_commands geometry (Some (Fill first n byte, bytes)) = n * batch_commands geometry
-most_commands geometry (Some (Write first, bytes)) = block_count geometry bytes * batch_commands geometry
-most_commands geometry (Some (Trim first n, bytes)) = div_ceil n (batch_most geometry) * batch_commands geometry
-most_commands geometry (Some (Idle n, bytes)) = 2 * n
-most_commands geometry (Some (Grow size, bytes)) = batch_commands geometry
-most_commands geometry (Some (Remount, bytes)) = 0
+-- At most how many commands a line takes, where a batch takes so many: one for each block that it reads, those of each
+-- batch of a write and of a growth, and two a turn.
+abbrev pub most_commands : ℕ → Geometry → Option (TraceLine × List ℕ) → ℕ
+most_commands each geometry None = 0
+most_commands each geometry (Some (Read first n, bytes)) = n
+most_commands each geometry (Some (Fill first n byte, bytes)) = n * each
+most_commands each geometry (Some (Write first, bytes)) = block_count geometry bytes * each
+most_commands each geometry (Some (Trim first n, bytes)) = div_ceil n (batch_most geometry) * each
+most_commands each geometry (Some (Idle n, bytes)) = 2 * n
+most_commands each geometry (Some (Grow size, bytes)) = each
+most_commands each geometry (Some (Remount, bytes)) = 0
 
 -- whether it mounts the drive again, which takes as many commands as the drive needs
 abbrev pub mounts : Option (TraceLine × List ℕ) → Bool
@@ -35,13 +34,13 @@ with_flush true n = n + 1
 with_flush false n = n
 
 -- the same of a line, with its flush
-abbrev pub line_commands : Taking → Geometry → List ℕ → ℕ
-line_commands taking geometry line = with_flush (is_flushed taking line) (most_commands geometry (said_by line))
+abbrev pub line_commands : Taking → ℕ → Geometry → List ℕ → ℕ
+line_commands taking each geometry line = with_flush (is_flushed taking line) (most_commands each geometry (said_by line))
 
 -- all of these lines
-abbrev pub all_commands : Taking → Geometry → List (List ℕ) → ℕ
-all_commands taking geometry [] = 0
-all_commands taking geometry (line ∷ lines) = line_commands taking geometry line + all_commands taking geometry lines
+abbrev pub all_commands : Taking → ℕ → Geometry → List (List ℕ) → ℕ
+all_commands taking each geometry [] = 0
+all_commands taking each geometry (line ∷ lines) = line_commands taking each geometry line + all_commands taking each geometry lines
 
 abbrev pub NoneMounts : List (List ℕ) → Type 0
 NoneMounts lines = AllByRecursion (λ (line : List ℕ). mounts (said_by line) ≡ false) lines

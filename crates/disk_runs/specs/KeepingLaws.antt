@@ -18,7 +18,7 @@ nothing_same disk =
 -- the same in any case
 pub read_same : (disk : DiskView) → StaysRead disk disk
 read_same disk = record {
-  alike = record { shape = record { geometry = refl; trusted = λ clean. clean }; size = refl };
+  alike = record { shape = record { geometry = refl; trusted = λ clean. clean; unfailing = λ up. up }; size = refl };
   reads = reads_none (disk_size disk) disk;
 }
 

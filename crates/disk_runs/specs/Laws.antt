@@ -10,7 +10,7 @@ use Rattle.remount.specs.Kept.{KeepsMountable}
 use Rattle.zone_choice.specs.Sane.{KeepsShape}
 use Rattle.zone_translator.specs.Laws.{CanMountAgain, LeavesDisk}
 use Rattle.zone_translator.specs.Mount.{MountsDisk}
-use Rattle.zone_translator.specs.View.{CompletesAtMost, DiskView, disk_array, disk_size, disk_turns, given_size}
+use Rattle.zone_translator.specs.View.{CompletesAtMost, CostsMost, DiskView, disk_array, disk_size, disk_turns, given_size}
 use Rattle.disk_runs.specs.AnyDevice.{NoneResizes, any_lines}
 use Rattle.disk_runs.specs.Costs.{NoneMounts, all_commands, line_commands, mounts}
 use Rattle.disk_runs.specs.Run.{AnswersAll, Exchange, IsNextLine, Known, Language, Runs, StopsAt}
@@ -46,7 +46,7 @@ abbrev pub CommandsAreFew : (Taking → Language DiskView) → Type 0
 CommandsAreFew lines_of =
     (taking : Taking) (old new : DiskView) (lines : List (List ℕ)) (text : List ℕ)
     → AnswersAll (lines_of taking) old lines text new → NoneMounts lines
-    → CompletesAtMost old (all_commands taking old.drive.geometry lines) new
+    → CostsMost old (λ each. all_commands taking each old.drive.geometry lines) new
 
 -- and the line that ends a run takes no more than one that is answered; nothing is said of one that mounts the drive
 -- again
@@ -54,9 +54,9 @@ abbrev pub LastCosts : (language : Language DiskView) (taking : Taking) (fault :
     (old : DiskView) (shown : List ℕ)
     (new : DiskView) → StopsAt language fault left number old shown new → Type 0
 LastCosts language taking Output left number old shown new s =
-    mounts (said_by s.line) ≡ false → CompletesAtMost old (line_commands taking old.drive.geometry s.line) new
+    mounts (said_by s.line) ≡ false → CostsMost old (λ each. line_commands taking each old.drive.geometry s.line) new
 LastCosts language taking (Disk fault) left number old shown new s =
-    mounts (said_by s.1.line) ≡ false → CompletesAtMost old (line_commands taking old.drive.geometry s.1.line) new
+    mounts (said_by s.1.line) ≡ false → CostsMost old (λ each. line_commands taking each old.drive.geometry s.1.line) new
 LastCosts language taking (Mount fault) left number old shown new s = ⊤
 LastCosts language taking Memory left number old shown new s = CompletesAtMost old (disk_size old) new
 LastCosts language taking fault left number old shown new s = CompletesAtMost old 0 new

@@ -15,14 +15,13 @@ use Rattle.disk_files.specs.TraceLine.{is_skipped, trace_line}
 use Rattle.disk_files.specs.declared.trace_line.TraceLine.{TraceLine}
 use Rattle.disk_files.specs.declared.trace_line.TraceLine.TheVariants.{Read, Fill, Write, Trim, Idle, Grow, Remount}
 use Rattle.zone_translator.specs.Answers.{CostsAtMost, KeepsClean, SaysSize, Stores, count_of_blocks, write_bytes}
-use Rattle.zone_translator.specs.Answers.{write_commands}
 use Rattle.zone_translator.specs.Calls.{IsTurn, is_known}
-use Rattle.zone_translator.specs.Changes.{IsCause, batch_commands}
+use Rattle.zone_translator.specs.Changes.{IsCause}
 use Rattle.zone_translator.specs.Flat.{Call, FlatDisk, fill, grow, trim}
 use Rattle.zone_translator.specs.Keeping.{KeepsServed}
 use Rattle.zone_translator.specs.Mount.{GivesBack, MountsDisk}
-use Rattle.zone_translator.specs.View.{CompletesAtMost, DiskView, disk_size, disk_turns, flat_of, given_size}
-use Rattle.zone_translator.specs.View.{mounted_of, next_sequence}
+use Rattle.zone_translator.specs.View.{CompletesAtMost, CostsBatches, DiskView, disk_size, disk_turns, flat_of, given_size}
+use Rattle.zone_translator.specs.View.{most_batches, mounted_of, next_sequence}
 use Rattle.zone_translator.specs.declared.fault.DiskFault.{DiskFault}
 use Rattle.zone_translator.specs.declared.fault.DiskFault.TheVariants.{Unmounted}
 use Rattle.zone_translator.specs.declared.status.DiskStatus.{DiskStatus}
@@ -78,7 +77,7 @@ pub record WritesOnce (call : Call) (trim : Bool) (first n : ℕ) (result : Resu
   pub served : KeepsServed old new
   pub untouched : is_known (flat_of old) call ≡ true → new ≡ old
   pub stores : is_known (flat_of old) call ≡ false → Stores trim old first n result new
-  pub costs : CostsAtMost old (write_commands trim old n) result new
+  pub costs : CostsAtMost old (most_batches trim old n) result new
 
 -- a disk has this size, also if it had it before: a batch was appended, and the headers say the size
 pub record GrowsOnce (size : ℕ) (result : Result (Unit {0}) DiskFault) (old new : DiskView) : Type 0 where
@@ -87,7 +86,7 @@ pub record GrowsOnce (size : ℕ) (result : Result (Unit {0}) DiskFault) (old ne
   pub says : is_known (flat_of old) (grow size) ≡ false → OnOk result (SaysSize old size new)
   pub turns : OnOk result (disk_turns new ≤ disk_turns old)
   pub clean : KeepsClean old new
-  pub completed : CompletesAtMost old (batch_commands old.drive.geometry) new
+  pub completed : CostsBatches old 1 new
 
 -- What a line does, by what it says and its data, and whether it was refused. A `fill` and a `write` leave data, a
 -- `trim` leaves trims. A line that was refused costs no more than one that is done.

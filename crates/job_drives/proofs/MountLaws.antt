@@ -204,11 +204,11 @@ block-refused old left back (Reserve most) g k tells = absurd tells
 -- ---- the shape of a drive
 
 pub shape-join : (a b c : DriveState) → KeepsShape a b → KeepsShape b c → KeepsShape a c
-shape-join a b c first second = record { geometry = second.geometry ∙ first.geometry; trusted = λ clean. first.trusted (second.trusted clean) }
+shape-join a b c first second = record { geometry = second.geometry ∙ first.geometry; trusted = λ clean. first.trusted (second.trusted clean); unfailing = λ up. first.unfailing (second.unfailing up) }
 
 -- a look leaves it
 pub look-shape : (old new : DriveState) → KeepsZones old new → KeepsShape old new
-look-shape old new k = record { geometry = k.geometry; trusted = k.trusted }
+look-shape old new k = record { geometry = k.geometry; trusted = k.trusted; unfailing = k.unfailing }
 
 -- ---- over any device
 

@@ -1,6 +1,6 @@
 -- What is asked is done, made durable where it has to be, and replied to.
-use Rattle.std.proofs.Common.{◌≡◌, ℕ, ◌<◌, List, ◌++◌, length, Option, Ok, Err, true, false, refl, sym, ap, ◌∙◌, arith}
-use Rattle.std.specs.Prelude.{Bool, IsTrue, OnErr, OnOk, Result}
+use Rattle.std.proofs.Common.{◌≡◌, ℕ, ◌<◌, List, ◌++◌, Option, Ok, Err, true, false, refl, sym, ap, ◌∙◌}
+use Rattle.std.specs.Prelude.{Bool, IsTrue, OnOk, Result}
 use Rattle.std.specs.Io.KnownBytes.{Appends}
 use Rattle.disk_files.specs.Output.{AppendsFront}
 use Rattle.nbd_wire.specs.Transmission.{simple_reply_bytes}
@@ -8,8 +8,8 @@ use Rattle.nbd_wire.specs.declared.request.Request.{Request}
 use Rattle.nbd_session.specs.declared.asked.Asked.{Asked}
 use Rattle.nbd_session.specs.declared.asked.Asked.TheVariants.{Read, Write, Trim, WriteZeroes, Flush}
 use Rattle.nbd_session.specs.declared.fault.StoreFault.{StoreFault}
-use Rattle.nbd_session.specs.Requests.{AnswersAnyway, DoesAndReplies, DoesWith, Forces, ForcesAnyway, MayShow, RepliesAnyway, code_of, data_length, is_forced}
-use Rattle.nbd_session.specs.Store.{Stays, StaysByCall, StoreView}
+use Rattle.nbd_session.specs.Requests.{AnswersAnyway, DoesWith, Forces, ForcesAnyway, MayShow, RepliesAnyway, code_of, data_length, is_forced}
+use Rattle.nbd_session.specs.Store.{Stays, StoreView}
 use Rattle.nbd_session.specs.Streams.{streams}
 use Rattle.nbd_session.specs.Turns.{Replies, RepliesInPart}
 use Rattle.nbd_session.proofs.AnywayLaws.{more-after, stays-same, stays_join, was_clean}

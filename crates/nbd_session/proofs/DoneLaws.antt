@@ -1,16 +1,14 @@
 -- What is asked is done by one call of the store.
-use Rattle.std.proofs.Common.{◌≡◌, ℕ, ◌≤◌, List, [], length, take, Option, Ok, Err, true, false, refl, sym, ◌∙◌}
+use Rattle.std.proofs.Common.{◌≡◌, ℕ, List, [], length, Option, Ok, Err, true, false, refl, sym}
 use Rattle.std.specs.Prelude.{◌*◌, IsTrue, OnErr, OnOk, Result}
-use Rattle.std.specs.Io.KnownBytes.{Consumes}
 use Rattle.std.proofs.KnownBytes.{Consumes-nil}
-use Rattle.zone_translator.specs.Answers.{count_of_blocks}
 use Rattle.zone_translator.specs.Flat.{with_nothing}
 use Rattle.nbd_session.specs.declared.asked.Asked.{Asked}
-use Rattle.nbd_session.specs.declared.asked.Asked.TheVariants.{Read, Write, Trim, WriteZeroes, Flush}
+use Rattle.nbd_session.specs.declared.asked.Asked.TheVariants.{Read, Trim, WriteZeroes}
 use Rattle.nbd_session.specs.declared.fault.StoreFault.{StoreFault}
 use Rattle.nbd_session.specs.declared.fault.StoreFault.TheVariants.{Disk, Medium}
-use Rattle.nbd_session.specs.Requests.{DoesOrFails, DoesShowing, DoesWith, MayShow, SparesAsked}
-use Rattle.nbd_session.specs.Store.{OrFails, Shows, Spares, StaysByCall, StoreView, Trims, WritesBytes, WritesZeros}
+use Rattle.nbd_session.specs.Requests.{DoesOrFails, DoesShowing, DoesWith, MayShow}
+use Rattle.nbd_session.specs.Store.{OrFails, Shows, Spares, StaysByCall, StoreView, Trims, WritesZeros}
 
 read-showing : (old : StoreView) (first n : ℕ) (shown : List ℕ) (result : Result (Unit {0}) StoreFault) (new : StoreView) → OrFails (λ answer. Shows old first n answer shown new) ((shown ≡ []) × Spares old first n new) result → DoesShowing old (Read first n) [] shown result new
 read-showing old first n shown (Ok done) new o = record { blocks = o.shown; does = o.reads; shown_is = o.bytes_are }

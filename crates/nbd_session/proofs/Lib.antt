@@ -1,3 +1,4 @@
+pub mod CostLaws
 pub mod PendingLaws
 pub mod SyncLaws
 pub mod ReplyLaws

@@ -1,5 +1,5 @@
 -- What a disk that is served gives, as a store: its calls, its turns and its syncs.
-use Rattle.std.proofs.Common.{◌≡◌, ℕ, zero, suc, ◌<◌, ◌≤◌, List, [], ◌∷◌, length, map, get_or, None, Some, Ok, Err, true, false, refl, sym, ap, subst, ◌∙◌, inl, inr, arith}
+use Rattle.std.proofs.Common.{◌≡◌, ℕ, zero, suc, ◌+◌, ◌*◌, ◌<◌, ◌≤◌, List, [], ◌∷◌, length, map, get_or, None, Some, Ok, Err, true, false, refl, sym, ap, subst, ◌∙◌, inl, inr, arith}
 use Rattle.std.specs.Prelude.{◌⊎◌, Bool, Contains, IsErrAnd, MatchOption, Option, Result, nat_eq}
 use Rattle.std.specs.List.{IsDistinct, concat}
 use Rattle.std.specs.Int.{div_ceil}
@@ -17,17 +17,18 @@ use Rattle.drive_array.specs.Reserve.{batch_most}
 use Rattle.drive_array.proofs.ReserveLaws.{div_ceil-le}
 use Rattle.zone_translator.proofs.KeepingLaws.{keeps_call, keeps_same}
 use Rattle.zone_translator.proofs.ListedLaws.{blocks-put}
-use Rattle.zone_translator.specs.Answers.{Answers, AnswersRead, CostsAtMost, Stores, StoresList, TakesTurn, list_commands, write_commands, write_entries}
-use Rattle.zone_translator.specs.Changes.{batch_commands}
+use Rattle.zone_translator.specs.Answers.{Answers, AnswersRead, CostsAtMost, Stores, StoresList, TakesTurn, write_entries}
+use Rattle.zone_translator.specs.Changes.{batch_commands, failing_commands}
 use Rattle.zone_translator.specs.Flat.{Answer, Begun, Call, FlatDisk, IsFront, IsListFront, Put, answer_while, flush, grow, idle, known_answer, may_refuse, put_all, read, replaced, report, status_after, with_nothing, write, write_list}
 use Rattle.zone_translator.specs.Listed.{blocks_named, list_puts}
-use Rattle.zone_translator.specs.View.{CompletesAtMost, DiskView, KeepsDisk, StaysAlike, disk_array, disk_turns, flat_of, given_size}
+use Rattle.zone_translator.specs.View.{CompletesAtMost, CostsBatches, DiskView, KeepsDisk, StaysAlike, disk_array, disk_turns, flat_of, given_size, most_batches}
 use Rattle.zone_translator.specs.declared.fault.DiskFault.{DiskFault}
 use Rattle.nbd_session.specs.declared.fault.StoreFault.{StoreFault}
 use Rattle.nbd_session.specs.declared.fault.StoreFault.TheVariants.{Disk}
 use Rattle.nbd_session.specs.Served.{array_with, since_of}
 use Rattle.nbd_session.specs.Pending.{Pending}
-use Rattle.nbd_session.specs.Store.{CallsDisk, ComesFrom, FailsSync, Hardens, IsListTorn, IsMoment, IsPart, IsTorn, KeepsBySync, OrFails, Rests, Shows, Spares, Stays, StaysByCall, StoreView, Writes, WritesList}
+use Rattle.nbd_session.specs.Store.{CallsDisk, ComesFrom, FailsSync, Hardens, IsListTorn, IsMoment, IsPart, IsTorn, KeepsBySync, OrFails, PaysFor, Rests, Shows, Spares, Stays, StaysByCall, StoreView, Writes, WritesList}
+use Rattle.nbd_session.proofs.CostLaws.{bound_always}
 use Rattle.nbd_session.proofs.PendingLaws.{front-torn, in-none, list-torn, same-torn}
 
 -- the only element of a list
@@ -124,19 +125,29 @@ through-disk : (old new : DiskView) (syncs : ℕ) (read_only cleans flushes : Bo
 through-disk old new syncs read_only cleans flushes call kept since = record { kept = kept; since = since }
 
 -- at most as many batches are written as blocks
-few-batches : (n most : ℕ) → div_ceil n most ≤ n
-few-batches n zero = omega (arith, div-zero n, mod-le n zero)
-few-batches n (suc k) = div_ceil-le n (suc k) n (omega arith) (omega (arith, mul-le n 1 n (suc k) (omega arith) (omega arith)))
+few-by : (n most : ℕ) → div_ceil n most ≤ n
+few-by n zero = omega (arith, div-zero n, mod-le n zero)
+few-by n (suc k) = div_ceil-le n (suc k) n (omega arith) (omega (arith, mul-le n 1 n (suc k) (omega arith) (omega arith)))
 
-few-commands : (is_trim : Bool) (disk : DiskView) (n : ℕ) → write_commands is_trim disk n ≤ write_commands false disk n
-few-commands false disk n = omega arith
-few-commands true disk n =
-    let each = batch_commands disk.drive.geometry in
-    mul-le (div_ceil n (batch_most disk.drive.geometry)) each n each (few-batches n (batch_most disk.drive.geometry)) (omega arith)
+few-batches : (is_trim : Bool) (disk : DiskView) (n : ℕ) → most_batches is_trim disk n ≤ n
+few-batches false disk n = omega arith
+few-batches true disk n = few-by n (batch_most disk.drive.geometry)
+
+-- so each block pays for a batch
+block-pays : (c d batches n each : ℕ) → batches ≤ n → c ≤ d + batches * each → c + 0 * each ≤ d + 0 * each + n * each
+block-pays c d batches n each few costs = omega (arith, costs, mul-le batches each n each few (omega arith))
+
+blocks-pay : (old new : DiskView) (syncs : ℕ) (read_only cleans flushes : Bool) (batches n : ℕ) → batches ≤ n → CostsBatches old batches new
+    → PaysFor (served old syncs read_only cleans flushes) n (served new syncs read_only cleans flushes)
+blocks-pay old new syncs read_only cleans flushes batches n few costs =
+    record {
+      unfailing = λ up. block-pays new.drive.completed old.drive.completed batches n (batch_commands old.drive.geometry) few (costs.unfailing up);
+      failing = block-pays new.drive.completed old.drive.completed batches n (failing_commands old.drive.geometry) few costs.failing;
+    }
 
 -- a write of the disk is a write of the store
 pub write_called : (is_trim : Bool) (old new : DiskView) (syncs : ℕ) (read_only cleans flushes : Bool) (first : ℕ) (blocks : List (List ℕ)) (n : ℕ) (result : Result (Unit {0}) DiskFault) → Answers old (write first blocks) result new
-    → Stores is_trim old first n result new → CostsAtMost old (write_commands is_trim old n) result new
+    → Stores is_trim old first n result new → CostsAtMost old (most_batches is_trim old n) result new
     → Writes is_trim (served old syncs read_only cleans flushes) (write first blocks) first n (with_nothing result) (served new syncs read_only cleans flushes)
 write_called is_trim old new syncs read_only cleans flushes first blocks n result a stores costs =
     let moment = moment-by (known_answer (flat_of old) (write first blocks)) (flat_of old) first blocks result (flat_of new) a.flat in
@@ -154,7 +165,7 @@ write_called is_trim old new syncs read_only cleans flushes first blocks n resul
         through = λ none. through-disk old new syncs read_only cleans flushes (write first blocks) a.kept (since-call flushes old new (IsFront (disk_array old) first blocks) a.kept a.durable moment);
       };
       turns = costs.turns;
-      due = omega (arith, costs.completed, few-commands is_trim old n);
+      due = blocks-pay old new syncs read_only cleans flushes (most_batches is_trim old n) n (few-batches is_trim old n) costs.completed;
       through = λ none. record { stores = stores; costs = costs };
     }
 
@@ -176,7 +187,7 @@ list-part puts old new distinct (inr front) = list-torn old puts new distinct fr
 
 -- a list of the disk is a list of the store
 pub list_called : (old new : DiskView) (syncs : ℕ) (read_only cleans flushes : Bool) (entries : List Entry) (bytes : List ℕ) (result : Result (Unit {0}) DiskFault) → IsDistinct nat_eq (blocks_named entries)
-    → Answers old (write_entries old entries bytes) result new → StoresList old entries result new → CostsAtMost old (list_commands old (length entries)) result new
+    → Answers old (write_entries old entries bytes) result new → StoresList old entries result new → CostsAtMost old (length entries) result new
     → WritesList (served old syncs read_only cleans flushes) entries bytes (with_nothing result) (served new syncs read_only cleans flushes)
 list_called old new syncs read_only cleans flushes entries bytes result distinct a stores costs =
     let puts = list_puts old entries bytes in
@@ -196,7 +207,7 @@ list_called old new syncs read_only cleans flushes entries bytes result distinct
         through = λ none. through-disk old new syncs read_only cleans flushes (write_list puts) a.kept (since-call flushes old new (IsListFront (disk_array old) puts) a.kept a.durable moment);
       };
       turns = costs.turns;
-      due = omega (arith, costs.completed);
+      due = blocks-pay old new syncs read_only cleans flushes (length entries) (length entries) (omega arith) costs.completed;
       through = λ none. record { stores = stores; costs = costs };
     }
 
@@ -207,7 +218,7 @@ refused_so A F (Err e) fault is a = rw is a
 
 -- a write that the disk refused, the store refuses
 pub write_refused : (is_trim : Bool) (old new : DiskView) (syncs : ℕ) (read_only cleans flushes : Bool) (first : ℕ) (blocks : List (List ℕ)) (n : ℕ) (result : Result (Unit {0}) StoreFault) (fault : DiskFault) → IsErrAnd result (λ e. e ≡ Disk fault)
-    → Answers old (write first blocks) (Err fault) new → Stores is_trim old first n (Err fault) new → CostsAtMost old (write_commands is_trim old n) (Err fault) new
+    → Answers old (write first blocks) (Err fault) new → Stores is_trim old first n (Err fault) new → CostsAtMost old (most_batches is_trim old n) (Err fault) new
     → OrFails (λ answer. Writes is_trim (served old syncs read_only cleans flushes) (write first blocks) first n (with_nothing answer) (served new syncs read_only cleans flushes))
     (Spares (served old syncs read_only cleans flushes) first n (served new syncs read_only cleans flushes)) result
 write_refused is_trim old new syncs read_only cleans flushes first blocks n result fault is a stores costs =
@@ -300,7 +311,7 @@ silent_keeps disk syncs more read_only cleans grows = record {
   kept = keeps_same disk;
   durable = λ zones left. inl left;
   turns = λ none. refl;
-  completed = omega arith;
+  completed = bound_always _ disk disk (λ each. omega arith);
   pending = λ w found. found;
   since = λ array found. inl found;
   syncs = grows;
@@ -350,7 +361,7 @@ flush_keeps old new syncs more read_only cleans array kept durable turns complet
   kept = keeps_call old new kept;
   durable = durable;
   turns = λ none. turns;
-  completed = omega (arith, completed);
+  completed = bound_always _ old new (λ each. omega (arith, completed));
   pending = λ w found. found;
   since = since-flushed old new kept durable;
   syncs = grows;

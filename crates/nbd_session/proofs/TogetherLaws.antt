@@ -1,23 +1,20 @@
 -- A turn in which requests may be answered together: a message of its own, or a group.
-use Rattle.std.proofs.Common.{◌≡◌, ℕ, ◌≤◌, List, ◌++◌, length, map, take, drop, get_or, Option, Some, None, Ok, Err, true, false, refl, ap, sym, inl, inr, ◌∙◌, arith}
+use Rattle.std.proofs.Common.{◌≡◌, ℕ, List, length, map, Option, Some, None, Ok, Err, true, false, refl, ap, sym, inl, inr, ◌∙◌, arith}
 use Rattle.std.specs.Prelude.{Bool, IsErrAnd, Result}
-use Rattle.std.specs.List.{flat_map}
-use Rattle.std.specs.Io.KnownBytes.{Appends, Consumes, Keeps}
-use Rattle.std.proofs.KnownBytes.{Appends-kept, Keeps-trans}
+use Rattle.std.specs.Io.KnownBytes.{Consumes, Keeps}
+use Rattle.std.proofs.KnownBytes.{Keeps-trans}
 use Rattle.std.proofs.lemmas.List.{length-map}
-use Rattle.disk_files.specs.Output.{AppendsFront}
 use Rattle.zone_translator.specs.declared.fault.DiskFault.{DiskFault}
 use Rattle.nbd_session.specs.declared.fault.SessionFault.{SessionFault}
 use Rattle.nbd_session.specs.declared.fault.SessionFault.TheVariants.{Input, Magic, Output, TooMany, Unsent}
 use Rattle.nbd_session.specs.declared.group.Group.{Group}
-use Rattle.nbd_session.specs.declared.group.Member.{Member}
 use Rattle.nbd_session.specs.declared.phase.Phase.{Phase}
 use Rattle.nbd_session.specs.declared.phase.Phase.TheVariants as phases
-use Rattle.nbd_session.specs.Groups.{AnswersGroup, AnswersGroupInPart, Asking, FollowsAll, GroupGives, TakesGroup, member_of, replies_to}
+use Rattle.nbd_session.specs.Groups.{AnswersGroup, Asking, FollowsAll, GroupGives, TakesGroup, member_of, replies_to}
 use Rattle.nbd_session.specs.Manners.{while_clean}
 use Rattle.nbd_session.specs.Session.{AnswersInAs, ServesGroup, Session, session}
 use Rattle.nbd_session.specs.Store.{StoreView}
-use Rattle.nbd_session.specs.Streams.{Streams, streams}
+use Rattle.nbd_session.specs.Streams.{streams}
 use Rattle.nbd_session.specs.Turns.{AnswersOne, StopsSession, TurnGives}
 
 -- ---- a message of its own

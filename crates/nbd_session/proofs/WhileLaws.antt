@@ -14,7 +14,7 @@ use Rattle.nbd_session.specs.Groups.{FollowsAll}
 use Rattle.nbd_session.specs.Laws.{ServedWhileClean}
 use Rattle.nbd_session.specs.Manners.{RestsTimes, always, while_clean}
 use Rattle.nbd_session.specs.Requests.{AnswersAnyway, AnswersAsked, asked_of_store}
-use Rattle.nbd_session.specs.Session.{AnswersAndRests, AnswersByAs, AnswersEach, AnswersInAs, Dialogue, FollowsAs, Served, ServesGroup, ServesRequestAs, Session}
+use Rattle.nbd_session.specs.Session.{AnswersByAs, AnswersEach, AnswersInAs, Dialogue, FollowsAs, Served, ServesGroup, ServesRequestAs, Session}
 use Rattle.nbd_session.specs.Store.{Stays, StoreView}
 use Rattle.nbd_session.specs.Streams.{Streams}
 use Rattle.nbd_session.specs.Turns.{RunsWithin, ServesAtMostAs, StopsAfter, StopsEarly, requests_at, requests_in}

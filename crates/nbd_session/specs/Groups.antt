@@ -1,6 +1,6 @@
 -- Requests that have come together, and are done by one call of the store.
 use Rattle.std.specs.Prelude.{◌≡◌, ◌⊎◌, ℕ, zero, suc, ◌+◌, ◌-◌, ◌/◌, ◌<◌, ◌≤◌, Bool, true, false, List, [], ◌∷◌, ◌++◌}
-use Rattle.std.specs.Prelude.{length, map, take, nat_eq, Option, Some, None, IfOk, Result, Ok, Err, alloc_error}
+use Rattle.std.specs.Prelude.{length, map, take, nat_eq, Option, Some, None, IfOk, Result, Ok, Err}
 use Rattle.std.specs.List.{AllByRecursion, IsDistinct, flat_map}
 use Rattle.std.specs.Io.KnownBytes.{Appends, Consumes}
 use Rattle.batch_log.specs.declared.header.Entry.{Entry}

@@ -1,19 +1,20 @@
 -- A disk that is served, what of it a loss of power leaves, and how often it was synced.
-use Rattle.std.specs.Prelude.{◌≡◌, ◌⊎◌, ℕ, ◌+◌, ◌<◌, ◌≤◌, ◌&&◌, ◌||◌, if◌then◌else◌, Bool, true, false, not, List, []}
-use Rattle.std.specs.Prelude.{◌∷◌, length, map, slice_index_or, Contains, Some, None, Result, Ok, Err, IfErr, IsTrue}
+use Rattle.std.specs.Prelude.{◌≡◌, ◌⊎◌, ℕ, ◌+◌, ◌*◌, ◌<◌, ◌≤◌, ◌&&◌, ◌||◌, if◌then◌else◌, Bool, true, false, not, List}
+use Rattle.std.specs.Prelude.{[], ◌∷◌, length, map, slice_index_or, Contains, Some, None, Result, Ok, Err, IfErr, IsTrue}
 use Rattle.std.specs.Prelude.{OnOk}
 use Rattle.std.specs.List.{concat}
 use Rattle.batch_log.specs.declared.header.Entry.{Entry}
 use Rattle.drive_port.specs.Durable.{MayBeDurable}
 use Rattle.drive_array.specs.Reserve.{batch_most}
-use Rattle.zone_translator.specs.Answers.{CostsAtMost, Stores, StoresList, TakesTurn, count_of_blocks, list_commands}
-use Rattle.zone_translator.specs.Answers.{write_bytes, write_commands, write_entries}
+use Rattle.zone_translator.specs.Answers.{CostsAtMost, Stores, StoresList, TakesTurn, count_of_blocks, write_bytes}
+use Rattle.zone_translator.specs.Answers.{write_entries}
+use Rattle.zone_translator.specs.Changes.{batch_commands, failing_commands}
 use Rattle.zone_translator.specs.Flat.{Answer, Call, FlatCall, FlatDisk, IsFront, IsListFront, Put, answer_while, flush}
 use Rattle.zone_translator.specs.Flat.{idle, known_range, may_refuse, put_all, read, replaced, status_after, trim}
 use Rattle.zone_translator.specs.Flat.{with_nothing, write, write_list}
 use Rattle.zone_translator.specs.Keeping.{KeepsServed}
 use Rattle.zone_translator.specs.View.{CompletesAtMost, DiskCause, DiskView, KeepsDisk, StaysAlike, disk_array}
-use Rattle.zone_translator.specs.View.{disk_turns, flat_of}
+use Rattle.zone_translator.specs.View.{disk_turns, flat_of, most_batches}
 use Rattle.zone_translator.specs.declared.fault.DiskFault.{DiskFault}
 use Rattle.nbd_session.specs.Pending.{AreApart, HoldsSome, Pending, overlay, pieces}
 use Rattle.nbd_session.specs.declared.fault.StoreFault.{StoreFault}
@@ -124,24 +125,40 @@ pub record Calls (old : StoreView) (call : Call) (answer : Answer) (new : StoreV
   pub mode : KeepsMode old new
   pub through : GoesThrough old new → CallsDisk old call new
 
--- the commands that the drive has completed, and those that the pending blocks may take, each by itself
-abbrev pub commands_due : StoreView → ℕ
-commands_due store = store.disk.drive.completed + write_commands false store.disk (length store.pending)
+-- A bound by what one batch takes: while no command failed, as many commands as a batch takes then; and in any case as
+-- many as it takes where one fails.
+pub record BoundByBatch (Bound : ℕ → Type 0) (old new : DiskView) : Type 0 where
+  pub unfailing : IsTrue new.drive.unfailing → Bound (batch_commands old.drive.geometry)
+  pub failing : Bound (failing_commands old.drive.geometry)
+
+-- the commands that the drive has completed, and those that the pending blocks may take, each by a batch of so many
+abbrev pub commands_due : ℕ → StoreView → ℕ
+commands_due each store = store.disk.drive.completed + length store.pending * each
+
+-- n blocks, and each that is pending no more, pay for the commands of one batch each
+abbrev pub PaysFor : StoreView → ℕ → StoreView → Type 0
+PaysFor old n new =
+    BoundByBatch (λ (each : ℕ). commands_due each new ≤ commands_due each old + n * each) old.disk new.disk
+
+-- one command is completed at most, besides those that were due
+abbrev pub PaysForOne : StoreView → StoreView → Type 0
+PaysForOne old new =
+    BoundByBatch (λ (each : ℕ). new.disk.drive.completed ≤ commands_due each old + 1) old.disk new.disk
 
 -- What a write gives besides that goes through to the disk. Done, the newest records of its n blocks have data or, of a
--- trim, have none. It completes at most so many commands.
+-- trim, have none. It takes at most so many batches.
 pub record WritesDisk (is_trim : Bool) (old : DiskView) (first n : ℕ) (result : Result (Unit {0}) DiskFault)
     (new : DiskView) : Type 0 where
   pub stores : Stores is_trim old first n result new
-  pub costs : CostsAtMost old (write_commands is_trim old n) result new
+  pub costs : CostsAtMost old (most_batches is_trim old n) result new
 
 -- A call that writes n blocks from a given one on. Done, it adds no turns of a clean. Each of its blocks, and each that
--- is pending no more, pays for the commands of one write.
+-- is pending no more, pays for the commands of one batch.
 pub record Writes (is_trim : Bool) (old : StoreView) (call : Call) (first n : ℕ) (answer : Answer)
     (new : StoreView) : Type 0 where
   pub calls : Calls old call answer new
   pub turns : OnOk answer.result (disk_turns new.disk ≤ disk_turns old.disk)
-  pub due : commands_due new ≤ commands_due old + write_commands false old.disk n
+  pub due : PaysFor old n new
   pub through : GoesThrough old new → WritesDisk is_trim old.disk first n answer.result new.disk
 
 -- these bytes are written
@@ -166,15 +183,15 @@ most_listed store = if store.defers || store.fails then 0 else batch_most store.
 pub record ListsDisk (old : DiskView) (entries : List Entry) (result : Result (Unit {0}) DiskFault)
     (new : DiskView) : Type 0 where
   pub stores : StoresList old entries result new
-  pub costs : CostsAtMost old (list_commands old (length entries)) result new
+  pub costs : CostsAtMost old (length entries) result new
 
 -- The blocks of a list are written and trimmed. Done, that adds no turns of a clean. Each block pays for the commands
--- of one write.
+-- of one batch.
 pub record WritesList (old : StoreView) (entries : List Entry) (bytes : List ℕ) (answer : Answer)
     (new : StoreView) : Type 0 where
   pub calls : Calls old (write_entries old.disk entries bytes) answer new
   pub turns : OnOk answer.result (disk_turns new.disk ≤ disk_turns old.disk)
-  pub due : commands_due new ≤ commands_due old + list_commands old.disk (length entries)
+  pub due : PaysFor old (length entries) new
   pub through : GoesThrough old new → ListsDisk old.disk entries answer.result new.disk
 
 -- A read of n blocks: it completes one command a block at most. As many turns of a clean are left as before, and the
@@ -206,7 +223,7 @@ pub record Spares (old : StoreView) (first n : ℕ) (new : StoreView) : Type 0 w
   pub durable : new.disk.drive.durable ≡ old.disk.drive.durable
   pub written : old.pending ≡ [] → new.disk.drive.zones ≡ old.disk.drive.zones
   pub turns : disk_turns new.disk ≤ disk_turns old.disk
-  pub due : commands_due new ≤ commands_due old + write_commands false old.disk n
+  pub due : PaysFor old n new
   pub since : (array : List (List ℕ)) → Contains new.since array → Contains old.since array
   pub pending : (w : Pending) → Contains new.pending w → Contains old.pending w
   pub syncs : new.syncs ≡ old.syncs
@@ -234,7 +251,7 @@ pub record KeepsBySync (old new : StoreView) : Type 0 where
   pub kept : KeepsServed old.disk new.disk
   pub durable : MayBeDurable old.disk.drive new.disk.drive
   pub turns : old.pending ≡ [] → disk_turns new.disk ≡ disk_turns old.disk
-  pub completed : CompletesAtMost old.disk (write_commands false old.disk (length old.pending) + 1) new.disk
+  pub completed : PaysForOne old new
   pub pending : (w : Pending) → Contains new.pending w → Contains old.pending w
   pub since : (array : List (List ℕ)) → Contains new.since array
       → Contains old.since array ⊎ HoldsSome new.pending (disk_array new.disk) array

@@ -27,7 +27,8 @@
 //!   `ESHUTDOWN`. Where the drive failed at one command only what needed it is answered by `EIO`. The session
 //!   continues.
 //! * A TRIM leaves records without data, and so does a WRITE_ZEROES that may leave a hole. One that may not, and a
-//!   WRITE, leave records with data. Each takes so many commands at most.
+//!   WRITE, leave records with data. Each takes the commands of so many batches at most, as a disk does (`costs`): more
+//!   once a command of the drive failed.
 //! * A FLUSH, and a write with FUA, is answered by success only after a completed sync: of the whole array, or of the
 //!   blocks that the write named. After a FLUSH a loss of power leaves the array as it is. After such a write it
 //!   leaves the blocks that were named, and of a [`ServedDisk`] the whole array (`laws::forced_is_durable`).
@@ -35,8 +36,8 @@
 //!   of its medium: a sync of a served disk syncs its medium.
 //! * Each other call adds only arrays that a loss of power could leave before, with a part of the call (`since` of
 //!   `Calls`). Of a `ServedDisk` it adds at most the arrays of its moments, and nothing is pending above it. What is
-//!   pending above another store was written by a call, and pays for the commands that its write may take
-//!   (`laws::session_keeps_mode`).
+//!   pending above another store was written by a call (`laws::session_keeps_mode`). Each such block pays for the
+//!   commands of one batch (`due` of `Writes`).
 //! * With the medium [`DriveFlush`] a sync is a Flush of the drive, and a loss of power leaves the array of the last
 //!   one: what it leaves can be mounted, and the mount finds it, however the session ends (`laws::loss_is_found`). Any
 //!   other medium's word stands for it.

@@ -7,14 +7,14 @@ use Rattle.std.proofs.Math.Nat.{add-mul}
 use Rattle.std.proofs.lemmas.List.{length-append, map-append}
 use Rattle.std.proofs.lemmas.Nat.{mul-le}
 use Rattle.zone_translator.proofs.KeepingLaws.{keeps_again}
-use Rattle.zone_translator.specs.Changes.{batch_commands}
 use Rattle.zone_translator.specs.Flat.{Answer, Begun, Call, FlatCall, FlatDisk, answer_while, known_answer, known_range, status_after, with_nothing, write}
 use Rattle.zone_translator.specs.View.{disk_size}
 use Rattle.zone_translator.specs.declared.fault.DiskFault.{DiskFault}
 use Rattle.zone_translator.specs.declared.status.DiskStatus.{DiskStatus}
 use Rattle.zone_translator.specs.declared.status.DiskStatus.TheVariants.{Serving, Stopped, Unmounted}
 use Rattle.nbd_session.specs.Pending.{AreApart, Pending, pieces}
-use Rattle.nbd_session.specs.Store.{FailsSync, KeepsBySync, OrFails, Spares, StoreView, SyncsBy, Writes, store_array, store_flat}
+use Rattle.nbd_session.specs.Store.{FailsSync, KeepsBySync, OrFails, Spares, StoreView, SyncsBy, Writes, commands_due, store_array, store_flat}
+use Rattle.nbd_session.proofs.CostLaws.{bound_again, bound_so}
 use Rattle.nbd_session.specs.declared.fault.StoreFault.{StoreFault}
 use Rattle.nbd_session.specs.declared.fault.StoreFault.TheVariants.{Disk, Medium}
 use Rattle.volatile_cache.specs.Cache.{Applies, AreOf, Cache, FailsAfter, HasOutcomesOf, Keeps, Puts, PutsOrFails, Refuses, RefusesAfter, view_of}
@@ -263,8 +263,9 @@ refused-below : (is_trim kind : Bool) (below below' : StoreView) (xs ys : List P
 refused-below is_trim kind below below' xs ys w first blocks n fault apart some known unknown wrote = record {
   calls = refused_calls is_trim below below' xs ys w first blocks fault apart known unknown wrote;
   turns = tt;
-  due = rw (length-append below'.pending (xs ++ w ∷ ys), length-append below.pending (xs ++ w ∷ ys), wrote.calls.kept.geometry)
-      (refused-due below'.disk.drive.completed below.disk.drive.completed (length below'.pending) (length below.pending) (length (xs ++ w ∷ ys)) (batch_commands below.disk.drive.geometry) n some (rw wrote.calls.kept.geometry at wrote.due));
+  due = bound_so _ _ below.disk below'.disk (λ (each : ℕ) due.
+      rw (length-append below'.pending (xs ++ w ∷ ys), length-append below.pending (xs ++ w ∷ ys))
+      (refused-due below'.disk.drive.completed below.disk.drive.completed (length below'.pending) (length below.pending) (length (xs ++ w ∷ ys)) each n some due)) wrote.due;
   through = λ none. absurd (not_none below.pending xs ys w none.0);
 }
 
@@ -299,6 +300,9 @@ sent_after view old middle new kind call first n answer applied none after wrote
 
 -- ---- a sync
 
+one-again : (c b a e : ℕ) → b ≤ a + 0 * e → c ≤ b + 1 → c ≤ a + 1
+one-again c b a e first second = omega (arith, first, second)
+
 -- a sync that fails after some blocks were applied
 settled-keeps : (a b c : StoreView) → Settles a b → (a.pending ≡ [] → ⊥) → KeepsBySync b c → KeepsBySync a c
 settled-keeps a b c s some k = record {
@@ -306,11 +310,7 @@ settled-keeps a b c s some k = record {
   kept = keeps_again a.disk b.disk c.disk s.kept k.kept;
   durable = λ zones found. elim (k.durable zones found) [ inl before ↦ inl (rw s.durable at before) | inr now ↦ inr now ];
   turns = λ none. absurd (some none);
-  completed = (
-      let e = batch_commands a.disk.drive.geometry in
-      let first = rw s.kept.geometry at s.due in
-      let second = rw s.kept.geometry at k.completed in
-      omega (arith, first, second));
+  completed = bound_again _ _ _ a.disk b.disk c.disk s.kept k.kept (λ (each : ℕ) some. one-again c.disk.drive.completed (commands_due each b) (commands_due each a) each) s.due k.completed;
   pending = λ w found. s.pending w (k.pending w found);
   since = λ array found. elim (k.since array found) [ inl before ↦ inl (s.since array before) | inr now ↦ inr now ];
   syncs = rw s.syncs at k.syncs;

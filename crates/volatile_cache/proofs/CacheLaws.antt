@@ -1,21 +1,20 @@
 -- A cache above a store keeps the contract of a store.
-use Rattle.std.proofs.Common.{◌≡◌, set-set, inl, inr, ℕ, zero, suc, ◌+◌, ◌*◌, ◌≤◌, List, [], ◌∷◌, ◌++◌, ◌∙◌, length, set, refl, sym, ap, arith, Some, None, Ok, Err, true, false}
+use Rattle.std.proofs.Common.{◌≡◌, set-set, inl, inr, ℕ, zero, suc, ◌+◌, ◌*◌, ◌≤◌, List, [], ◌∷◌, ◌++◌, ◌∙◌, length, set, refl, sym, ap, arith, Some, None, Ok, Err, true}
 use Rattle.std.specs.Prelude.{◌⊎◌, Bool, Contains, MatchOption, Option, Result}
 use Rattle.std.specs.List.{flat_map}
 use Rattle.std.proofs.Math.Nat.{add-mul}
 use Rattle.std.proofs.lemmas.List.{append-nil, length-append}
 use Rattle.std.proofs.lemmas.List.Elements.{Contains-append_left, Contains-append_right, Contains-append_cases}
 use Rattle.zone_translator.proofs.KeepingLaws.{keeps_again, keeps_same}
-use Rattle.zone_translator.specs.Answers.{write_commands}
-use Rattle.zone_translator.specs.Changes.{batch_commands}
 use Rattle.zone_translator.specs.Flat.{Begun, Call, FlatDisk, IsFront, answer_while, idle, known_answer, replaced, status_after, with_nothing, write}
-use Rattle.zone_translator.specs.View.{CompletesAtMost, disk_array, disk_turns, flat_of}
+use Rattle.zone_translator.specs.View.{disk_array, disk_turns, flat_of}
 use Rattle.zone_translator.specs.declared.fault.DiskFault.{DiskFault}
 use Rattle.zone_translator.specs.declared.fault.DiskFault.TheVariants.{OutOfRange, OutOfMemory, Failed, Stopped, Spent, Unmounted, Smaller, Reserve, Damaged}
 use Rattle.nbd_session.specs.declared.fault.StoreFault.{StoreFault}
 use Rattle.nbd_session.specs.declared.fault.StoreFault.TheVariants.{Disk, Medium}
 use Rattle.nbd_session.specs.Pending.{AreApart, HoldsSome, Pending, overlay, pieces}
-use Rattle.nbd_session.specs.Store.{Calls, ComesFrom, KeepsBySync, KeepsMode, StoreView, SyncsBy, TakesOneTurn, Writes, commands_due, may_fail, store_array, store_flat}
+use Rattle.nbd_session.specs.Store.{Calls, ComesFrom, KeepsBySync, KeepsMode, PaysFor, StoreView, SyncsBy, TakesOneTurn, Writes, commands_due, may_fail, store_array, store_flat}
+use Rattle.nbd_session.proofs.CostLaws.{bound_again, bound_always, bound_so}
 use Rattle.nbd_session.proofs.PendingLaws.{front-torn, same-torn}
 use Rattle.volatile_cache.specs.Outcomes.{Settles, cached, deferring, outcomes}
 use Rattle.volatile_cache.proofs.Lists.{IsOfOne, in_flat_map, of_one}
@@ -35,7 +34,7 @@ is_later x xs a found = (suc found.0, omega (arith, found.1), found.2)
 is_head : {X : Type 0} (x : X) (xs : List X) (a : X) → a ≡ x → Contains (x ∷ xs) a
 is_head x xs a same = (zero, omega arith, sym same)
 
-due-sum : (c d less more m e : ℕ) → c + less * e ≤ d + more * e + 1 * e → c + (less + m) * e ≤ d + (more + (m + 1)) * e
+due-sum : (c d less more m e : ℕ) → c + less * e ≤ d + more * e + 1 * e → c + (less + m) * e ≤ d + (more + (m + 1)) * e + 0 * e
 due-sum c d less more m e h = omega (arith, h, add-mul less m e, add-mul more (m + 1) e, add-mul m 1 e)
 
 length-pulled : (xs ys : List Pending) (w : Pending) → length (xs ++ w ∷ ys) ≡ length (xs ++ ys) + 1
@@ -77,11 +76,10 @@ pending-less is_trim below below' w xs ys result wrote v found = elim (Contains-
 ]
 
 due-less : (is_trim : Bool) (below below' : StoreView) (w : Pending) (xs ys : List Pending) (result : Result (Unit {0}) DiskFault) → WroteBlock is_trim below w result below'
-    → commands_due (cached below' (xs ++ ys)) ≤ commands_due (cached below (xs ++ w ∷ ys))
-due-less is_trim below below' w xs ys result wrote =
-    rw (length-append below'.pending (xs ++ ys), length-append below.pending (xs ++ w ∷ ys), length-pulled xs ys w, wrote.calls.kept.geometry)
-    (due-sum below'.disk.drive.completed below.disk.drive.completed (length below'.pending) (length below.pending) (length (xs ++ ys)) (batch_commands below.disk.drive.geometry)
-    (rw wrote.calls.kept.geometry at wrote.due))
+    → PaysFor (cached below (xs ++ w ∷ ys)) 0 (cached below' (xs ++ ys))
+due-less is_trim below below' w xs ys result wrote = bound_so _ _ below.disk below'.disk (λ (each : ℕ) due.
+    rw (length-append below'.pending (xs ++ ys), length-append below.pending (xs ++ w ∷ ys), length-pulled xs ys w)
+    (due-sum below'.disk.drive.completed below.disk.drive.completed (length below'.pending) (length below.pending) (length (xs ++ ys)) each due)) wrote.due
 
 -- the array of the cache stays, done
 array-pulled : (below below' : StoreView) (w : Pending) (xs ys : List Pending) → AreApart w.place 1 xs → store_array below' ≡ replaced (store_array below) w.place (w.block ∷ [])
@@ -121,6 +119,9 @@ applied_settles is_trim below below' w xs ys apart known wrote =
         ap (λ (d : FlatDisk). record d { array = overlay (xs ++ ys) d.array }) is
         ∙ ap (λ (a : List (List ℕ)). record (store_flat below) { array = a }) (ap (overlay (xs ++ ys)) (replaced_one (store_array below) w.place w.block) ∙ pulled xs ys w (store_array below) apart)
 
+due-same : (d e : ℕ) → d ≤ d + 0 * e
+due-same d e = omega arith
+
 -- nothing is applied
 pub settles_same : (store : StoreView) → Settles store store
 settles_same store = record {
@@ -132,8 +133,11 @@ settles_same store = record {
   syncs = refl;
   mode = record { read_only = refl; cleans = refl; flushes = refl; defers = refl; fails = refl };
   turns = omega arith;
-  due = omega arith;
+  due = bound_always _ store.disk store.disk (λ (each : ℕ). due-same (commands_due each store) each);
 }
+
+pub due-again : (c b a n e : ℕ) → b ≤ a + 0 * e → c ≤ b + n * e → c ≤ a + n * e
+due-again c b a n e first second = omega (arith, first, second)
 
 -- one after the other
 pub settles_again : (a b c : StoreView) → Settles a b → Settles b c → Settles a c
@@ -146,7 +150,7 @@ settles_again a b c x y = record {
   syncs = y.syncs ∙ x.syncs;
   mode = record { read_only = y.mode.read_only ∙ x.mode.read_only; cleans = y.mode.cleans ∙ x.mode.cleans; flushes = y.mode.flushes ∙ x.mode.flushes; defers = y.mode.defers ∙ x.mode.defers; fails = y.mode.fails ∙ x.mode.fails };
   turns = omega (arith, x.turns, y.turns);
-  due = omega (arith, x.due, y.due);
+  due = bound_again _ _ _ a.disk b.disk c.disk x.kept y.kept (λ (each : ℕ) some. due-again (commands_due each c) (commands_due each b) (commands_due each a) 0 each) x.due y.due;
 }
 
 -- ---- a write goes to the cache
@@ -202,8 +206,9 @@ kept_writes is_trim below mine first blocks some known = record {
     through = λ none. absurd (some-pieces first blocks below.pending mine some none.1);
   };
   turns = omega arith;
-  due = rw (length-append below.pending (mine ++ pieces first blocks), length-append mine (pieces first blocks), length-append below.pending mine, length_pieces first blocks)
-      (due-kept below.disk.drive.completed (length below.pending) (length mine) (length blocks) (batch_commands below.disk.drive.geometry));
+  due = bound_always _ below.disk below.disk (λ (each : ℕ).
+      rw (length-append below.pending (mine ++ pieces first blocks), length-append mine (pieces first blocks), length-append below.pending mine, length_pieces first blocks)
+      (due-kept below.disk.drive.completed (length below.pending) (length mine) (length blocks) each));
   through = λ none. absurd (some-pieces first blocks below.pending mine some none.1);
 } where
   array_is : store_array (cached below (mine ++ pieces first blocks)) ≡ replaced (store_array (cached below mine)) first blocks
@@ -224,6 +229,9 @@ empty_cache below = rw (append-nil below.pending, flat-ones below.since) refl
 
 -- ---- a sync
 
+due-one : (c b a more left e : ℕ) → b + (more + left) * e ≤ a + 0 * e → c ≤ b + more * e + 1 → c ≤ a + 1
+due-one c b a more left e first second = omega (arith, first, second, add-mul more left e)
+
 -- What the store below keeps by a sync after some blocks were applied, the cache keeps. `IsLess` says what may be left in it.
 pub keeps_synced : (below middle last : StoreView) (mine left : List Pending) → Settles (cached below mine) (cached middle left)
     → (below.pending ++ mine ≡ [] → (middle ≡ below) × (left ≡ [])) → KeepsBySync middle last → KeepsBySync (cached below mine) (cached last left)
@@ -232,7 +240,8 @@ keeps_synced below middle last mine left s nothing k = record {
   kept = keeps_again below.disk middle.disk last.disk s.kept k.kept;
   durable = λ zones found. elim (k.durable zones found) [ inl before ↦ inl (rw s.durable at before) | inr now ↦ inr now ];
   turns = λ none. k.turns (none-under none) ∙ ap (λ (m : StoreView). disk_turns m.disk) (nothing none).0;
-  completed = completed;
+  completed = bound_again _ _ _ below.disk middle.disk last.disk s.kept k.kept (λ (each : ℕ) some first second.
+      due-one last.disk.drive.completed middle.disk.drive.completed (commands_due each (cached below mine)) (length middle.pending) (length left) each (rw (length-append middle.pending left) at first) second) s.due k.completed;
   pending = λ w found. elim (Contains-append_cases last.pending left w found) [
     | inl under ↦ s.pending w (Contains-append_left middle.pending left w (k.pending w under))
     | inr over ↦ s.pending w (Contains-append_right middle.pending left w over)
@@ -264,13 +273,6 @@ keeps_synced below middle last mine left s nothing k = record {
   more-since so array found =
       let r : IsOfOne (outcomes left) last.since array = of_one (outcomes left) last.since array found in
       in_flat_map (outcomes left) middle.since r.from array (so r.from r.is_there) r.is_of
-
-  completed : CompletesAtMost below.disk (write_commands false below.disk (length (below.pending ++ mine)) + 1) last.disk
-  completed =
-      let e = batch_commands below.disk.drive.geometry in
-      let first = rw (length-append middle.pending left, s.kept.geometry) at s.due in
-      let second = rw s.kept.geometry at k.completed in
-      omega (arith, first, second, add-mul (length middle.pending) (length left) e)
 
 -- as a flush may be refused, so may a write
 may-first : (ws : List Pending) (w : Pending) (vs : List Pending) (fault : DiskFault) → may_fail ws fault ≡ true → may_fail (w ∷ vs) fault ≡ true

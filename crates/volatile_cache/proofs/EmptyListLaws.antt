@@ -2,10 +2,9 @@
 use Rattle.std.proofs.Common.{◌≡◌, inl, inr, ℕ, ◌≤◌, List, [], ◌∷◌, ◌++◌, length, refl, arith, Some, Ok}
 use Rattle.std.specs.Prelude.{Contains}
 use Rattle.std.specs.List.{flat_map}
-use Rattle.std.proofs.lemmas.List.{ext_get_or, length-append}
+use Rattle.std.proofs.lemmas.List.{ext_get_or}
 use Rattle.std.proofs.lemmas.List.Elements.{Contains-append_left, Contains-append_right, Contains-append_cases}
 use Rattle.batch_log.specs.declared.header.Entry.{Entry}
-use Rattle.zone_translator.specs.Changes.{batch_commands}
 use Rattle.zone_translator.specs.Flat.{Answer, write_list}
 use Rattle.nbd_session.specs.Pending.{Pending}
 use Rattle.nbd_session.specs.Store.{ComesFrom, IsListTorn, StoreView, WritesList, store_flat}
@@ -13,7 +12,7 @@ use Rattle.volatile_cache.specs.Outcomes.{cached, deferring, outcomes}
 use Rattle.volatile_cache.proofs.CacheLaws.{empty_cache, mode_up, over}
 use Rattle.volatile_cache.proofs.Lists.{IsOfOne, in_flat_map, of_one}
 use Rattle.volatile_cache.proofs.OutcomeLaws.{cached_flat}
-use Rattle.volatile_cache.proofs.ThroughLaws.{known-over, under-due}
+use Rattle.volatile_cache.proofs.ThroughLaws.{due_under, known-over}
 
 none-named : (entries : List Entry) → length entries ≤ 0 → entries ≡ []
 none-named [] few = refl
@@ -72,8 +71,7 @@ empty-list below below' (v ∷ mine) bytes answer w = record {
     through = λ none. absurd (cc (none-last below.pending (v ∷ mine) none.0));
   };
   turns = w.turns;
-  due = rw (length-append below'.pending (v ∷ mine), length-append below.pending (v ∷ mine), w.calls.kept.geometry)
-      (under-due below'.disk.drive.completed below.disk.drive.completed (length below'.pending) (length below.pending) (length (v ∷ mine)) (batch_commands below.disk.drive.geometry) 0 (rw w.calls.kept.geometry at w.due));
+  due = due_under below below' (v ∷ mine) 0 w.due;
   through = λ none. absurd (cc (none-last below.pending (v ∷ mine) none.0));
 } where
   none-last : (xs ys : List Pending) → xs ++ ys ≡ [] → ys ≡ []

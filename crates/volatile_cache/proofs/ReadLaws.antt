@@ -9,14 +9,14 @@ use Rattle.zone_translator.proofs.DiskLaws.{kept-join}
 use Rattle.zone_translator.proofs.KeepingLaws.{keeps_again, keeps_same}
 use Rattle.std.proofs.Math.Nat.{add-mul}
 use Rattle.std.proofs.lemmas.Nat.{mul-le}
-use Rattle.zone_translator.specs.Changes.{batch_commands}
 use Rattle.zone_translator.specs.Flat.{Answer, Begun, FlatCall, FlatDisk, answer_while, blocks_from, known_range, read, status_after, with_nothing}
-use Rattle.zone_translator.specs.View.{DiskCause, disk_array, disk_size}
+use Rattle.zone_translator.specs.View.{CompletesAtMost, DiskCause, disk_array, disk_size}
 use Rattle.zone_translator.specs.declared.fault.DiskFault.{DiskFault}
 use Rattle.zone_translator.specs.declared.fault.DiskFault.TheVariants.{OutOfMemory}
 use Rattle.zone_translator.specs.declared.status.DiskStatus.{DiskStatus}
 use Rattle.zone_translator.specs.declared.status.DiskStatus.TheVariants as statuses
 use Rattle.nbd_session.specs.Pending.{AreApart, Pending, overlay}
+use Rattle.nbd_session.proofs.CostLaws.{bound_again, bound_always}
 use Rattle.nbd_session.proofs.PendingLaws.{all-apart}
 use Rattle.nbd_session.specs.Store.{Calls, OrFails, ReadsBlocks, Shows, Spares, StoreView, store_array, store_flat}
 use Rattle.nbd_session.specs.declared.fault.StoreFault.{StoreFault}
@@ -460,9 +460,9 @@ spares_after a b c first at end into known from less some (inr x) f =
       durable = y.durable ∙ r.calls.durable;
       written = λ none. absurd (some none);
       turns = omega (arith, y.turns, r.turns);
-      due = rw (y.kept.geometry, r.calls.kept.geometry)
-          (spared-due c.disk.drive.completed b.disk.drive.completed a.disk.drive.completed (length a.pending) (length c.pending) (at - first) f.count (end - first) (batch_commands a.disk.drive.geometry)
-          (rw (ap length r.pending, r.calls.kept.geometry) at (rw y.kept.geometry at y.due)) r.completed (omega (arith, f.within, x.0, less)) (omega arith));
+      due = bound_again _ _ _ a.disk b.disk c.disk r.calls.kept y.kept (λ (each : ℕ) some front due.
+          spared-due c.disk.drive.completed b.disk.drive.completed a.disk.drive.completed (length a.pending) (length c.pending) (at - first) f.count (end - first) each
+          (rw r.pending at due) front (omega (arith, f.within, x.0, less)) some) (bound_always (λ (each : ℕ). CompletesAtMost a.disk (at - first) b.disk) a.disk b.disk (λ each. r.completed)) y.due;
       since = λ left was. (let before = r.calls.since left (y.since left was) in rw (sym before.part) at before.was);
       pending = λ w was. rw r.pending at (y.pending w was);
       syncs = y.syncs ∙ r.calls.syncs;

@@ -1,21 +1,19 @@
 -- The medium of the store below failed: what that is above it.
-use Rattle.std.proofs.Common.{◌≡◌, ◌∙◌, ℕ, ◌+◌, ◌*◌, ◌≤◌, List, [], ◌∷◌, ◌++◌, length, refl, sym, ap, arith, inl, inr, None, false}
+use Rattle.std.proofs.Common.{◌≡◌, ◌∙◌, ℕ, ◌+◌, ◌*◌, ◌≤◌, List, [], ◌∷◌, ◌++◌, length, refl, sym, ap, arith, inl, inr, None}
 use Rattle.std.proofs.Math.Nat.{add-mul}
 use Rattle.std.proofs.lemmas.List.{length-append}
 use Rattle.std.proofs.lemmas.List.Elements.{Contains-append_left, Contains-append_right, Contains-append_cases}
 use Rattle.std.proofs.lemmas.Nat.{mul-le}
-use Rattle.zone_states.specs.declared.geometry.Geometry.{Geometry}
 use Rattle.zone_translator.proofs.KeepingLaws.{keeps_again}
-use Rattle.zone_translator.specs.Answers.{write_commands}
-use Rattle.zone_translator.specs.Changes.{batch_commands}
 use Rattle.zone_translator.specs.Flat.{FlatDisk, known_range}
 use Rattle.nbd_session.specs.Pending.{Pending, overlay}
 use Rattle.nbd_session.specs.Store.{KeepsBySync, Spares, StoreView, commands_due, store_flat}
+use Rattle.nbd_session.proofs.CostLaws.{bound_again, bound_so}
 use Rattle.volatile_cache.specs.Outcomes.{Settles, cached, outcomes}
 use Rattle.volatile_cache.proofs.Lists.{IsOfOne, in_flat_map, of_one}
 use Rattle.volatile_cache.proofs.OutcomeLaws.{cached_flat}
-use Rattle.volatile_cache.proofs.CacheLaws.{mode_up}
-use Rattle.volatile_cache.proofs.ThroughLaws.{due-on, under-due}
+use Rattle.volatile_cache.proofs.CacheLaws.{due-again, mode_up}
+use Rattle.volatile_cache.proofs.ThroughLaws.{due_under}
 
 first-none : (xs ys : List Pending) → xs ++ ys ≡ [] → xs ≡ []
 first-none [] ys none = refl
@@ -31,8 +29,7 @@ spares_over below below' mine first n s = record {
   durable = s.durable;
   written = λ none. s.written (first-none below.pending mine none);
   turns = s.turns;
-  due = rw (length-append below'.pending mine, length-append below.pending mine, s.kept.geometry)
-      (under-due below'.disk.drive.completed below.disk.drive.completed (length below'.pending) (length below.pending) (length mine) (batch_commands below.disk.drive.geometry) n (rw s.kept.geometry at s.due));
+  due = due_under below below' mine n s.due;
   since = λ array found. (
       let r : IsOfOne (outcomes mine) below'.since array = of_one (outcomes mine) below'.since array found in
       in_flat_map (outcomes mine) below.since r.from array (s.since r.from r.is_there) r.is_of);
@@ -54,7 +51,7 @@ settled_spares a b c first n s nothing x = record {
   durable = x.durable ∙ s.durable;
   written = λ none. x.written (ap (λ (v : StoreView). v.pending) (nothing none) ∙ none) ∙ ap (λ (v : StoreView). v.disk.drive.zones) (nothing none);
   turns = omega (arith, s.turns, x.turns);
-  due = due-on (commands_due c) (commands_due b) (commands_due a) (write_commands false b.disk n) (write_commands false a.disk n) x.due s.due (ap (λ (g : Geometry). n * batch_commands g) s.kept.geometry);
+  due = bound_again _ _ _ a.disk b.disk c.disk s.kept x.kept (λ (each : ℕ) some. due-again (commands_due each c) (commands_due each b) (commands_due each a) n each) s.due x.due;
   since = λ array found. s.since array (x.since array found);
   pending = λ w found. s.pending w (x.pending w found);
   syncs = x.syncs ∙ s.syncs;
@@ -67,6 +64,9 @@ settled_spares a b c first n s nothing x = record {
   };
 }
 
+longer-due : (b a k n e : ℕ) → k ≤ n → b ≤ a + k * e → b ≤ a + n * e
+longer-due b a k n e less due = omega (arith, due, mul-le k e n e less (omega arith))
+
 -- in a call of more blocks
 pub spares_longer : (a b : StoreView) (at k first n : ℕ) → k ≤ n → known_range (store_flat a) first n ≡ None → Spares a at k b → Spares a first n b
 spares_longer a b at k first n less known s = record {
@@ -77,15 +77,15 @@ spares_longer a b at k first n less known s = record {
   durable = s.durable;
   written = s.written;
   turns = s.turns;
-  due = omega (arith, s.due, mul-le k (batch_commands a.disk.drive.geometry) n (batch_commands a.disk.drive.geometry) less (omega arith));
+  due = bound_so _ _ a.disk b.disk (λ (each : ℕ). longer-due (commands_due each b) (commands_due each a) k n each less) s.due;
   since = s.since;
   pending = s.pending;
   syncs = s.syncs;
   mode = s.mode;
 }
 
-spare-due : (c d less more mine e : ℕ) → 1 ≤ mine → c + less * e ≤ d + more * e + 1 * e → c ≤ d + (more + mine) * e
-spare-due c d less more mine e some h = omega (arith, h, add-mul more mine e, mul-le 1 e mine e some (omega arith))
+spare-due : (c d a less more mine e : ℕ) → 1 ≤ mine → d + (more + mine) * e ≤ a + 0 * e → c + less * e ≤ d + more * e + 1 * e → c ≤ a + 1
+spare-due c d a less more mine e some first h = omega (arith, first, h, add-mul more mine e, mul-le 1 e mine e some (omega arith))
 
 -- a pending block in which the medium failed: a sync that needs it keeps what a sync keeps
 pub spares_keeps : (below below' : StoreView) (mine : List Pending) (place : ℕ) (a : StoreView) → 1 ≤ length mine → (a.pending ≡ [] → ⊥) → Settles a (cached below mine) → Spares below place 1 below' → KeepsBySync a (cached below' mine)
@@ -95,7 +95,8 @@ spares_keeps below below' mine place a stays some s x =
       kept = keeps_again a.disk below.disk below'.disk s.kept x.kept;
       durable = λ zones found. inl (rw (x.durable ∙ s.durable) at found);
       turns = λ none. absurd (some none);
-      completed = completed;
+      completed = bound_again _ _ _ a.disk below.disk below'.disk s.kept x.kept (λ (each : ℕ) some first.
+          spare-due below'.disk.drive.completed below.disk.drive.completed (commands_due each a) (length below'.pending) (length below.pending) (length mine) each stays (rw (length-append below.pending mine) at first)) s.due x.due;
       pending = λ w found. s.pending w (up.pending w found);
       since = λ array found. inl (s.since array (up.since array found));
       syncs = omega (arith, x.syncs, s.syncs);
@@ -108,10 +109,3 @@ spares_keeps below below' mine place a stays some s x =
       };
       silent = λ off none. absurd (some none);
     }
-  where
-    completed : below'.disk.drive.completed ≤ a.disk.drive.completed + (length a.pending * batch_commands a.disk.drive.geometry + 1)
-    completed =
-        let e = batch_commands a.disk.drive.geometry in
-        let due = rw (length-append below.pending mine, s.kept.geometry) at s.due in
-        let first = spare-due below'.disk.drive.completed below.disk.drive.completed (length below'.pending) (length below.pending) (length mine) e stays (rw (s.kept.geometry) at (rw x.kept.geometry at x.due)) in
-        omega (arith, first, due)

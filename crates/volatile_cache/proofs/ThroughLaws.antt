@@ -1,25 +1,23 @@
 -- Calls that go through a cache, and calls after which some blocks were applied.
-use Rattle.std.proofs.Common.{◌≡◌, inl, inr, ℕ, ◌+◌, ◌*◌, ◌≤◌, List, [], ◌∷◌, ◌++◌, ◌∙◌, length, refl, sym, ap, arith, Some, None, Ok, Err, true, false}
+use Rattle.std.proofs.Common.{◌≡◌, inl, inr, ℕ, ◌+◌, ◌*◌, ◌≤◌, List, [], ◌∷◌, ◌++◌, ◌∙◌, length, refl, sym, ap, arith, Some, None, Ok, Err, true}
 use Rattle.std.specs.Prelude.{Bool, Contains, MatchOption, OnOk, Option, Result}
 use Rattle.std.specs.List.{flat_map}
 use Rattle.std.proofs.Math.Nat.{add-mul}
 use Rattle.std.proofs.lemmas.List.{length-append}
 use Rattle.std.proofs.lemmas.Nat.{mul-le}
 use Rattle.std.proofs.lemmas.List.Elements.{Contains-append_left, Contains-append_right, Contains-append_cases}
-use Rattle.zone_states.specs.declared.geometry.Geometry.{Geometry}
 use Rattle.zone_translator.proofs.KeepingLaws.{keeps_again}
-use Rattle.zone_translator.specs.Answers.{write_commands}
-use Rattle.zone_translator.specs.Changes.{batch_commands}
 use Rattle.zone_translator.specs.Flat.{Answer, Begun, Call, FlatDisk, blocks_from, known_answer, may_refuse, read, status_after, with_nothing, write}
 use Rattle.zone_translator.specs.View.{disk_turns}
 use Rattle.zone_translator.specs.declared.fault.DiskFault.{DiskFault}
 use Rattle.zone_translator.specs.declared.fault.DiskFault.TheVariants.{OutOfRange, OutOfMemory, Failed, Stopped, Spent, Unmounted, Smaller, Reserve, Damaged}
 use Rattle.nbd_session.specs.Pending.{AreApart, Pending, overlay}
-use Rattle.nbd_session.specs.Store.{Calls, ComesFrom, FailsSync, ReadsBlocks, StoreView, Writes, commands_due, may_fail, store_array, store_flat}
+use Rattle.nbd_session.specs.Store.{Calls, ComesFrom, FailsSync, PaysFor, ReadsBlocks, StoreView, Writes, commands_due, may_fail, store_array, store_flat}
+use Rattle.nbd_session.proofs.CostLaws.{bound_again, bound_so}
 use Rattle.volatile_cache.specs.Outcomes.{Settles, cached, deferring, outcomes}
 use Rattle.volatile_cache.proofs.Lists.{IsOfOne, in_flat_map, of_one}
 use Rattle.volatile_cache.proofs.OutcomeLaws.{cached_flat, outcome_some, some_outcome, torn_under}
-use Rattle.volatile_cache.proofs.CacheLaws.{WroteBlock, begun_block, either_front, empty_cache, mode_up, not_none, over, unapplied_array, unapplied_pending, unapplied_since}
+use Rattle.volatile_cache.proofs.CacheLaws.{WroteBlock, begun_block, due-again, either_front, empty_cache, mode_up, not_none, over, unapplied_array, unapplied_pending, unapplied_since}
 
 turns-on : (result : Result (Unit {0}) DiskFault) (c b a : ℕ) → OnOk result (c ≤ b) → b ≤ a → OnOk result (c ≤ a)
 turns-on (Ok done) c b a less more = omega (arith, less, more)
@@ -42,14 +40,11 @@ settled_calls a b c call answer s nothing d = record {
   through = λ none. (rw (nothing none.0) at d.through) none;
 }
 
-pub due-on : (c b a x y : ℕ) → c ≤ b + x → b ≤ a → x ≡ y → c ≤ a + y
-due-on c b a x y first second same = omega (arith, first, second, same)
-
 pub settled_writes : (is_trim : Bool) (a b c : StoreView) (call : Call) (first n : ℕ) (answer : Answer) → Settles a b → (a.pending ≡ [] → b ≡ a) → Writes is_trim b call first n answer c → Writes is_trim a call first n answer c
 settled_writes is_trim a b c call first n answer s nothing w = record {
   calls = settled_calls a b c call answer s nothing w.calls;
   turns = turns-on answer.result (disk_turns c.disk) (disk_turns b.disk) (disk_turns a.disk) w.turns s.turns;
-  due = due-on (commands_due c) (commands_due b) (commands_due a) (write_commands false b.disk n) (write_commands false a.disk n) w.due s.due (ap (λ (g : Geometry). n * batch_commands g) s.kept.geometry);
+  due = bound_again _ _ _ a.disk b.disk c.disk s.kept w.calls.kept (λ (each : ℕ) some. due-again (commands_due each c) (commands_due each b) (commands_due each a) n each) s.due w.due;
   through = λ none. (rw (nothing none.0) at w.through) none;
 }
 
@@ -94,8 +89,14 @@ under-since below below' mine first blocks since array found =
     let u = torn_under mine s.before r.from first blocks array s.part (outcome_some mine r.from array r.is_of) in
     record { before = u.before; was = in_flat_map (outcomes mine) below.since s.before u.before s.was (some_outcome mine s.before u.before u.was); part = u.part }
 
-pub under-due : (c d less more mine e n : ℕ) → c + less * e ≤ d + more * e + n * e → c + (less + mine) * e ≤ d + (more + mine) * e + n * e
+under-due : (c d less more mine e n : ℕ) → c + less * e ≤ d + more * e + n * e → c + (less + mine) * e ≤ d + (more + mine) * e + n * e
 under-due c d less more mine e n h = omega (arith, h, add-mul less mine e, add-mul more mine e)
+
+-- the blocks of a cache that stay are due as before
+pub due_under : (below below' : StoreView) (mine : List Pending) (n : ℕ) → PaysFor below n below' → PaysFor (cached below mine) n (cached below' mine)
+due_under below below' mine n = bound_so _ _ below.disk below'.disk (λ (each : ℕ) due.
+    rw (length-append below'.pending mine, length-append below.pending mine)
+    (under-due below'.disk.drive.completed below.disk.drive.completed (length below'.pending) (length below.pending) (length mine) each n due))
 
 pub known_writes : (is_trim : Bool) (below below' : StoreView) (mine : List Pending) (first : ℕ) (blocks : List (List ℕ)) (n : ℕ) (answer : Answer) (r : Result (Unit {0}) DiskFault) → known_answer (store_flat below) (write first blocks) ≡ Some r
     → Writes is_trim below (write first blocks) first n answer below' → Writes is_trim (cached below mine) (write first blocks) first n answer (cached below' mine)
@@ -117,8 +118,7 @@ known_writes is_trim below below' (v ∷ mine) first blocks n answer r known w =
     through = λ none. absurd (cc (none-last below.pending (v ∷ mine) none.0));
   };
   turns = w.turns;
-  due = rw (length-append below'.pending (v ∷ mine), length-append below.pending (v ∷ mine), w.calls.kept.geometry)
-      (under-due below'.disk.drive.completed below.disk.drive.completed (length below'.pending) (length below.pending) (length (v ∷ mine)) (batch_commands below.disk.drive.geometry) n (rw w.calls.kept.geometry at w.due));
+  due = due_under below below' (v ∷ mine) n w.due;
   through = λ none. absurd (cc (none-last below.pending (v ∷ mine) none.0));
 } where
   none-last : (xs ys : List Pending) → xs ++ ys ≡ [] → ys ≡ []
@@ -213,7 +213,7 @@ refused_fails is_trim below below' xs ys w fault apart known wrote = record {
     kept = wrote.calls.kept;
     durable = λ zones left. inl (rw wrote.calls.durable at left);
     turns = λ none. absurd (not_none below.pending xs ys w none);
-    completed = rw (length-append below.pending (xs ++ w ∷ ys)) completed;
+    completed = bound_so _ _ below.disk below'.disk completed wrote.due;
     pending = unapplied_pending is_trim below below' xs ys w (Err fault) wrote;
     since = λ left found. inl (unapplied_since is_trim below below' xs ys w (Err fault) apart wrote left found);
     syncs = omega (arith, wrote.calls.syncs);
@@ -235,8 +235,8 @@ refused_fails is_trim below below' xs ys w fault apart known wrote = record {
   stands = ap (λ (d : FlatDisk). record d { array = store_array (cached below' (xs ++ w ∷ ys)) }) begun.3
       ∙ ap (λ (c : List (List ℕ)). record (store_flat (cached below (xs ++ w ∷ ys))) { array = c; status = status_after (Err fault) }) array
 
-  completed : below'.disk.drive.completed ≤ below.disk.drive.completed + ((length below.pending + length (xs ++ w ∷ ys)) * batch_commands below.disk.drive.geometry + 1)
-  completed =
-      let e = batch_commands below.disk.drive.geometry in
-      let first = failed-due below'.disk.drive.completed below.disk.drive.completed (length below'.pending) (length below.pending) e (rw wrote.calls.kept.geometry at wrote.due) in
-      omega (arith, first, more-pending below.disk.drive.completed (length below.pending) (length (xs ++ w ∷ ys)) e (long-pulled xs ys w))
+  completed : (each : ℕ) → commands_due each below' ≤ commands_due each below + 1 * each → below'.disk.drive.completed ≤ commands_due each (cached below (xs ++ w ∷ ys)) + 1
+  completed each due =
+      let first = failed-due below'.disk.drive.completed below.disk.drive.completed (length below'.pending) (length below.pending) each due in
+      let more = more-pending below.disk.drive.completed (length below.pending) (length (xs ++ w ∷ ys)) each (long-pulled xs ys w) in
+      rw (length-append below.pending (xs ++ w ∷ ys)) (omega (arith, first, more))

@@ -4,7 +4,7 @@ use Rattle.std.specs.List.{flat_map}
 use Rattle.zone_translator.specs.Keeping.{KeepsServed}
 use Rattle.zone_translator.specs.View.{disk_turns}
 use Rattle.nbd_session.specs.Pending.{Pending}
-use Rattle.nbd_session.specs.Store.{KeepsMode, StoreView, commands_due, store_array, store_flat}
+use Rattle.nbd_session.specs.Store.{KeepsMode, PaysFor, StoreView, store_array, store_flat}
 
 -- the arrays on which some of these blocks are written, in order: none, any or all of them
 abbrev pub outcomes : List Pending → List (List ℕ) → List (List (List ℕ))
@@ -29,7 +29,7 @@ pub record Settles (old new : StoreView) : Type 0 where
   pub syncs : new.syncs ≡ old.syncs
   pub mode : KeepsMode old new
   pub turns : disk_turns new.disk ≤ disk_turns old.disk
-  pub due : commands_due new ≤ commands_due old
+  pub due : PaysFor old 0 new
 
 -- a loss of power leaves the array as it is served, and nothing else
 abbrev pub IsDurable : StoreView → Type 0

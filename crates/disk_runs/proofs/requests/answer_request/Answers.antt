@@ -1,7 +1,8 @@
-use Rattle.std.proofs.Common.{false, refl, true}
+use Rattle.std.proofs.Common.{◌+◌, ◌*◌, arith, false, refl, true}
 use Rattle.disk_files.specs.declared.trace_line.TraceLine.TheVariants.{Fill, Grow, Idle, Trim, Write}
 use Rattle.zone_translator.specs.View.{flat_of}
 use Rattle.disk_runs.specs.FlatLines.{turns}
+use Rattle.zone_translator.proofs.CostLaws.{costs-plain, costs-within}
 use Rattle.disk_runs.proofs.AnyLaws.{grown, remount_form, stays_alike, told_form}
 use Rattle.disk_runs.proofs.RequestLaws.{growth_done, grows_once, never_memory, not_memory, of_disk}
 use Rattle.disk_runs.proofs.RequestLaws.{on-ok, read_stops, remount_stops, stops_by, told, turns_told, whenever, write_done, writes_once}
@@ -103,7 +104,7 @@ returns-in-Grow-clause-kind g c = of_disk c.grow.result c.tell-in-Grow.result c.
 
 pub returns-in-Idle-clause-stays : goal.returns-in-Idle-clause-stays
 returns-in-Idle-clause-stays g c =
-    rw c.in-Idle.is (stays_alike _ _ _ c.clean.ensures.alike (λ same. same) c.clean.ensures.completed)
+    rw c.in-Idle.is (stays_alike _ _ _ c.clean.ensures.alike (λ same. same) (costs-plain _ _ _ c.clean.ensures.completed))
 
 pub returns-in-Idle-clause-memory : goal.returns-in-Idle-clause-memory
 returns-in-Idle-clause-memory g c = not_memory c.clean.result c.tell-in-Idle.result _ c.tell-in-Idle.ensures.err
@@ -135,7 +136,7 @@ returns-in-Grow-clause-stays g c =
     (record {
       shape = c.grow.ensures.shape;
       size = grown c.grow.result c.grow.ensures.size c.grow.ensures.same;
-      completed = λ none. c.grow.ensures.completed;
+      completed = λ none. costs-within c.args.disk.now c.grow.new.self (λ each. 1 * each) (λ each. each) (λ each. omega arith) c.grow.ensures.completed;
     })
 
 pub returns-in-Grow-clause-memory : goal.returns-in-Grow-clause-memory
@@ -144,7 +145,7 @@ returns-in-Grow-clause-memory g c = not_memory c.grow.result c.tell-in-Grow.resu
 pub returns-in-Read-clause-stays : goal.returns-in-Read-clause-stays
 returns-in-Read-clause-stays g c =
     let read = c.read_blocks.ensures in
-    rw c.in-Read.is (stays_alike _ _ _ read.alike (λ same. same) read.costs.completed)
+    rw c.in-Read.is (stays_alike _ _ _ read.alike (λ same. same) (costs-plain _ _ _ read.costs.completed))
 
 pub returns-in-Read-clause-memory : goal.returns-in-Read-clause-memory
 returns-in-Read-clause-memory g c = whenever c.read_blocks.result _ (record { alike = c.read_blocks.ensures.alike; reads = c.read_blocks.ensures.few })

@@ -1,4 +1,3 @@
-use Rattle.std.proofs.Common.{refl}
 use Rattle.disk_files.proofs.OutputLaws.{on_err}
 use Rattle.nbd_session.specs.declared.asked.Asked.TheVariants.{Read}
 use Rattle.nbd_session.specs.declared.group.Member.{Member}
