@@ -1,2 +1,1 @@
-mod DistinctLaws
 mod StartLaws

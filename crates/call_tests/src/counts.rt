@@ -1,8 +1,8 @@
 ghost use Rattle.std.specs.Prelude.{◌≡◌, ◌<◌, length};
 
-use crate::chance::chance;
 use live_index::LiveIndex;
 use std::test::Fail;
+use yardsticks::chance;
 
 /// Which zones are named, and the one of them with the fewest where zones 0 and 2 have one.
 const LEAST: [([bool; 4], Option<u32>); 5] = [

@@ -1,6 +1,6 @@
-//! Tests of what only a call can show: stores that fail, files that stop and lose power, devices above a way, drives
-//! that lie or fail at a command, counts and places. `job_tests` has those of the program's jobs. The
-//! rows of `worked_runs`, `nbd_rows` and `tool_rows` show the rest.
+//! Tests of what only a call can show: stores that fail, files that stop and lose power, devices above a way, repairs,
+//! counts and places. `fault_tests` has those of drives that lie or fail at a Read, `job_tests` those of the program's
+//! jobs. The rows of `worked_runs`, `nbd_rows` and `tool_rows` show the rest.
 //!
 //! They are in a crate of their own, since a crate with tests is proved twice: each library is proved once, and its
 //! tests load it. Here is nothing but tests, and what they need.
@@ -14,10 +14,6 @@
 mod boots;
 #[cfg(test)]
 mod bytes_of_files;
-#[cfg(test)]
-mod chance;
-#[cfg(test)]
-mod checked_runs;
 #[cfg(test)]
 mod copied_files;
 #[cfg(test)]
@@ -37,29 +33,15 @@ mod halting;
 #[cfg(test)]
 mod journal;
 #[cfg(test)]
-mod kept_reads;
-#[cfg(test)]
-mod lied_rows;
-#[cfg(test)]
-mod lies;
-#[cfg(test)]
-mod lying_disks;
-#[cfg(test)]
 mod mended_zones;
 #[cfg(test)]
 mod places;
-#[cfg(test)]
-mod random_calls;
 #[cfg(test)]
 mod reads_ahead;
 #[cfg(test)]
 mod shown_zones;
 #[cfg(test)]
 mod small_drives;
-#[cfg(test)]
-mod told_lies;
-#[cfg(test)]
-mod unreadable_blocks;
 #[cfg(test)]
 mod unsent;
 #[cfg(test)]

@@ -1,10 +1,10 @@
 // Repairs of drives with a zone that ends in something foreign: whole ones, and ones that stop after each command.
 
-use crate::small_drives::restarted;
 use drive_port::{Device, StopAfter, append};
 use std::alloc::Global;
 use std::test::Fail;
 use tail_repair::{RepairFault, find_tails, repair_tails};
+use yardsticks::restarted;
 use zone_drive::Drive;
 use zone_states::Geometry;
 use zone_translator::Disk;

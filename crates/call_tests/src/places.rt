@@ -1,11 +1,11 @@
 ghost use Rattle.std.specs.Prelude.{◌≡◌, ◌≤◌, ◌<◌, ◌+◌, ◌^◌, OnOk, length};
 ghost use Rattle.logical_map.specs.Places.{place_address};
 
-use crate::chance::chance;
 use logical_map::{Map, Moved, Place};
 use std::alloc::{AllocError, Global};
 use std::process::Abort;
 use std::test::Fail;
+use yardsticks::chance;
 
 /// The last block is placed, and no other; its zone has that block.
 fn places_last(rt: &impl Abort, alloc: Global, count: u32) -> Result<(), Fail>

@@ -8,8 +8,9 @@ use drive_port::{Device, Halt, append, read};
 use nvme_wire::{Action, Command, ReportingOptions};
 use passthrough::{PassthroughDrive, ReadAhead, Through};
 use std::alloc::Global;
+use yardsticks::restarted;
 use zone_drive::Drive;
-use zone_states::{Geometry, Zone};
+use zone_states::Geometry;
 
 /// Zones of 6 blocks in 8.
 pub const GEOMETRY: Geometry = Geometry {
@@ -38,18 +39,6 @@ pub fn drive(alloc: Global) -> Option<Drive> {
     append(alloc, &mut drive, 8, &[SECOND; 4 * 512]).ok()?;
     append(alloc, &mut drive, 8, &[SECOND; 2 * 512]).ok()?;
     Some(drive)
-}
-
-/// A copy of a drive, after a restart.
-pub fn restarted(alloc: Global, drive: &Drive) -> Option<Drive> {
-    let mut zones = Vec::new(alloc);
-    for zone in drive.zones() {
-        let written = Vec::from_slice(alloc, zone.written()).ok()?;
-        zones.push(Zone::from_parts(zone.state(), written)).ok()?;
-    }
-    let mut copy = Drive::from_zones(alloc, drive.geometry(), zones).ok()?;
-    copy.restart();
-    Some(copy)
 }
 
 /// Whether a Read gives this byte in all blocks.

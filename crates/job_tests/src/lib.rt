@@ -1,8 +1,8 @@
 //! Tests of the program's jobs, of what only a call can show: which words of the command line are refused, what command
 //! lines write and tell, and the files that they leave; readers and writers that fail below them.
 //!
-//! `call_tests` has the crates below the jobs, and can be proved before them. The rows of `worked_runs`, `nbd_rows` and
-//! `tool_rows` show the rest.
+//! `call_tests` and `fault_tests` have the crates below the jobs, and can be proved before them. The rows of
+//! `worked_runs`, `nbd_rows` and `tool_rows` show the rest.
 //!
 //! # What is promised
 //!

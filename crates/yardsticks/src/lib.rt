@@ -18,11 +18,15 @@
 //! A `FailingDevice` fails at one command, or at each Read of one block. It holds what the device within holds
 //! (`specs/Failing.antt`).
 //!
+//! `chance` gives tests numbers that are the same in each run, and `restarted` a copy of a drive.
+//!
 //! Tests: the rows of `worked_runs`, which compare it with what the disk does.
 #![tactic(auto)]
 
 mod array;
 mod batches;
+mod by_chance;
+mod copies;
 mod failing;
 mod live;
 mod logs;
@@ -36,6 +40,8 @@ mod spare;
 
 pub use array::encoded_array;
 pub use batches::{Batch, ZoneLog, is_heading, log};
+pub use by_chance::chance;
+pub use copies::restarted;
 pub use failing::FailingDevice;
 pub use logs::ZoneImage;
 pub use lying::LyingDevice;

@@ -1,12 +1,10 @@
 // Mounts of drives that return other bytes at one Read than they hold.
 
-use crate::chance::chance;
-use crate::small_drives::restarted;
 use drive_port::StopAfter;
 use remount::mount;
 use std::alloc::Global;
 use std::test::Fail;
-use yardsticks::LyingDevice;
+use yardsticks::{LyingDevice, chance, restarted};
 use zone_drive::Drive;
 use zone_states::Geometry;
 use zone_translator::Disk;

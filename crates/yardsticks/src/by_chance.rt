@@ -1,3 +1,5 @@
+//! Numbers by chance.
+
 ghost use Rattle.std.specs.Prelude.{◌<◌};
 
 /// The next of numbers below `below` that look like chance, and are the same in each run.

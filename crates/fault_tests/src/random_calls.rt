@@ -1,8 +1,8 @@
 // Calls of a disk by chance, and the plain array to which they lead.
 
-use crate::chance::chance;
 use drive_port::{Device, Geometry};
 use std::alloc::Global;
+use yardsticks::chance;
 use zone_translator::{AnyDisk, DiskFault, Entry, MountFault};
 
 /// What a disk is asked for.
@@ -113,12 +113,17 @@ impl Call {
         }
     }
 
-    /// How many commands it may take. A mount reads each block once, and then passes over the zones once for each that
-    /// is half clean and once more, with two Reads for each entry. Its repairs move and reset less than two zones.
-    pub fn most_commands(&self, geometry: &Geometry) -> u64 {
+    /// How many commands it may take. Once one has failed, each batch may clean one zone after the other. A mount reads
+    /// each block once, and then passes over the zones once for each that is half clean and once more, with two Reads
+    /// for each entry. Its repairs move and reset less than two zones.
+    pub fn most_commands(&self, geometry: &Geometry, has_failed: bool) -> u64 {
         let capacity = u64::from(geometry.capacity);
         let zones = u64::from(geometry.zones);
-        let batch = capacity.saturating_mul(2).saturating_add(1);
+        let cleans = if has_failed { zones } else { 1 };
+        let batch = capacity
+            .saturating_mul(2)
+            .saturating_mul(cleans)
+            .saturating_add(1);
         let most = u64::from(geometry.transfer.saturating_sub(1).clamp(1, 60));
         let blocks = u64::from(self.blocks);
         match self.asked {
