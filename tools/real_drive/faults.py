@@ -13,9 +13,9 @@ from machine import files_of, read_file, script_of, write_file
 from mended import refuse_repair, repair, repair_nothing
 from places import batches_of, can_be_cleaned, newest
 from saved import DEVICE, Saved
-from sessions import FLUSH, WRITE, errors_of, request, session_of, write_errors, write_session
+from sessions import FLUSH, WRITE, errors_of, request, session_of
 from shapes import OF_FAULTS
-from traces import Line, answered, text_of
+from traces import Line, text_of
 from worn import CLOSED, EMPTY, FULL, NAMES, OFFLINE, OPENED, READ_ONLY, ZONES, make_library
 from written import Written
 
@@ -42,8 +42,9 @@ OFF_AGAIN = "had its volatile write cache on again, as after a reset: it is off 
 STAYS_ON = "has its volatile write cache on again, and keeps it on: it is sent nothing more"
 # In how many guests the places are tried.
 GUESTS = 4
-# How often a session asks for the same write.
-TIMES, EIO, ESHUTDOWN = 4, errno.EIO, errno.ESHUTDOWN
+# How many runs write beside a block that cannot be read.
+RUNS = 4
+ESHUTDOWN = errno.ESHUTDOWN
 
 
 def a_zone(disk, *states):
@@ -102,12 +103,14 @@ def fail_data(disk, name, once):
 
 
 def write_beside(disk, name, lost):
-    """Writes other blocks while the newest data of one cannot be read. The cleaner takes other zones."""
+    """Writes other blocks while the newest data of one cannot be read. The cleaner takes other zones. Each run mounts
+    the disk, and a mount does not know the block."""
     others = [block for block in range(disk.shape.blocks) if block != lost]
-    lines = [a_fill(disk, disk.chance.choice(others)) for _ in range(40)]
-    ended, told = write_lines(disk, name, lines, lost)
-    if ended == (0, "ok") and "the drive answered a Read " in told:
-        count("runs that went on after a clean was undone")
+    for _ in range(RUNS):
+        lines = [a_fill(disk, disk.chance.choice(others)) for _ in range(10)]
+        ended, told = write_lines(disk, name, lines, lost)
+        if ended == (0, "ok") and "the drive answered a Read " in told:
+            count("runs that went on after a clean was undone")
 
 
 def write_anew(disk, name, block, trims):
@@ -121,39 +124,27 @@ def write_anew(disk, name, block, trims):
 
 
 def write_lines(disk, name, lines, lost):
-    """Runs lines that write while a block cannot be read: how the run ended, and what was told. If the turns of one
-    clean were not enough, it ends. A session goes on then."""
+    """Runs lines that write while a block cannot be read: how the run ended, and what was told. It ends early only if
+    no other zone can be cleaned."""
     address = newest(batches_of(disk.shape, disk.guest.image)).get(lost)
     ended = disk.run(lines)
     told = read_file(disk.guest.share, "replies.said")
-    if ended != (1, FAILED):
+    if ended == (1, FAILED):
+        look("the drive answered a Read " in told, f"{name}: a line ended by {ended}: {told}")
+        look_at_zones(disk, name, address)
+    else:
         look(ended == (0, "ok"), f"{name}: {len(lines)} lines ended by {ended}: {told}")
-        return ended, told
-    look("the drive answered a Read " in told, f"{name}: a line ended by {ended}: {told}")
-    count("runs that ended in a clean whose data cannot be read")
-    line = lines[answered(read_file(disk.guest.share, "replies"))]
-    return go_on(disk, name, line, address), told
+    return ended, told
 
 
-def go_on(disk, name, line, address):
-    """Asks in one session again for what ended a run. It is done then, unless no other zone can be cleaned."""
-    size, zone = disk.shape.block, address // disk.shape.size
-    with open(os.path.join(disk.guest.share, "session"), "wb") as file:
-        file.write(write_session(line.first, bytes.fromhex(line.blocks[0][:2]) * size, TIMES))
-    disk.guest.ask(f"zonedisk nbd {DEVICE} --blocks $BLOCKS < /share/session > /share/answers")
-    with open(os.path.join(disk.guest.share, "answers"), "rb") as file:
-        errors = write_errors(file.read(), TIMES)
-    if errors[-1] == 0:
-        disk.write(line, is_done=True)
-        count(f"writes that a session did at the try {errors.index(0) + 1}")
-        return 0, "ok"
+def look_at_zones(disk, name, address):
+    """After a write that failed, no zone can be cleaned but the one with this address: one is empty, and all others
+    have too many live records."""
     batches = batches_of(disk.shape, disk.guest.image)
-    others = set(range(disk.shape.zones)) - {zone}
+    others = set(range(disk.shape.zones)) - {address // disk.shape.size}
     others = [other for other in sorted(others) if can_be_cleaned(disk.shape, batches, other)]
-    look(errors == [EIO] * TIMES, f"{name}: the writes of a session ended by {errors}")
-    look(len(others) <= 1, f"{name}: no write is done, and the zones {others} can be cleaned or are empty")
+    look(len(others) <= 1, f"{name}: a write failed, and the zones {others} can be cleaned or are empty")
     count("drives of which no other zone can be cleaned")
-    return 1, FAILED
 
 
 def fail_header(disk, name):

@@ -2,7 +2,7 @@
 
 import struct
 
-REQUEST, REPLY = 0x25609513, 0x67446698
+REQUEST = 0x25609513
 WRITE, LEAVE, FLUSH = 1, 2, 3
 # What the server sends before its replies: its greeting, and the size and flags of its export.
 GREETING = 18 + 10
@@ -21,18 +21,3 @@ def session_of(requests):
 def errors_of(answers):
     """The error of each reply, in their order."""
     return [error for _, error, _ in struct.iter_unpack(">IIQ", answers[GREETING:])]
-
-
-def write_session(block, data, times):
-    """What a client sends that writes a block so often, with a flush after each write."""
-    asked = [(request(WRITE, number, block * len(data), data), request(FLUSH, times)) for number in range(times)]
-    return session_of([one for pair in asked for one in pair])
-
-
-def write_errors(answers, times):
-    """The error of each write, by the replies: 0 where it is done."""
-    errors = [None] * times
-    for magic, error, number in struct.iter_unpack(">IIQ", answers[GREETING:][: 32 * times]):
-        if magic == REPLY and number < times:
-            errors[number] = error
-    return errors

@@ -1,5 +1,6 @@
 // Tells people what no reply can.
 #include "tell.h"
+#include <inttypes.h>
 #include <stdbool.h>
 #include <stdio.h>
 
@@ -24,6 +25,11 @@ void zonedisk_tell_copied(void) {
 
 void zonedisk_tell_beside(void) {
     fputs("zonedisk: another program has the drive: it is shown as of one moment, its open zones as Closed\n", stderr);
+}
+
+void zonedisk_tell_length(uint64_t bytes) {
+    fprintf(stderr, "zonedisk: the file of this drive has to have %" PRIu64 " bytes: truncate -s %" PRIu64
+            " gives that length to a copy, and added bytes are zeros\n", bytes, bytes);
 }
 
 void zonedisk_tell_changed(void) {

@@ -1,5 +1,6 @@
 // What the crate's kernel.rt declares: lines on standard error.
 #pragma once
+#include <stdint.h>
 
 // Tells that the sync of a file at its opening has failed.
 void zonedisk_tell_unsynced(void);
@@ -15,6 +16,9 @@ void zonedisk_tell_copied(void);
 
 // Tells that a drive is shown beside the program that has its file.
 void zonedisk_tell_beside(void);
+
+// Tells how many bytes the file of a drive has to have.
+void zonedisk_tell_length(uint64_t bytes);
 
 // Tells that another program changed the drive while this one looked at it.
 void zonedisk_tell_changed(void);
