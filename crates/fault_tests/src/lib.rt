@@ -1,8 +1,8 @@
-//! Tests of disks above a drive that lies or fails: at one Read it returns other bytes than it holds, or it fails at each
-//! Read of one block. Calls by chance, mounts and traces are run again for each such lie, and for each such block.
+//! Tests of disks above a drive that lies or fails. At one Read it returns other bytes than it holds, or it fails at
+//! each Read of one block. Calls by chance, mounts and traces are run again for each such lie, and for each such block.
 //!
-//! They are apart from `call_tests`, since the tests of a crate are proved in one thread. Here is nothing but tests, and
-//! what they need.
+//! They are apart from `call_tests`, since the tests of a crate are proved in one thread. Here are only tests, and what
+//! they need.
 //!
 //! # What is promised
 //!

@@ -1,7 +1,7 @@
 // Cleans that meet a block which cannot be read, while other zones can be cleaned: each write is done.
 //
 // The first two are the smallest ones in which a write failed. The turns of one clean were not enough to undo it and to
-// clean another zone. Or the clean that was undone had taken one of two Empty zones, and no other one was worth a clean.
+// clean another zone. Or the clean that was undone had taken one of two Empty zones, and no other zone was due.
 
 use crate::checked_runs::{Found, Run, SHAPES, found_after};
 use crate::random_calls::{Asked, Call};
