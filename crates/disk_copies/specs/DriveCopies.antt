@@ -1,5 +1,6 @@
 -- Copies of the drive in a file: what is written of its blocks, and what an import leaves in the file.
-use Rattle.std.specs.Prelude.{◌≡◌, ℕ, ◌-◌, max, Bool, Option, Some, None, Result, Ok, Err}
+use Rattle.std.specs.Prelude.{◌≡◌, ℕ, ◌-◌, max, Bool, Option, Some, None, Result, Ok, Err, ⊤}
+use Rattle.zone_states.specs.declared.geometry.Geometry.{Geometry}
 use Rattle.disk_files.specs.Input.{Known}
 use Rattle.drive_port.specs.Drive.{DriveState}
 use Rattle.job_drives.specs.Kept.{IsRestarted}
@@ -8,9 +9,9 @@ use Rattle.job_drives.specs.declared.kept_drive.Begun.{Begun}
 use Rattle.job_drives.specs.declared.left.Left.{Left}
 use Rattle.zone_drive.specs.declared.habit.Habit.TheVariants.{Lazy}
 use Rattle.zone_translator.specs.View.{DiskView, KeepsDisk, disk_size}
-use Rattle.job_drives.specs.Mounted.{IsNotServed, IsServed}
+use Rattle.job_drives.specs.Mounted.{IsNotServed, IsServed, TellsRoom}
 use Rattle.job_drives.specs.declared.mount_fault.NoDiskFault.{NoDiskFault}
-use Rattle.disk_copies.specs.Copies.{Exports, Imports}
+use Rattle.disk_copies.specs.Copies.{AllComes, Exports, Imports}
 use Rattle.disk_copies.specs.declared.stream_fault.ExportFault.{ExportFault}
 use Rattle.disk_copies.specs.declared.stream_fault.ImportFault.{ImportFault}
 use Rattle.disk_copies.specs.declared.copy_fault.CopyFault.{CopyFault}
@@ -69,6 +70,14 @@ ImportsDrive job input rest old (Ok count) new = ImportsDisk job input rest old 
 ImportsDrive job input rest old (Err (copies.Import fault)) new = ImportsDisk job input rest old (Err fault) new
 ImportsDrive job input rest old (Err (copies.Mount fault)) new = IsNotServed old job.blocks fault new × (rest ≡ input)
 ImportsDrive job input rest old (Err fault) new = ⊥
+
+-- The same whatever the Reads of the drive returned: done, the reader gave so many whole blocks, and is at its end. For
+-- a drive that is not mounted nothing is read, and the room that is told is that of its geometry.
+abbrev pub ImportsAnyway : Geometry → Known → Known → Result ℕ CopyFault → Type 0
+ImportsAnyway geometry input rest (Ok count) = AllComes geometry.block input rest count
+ImportsAnyway geometry input rest (Err (copies.Import fault)) = ⊤
+ImportsAnyway geometry input rest (Err (copies.Mount fault)) = TellsRoom geometry fault × (rest ≡ input)
+ImportsAnyway geometry input rest (Err fault) = ⊥
 
 -- how an import ended, as it is told
 abbrev pub import_end : Result ℕ ImportFault → Result ℕ CopyFault

@@ -1,8 +1,9 @@
 // The drive in a file, to which blocks are written.
 
-ghost use Rattle.std.specs.Prelude.{◌≡◌, IfNone, IfSome};
+ghost use Rattle.std.specs.Prelude.{◌≡◌, IfNone, IfSome, IsTrue};
+ghost use Rattle.zone_choice.specs.Sane.{KeepsShape};
 ghost use Rattle.job_drives.specs.Kept.{HoldsFile};
-ghost use Rattle.disk_copies.specs.DriveCopies.{ImportsDrive, ImportsFile, ImportsNothing, import_end};
+ghost use Rattle.disk_copies.specs.DriveCopies.{ImportsAnyway, ImportsDrive, ImportsFile, ImportsNothing, import_end};
 
 use crate::copy_fault::CopyFault;
 use crate::importing::import_blocks;
@@ -10,7 +11,7 @@ use crate::job::ImportJob;
 use crate::stream_fault::ImportFault;
 use drive_journal::ChangeStore;
 use drive_port::{Device, Honest};
-use job_drives::{DriveFile, KeepFault, Left, keep_restarted, leave, mount_served};
+use job_drives::{DriveFile, KeepFault, Left, keep_restarted, leave, mount_any};
 use std::alloc::Global;
 use std::io::Read;
 use zone_drive::{Drive, Habit};
@@ -25,22 +26,27 @@ fn import_end(taken: Result<u64, ImportFault>) -> Result<u64, CopyFault>
     }
 }
 
-/// Mounts a drive, and imports blocks into it.
-pub fn import_mounted<D: Device + Honest + Drop, R: Read>(
+/// Mounts a drive behind any device, and imports blocks into it. It is given back, also after a fault.
+pub fn import_mounted<D: Device + Drop, R: Read>(
     alloc: Global,
     job: &ImportJob,
     device: D,
     reader: &mut R,
 ) -> (D, Result<u64, CopyFault>)
-    ensures { ImportsDrive job.now (R.remaining reader.old) (R.remaining reader.new)
-        (D.drive device) result.1 (D.drive result.0) }
+    // While the drive is clean, the array of its disk has the blocks that were read; or this is why it is not mounted.
+    ensures imports { IsTrue (D.drive result.0).clean → ImportsDrive job.now (R.remaining reader.old)
+        (R.remaining reader.new) (D.drive device) result.1 (D.drive result.0) }
+    // Whatever the Reads returned, the drive has the same shape. Done, the reader is at its end, and gave so many whole
+    // blocks. For a drive that is not mounted nothing is read.
+    ensures shape { KeepsShape (D.drive device) (D.drive result.0) }
+    ensures anyway { ImportsAnyway (D.drive device).geometry (R.remaining reader.old) (R.remaining reader.new)
+        result.1 }
 {
-    let mut disk = match mount_served(alloc, device, job.blocks) {
-        Ok(disk) => disk.into_any(),
+    let mut disk = match mount_any(alloc, device, job.blocks) {
+        Ok(disk) => disk,
         Err((fault, device)) => return (device, Err(CopyFault::Mount(fault))),
     };
     let taken = import_blocks(alloc, &mut disk, reader, job.first, job.sparse);
-    disk.device().vouch();
     (disk.into_device(), import_end(taken))
 }
 
@@ -68,6 +74,7 @@ pub fn import_drive<I: Read + Drop, S: ChangeStore<Drive> + Drop, R: Read>(
         }
     };
     let (device, taken) = import_mounted(alloc, job, stored.device, reader);
+    device.vouch();
     let (left, store) = leave(device, stored.was_image);
     (Some(left), store, taken)
 }

@@ -33,7 +33,12 @@
 //!
 //! The bytes are promised where reader and writer say by contract which bytes they have left and hold. Whatever the
 //! Reads returned, each copy ends, and geometry and size stay (`StaysAlike`). An export that is done has written as
-//! many bytes as its blocks have (`GoesWhole`). A [`DiskWriter`] is for a device that is always clean.
+//! many bytes as its blocks have (`GoesWhole`). A [`DiskWriter`] is for a device that is always clean: no
+//! [`Write`](std::io::Write) can come to hold bytes that are not known.
+//!
+//! [`import_mounted`] mounts a drive behind any device, and imports blocks to its disk. Whatever the Reads returned,
+//! the shape stays. Nothing is read for a drive that is not mounted, and `Ok(n)` says of the reader what it says above
+//! (`ImportsAnyway` in `specs/DriveCopies.antt`).
 //!
 //! Over every file and store, too (`specs/DriveCopies.antt`):
 //!

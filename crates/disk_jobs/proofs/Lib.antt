@@ -1,3 +1,4 @@
+mod AnyLaws
 mod MountLaws
 mod StoreLaws
 pub mod FormattingLaws

@@ -2,4 +2,5 @@ pub mod Mounted
 pub mod Saved
 pub mod FaultLine
 pub mod Asked
+pub mod AnyDevice
 pub mod Formatting

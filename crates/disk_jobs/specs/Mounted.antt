@@ -1,5 +1,6 @@
 -- What is told of the mount of a job.
 use Rattle.std.specs.Prelude.{◌≡◌, ℕ, length, None, Result, Err, IfSome, ⊤}
+use Rattle.zone_states.specs.declared.geometry.Geometry.{Geometry}
 use Rattle.drive_port.specs.Drive.{DriveState}
 use Rattle.drive_array.specs.ZoneLogs.{encoded}
 use Rattle.job_drives.specs.declared.disk_size.DiskSize.{DiskSize}
@@ -21,6 +22,11 @@ IsMountFault ended = ⊥
 -- What is told of the mount of this drive, by how its run ended: the disk that was mounted. There is none only if the mount was refused.
 pub record TellsMount (blocks : ℕ) (drive : DriveState) (ended : Result (Unit {0}) RunFault) (told : Mounting) : Type 0 where
   pub disk : IfSome told.disk (λ size. size ≡ disk_on blocks drive)
+  pub none : told.disk ≡ None → IsMountFault ended
+
+-- The same whatever the Reads of the drive returned: the disk that is told has the shape of the drive.
+pub record TellsMountAnyway (geometry : Geometry) (ended : Result (Unit {0}) RunFault) (told : Mounting) : Type 0 where
+  pub shape : IfSome told.disk (λ size. size.geometry ≡ geometry)
   pub none : told.disk ≡ None → IsMountFault ended
 
 -- of a job: only a trace mounts a disk

@@ -45,6 +45,13 @@
 //! * What is saved in a file is the drive of the job, also after a fault, unless the job only reads. Nothing is saved
 //!   if a change could not be written (`left_to_save`).
 //!
+//! Of a trace over any device, which stops ([`run_any_stopping`], [`run_any_counted`]; `specs/AnyDevice.antt`):
+//!
+//! * While the drive is clean, as long as each Read returned what the drive holds, it gives and leaves what `run_trace`
+//!   of `disk_runs` does, and the disk is told that was mounted (`RunsAny`, `TellsMount`).
+//! * Whatever the Reads returned, it ends, and the drive keeps its shape. Each line takes no more commands than it may,
+//!   and each reply has its form. Without a disk nothing is written (`RunsAnyway`, `TellsMountAnyway`).
+//!
 //! Of [`format_file`], over every file (`specs/Formatting.antt`):
 //!
 //! * Without force a file is replaced only if it has no byte, or if its drive has no zone that is not Empty once it is
@@ -102,11 +109,11 @@ pub use input::JobInput;
 pub use job::Job;
 pub use job_drives::{DiskSize, DriveFile, FileFault, Gate, Saved, Stop, SystemError};
 pub use line_count::{CountedLines, LineCount};
-pub use lines::{Answered, TraceRun, run_stopping};
+pub use lines::{Answered, TraceRun, run_any_stopping, run_stopping};
 pub use mounting::Mounting;
 pub use notes::{restored_note, size_notes};
 pub use program::{run_job, run_told};
-pub use statistics::run_counted;
+pub use statistics::{run_any_counted, run_counted};
 pub use status_words::Explained;
 pub use watched::{Counted, Watched, is_terminal};
 pub use zone_drive::Habit;

@@ -1,9 +1,10 @@
 // The lines of a job, answered over its drive.
 
-ghost use Rattle.std.specs.Prelude.{◌≡◌, false, true};
+ghost use Rattle.std.specs.Prelude.{◌≡◌, IsTrue, false, true};
 ghost use Rattle.job_drives.specs.Stop.{stopping};
 ghost use Rattle.disk_runs.specs.Run.{exchange};
-ghost use Rattle.disk_jobs.specs.Mounted.{TellsJob, TellsMount};
+ghost use Rattle.disk_jobs.specs.AnyDevice.{RunsAnyTrace};
+ghost use Rattle.disk_jobs.specs.Mounted.{TellsJob, TellsMount, TellsMountAnyway};
 ghost use Rattle.disk_jobs.specs.Saved.{LeavesDrive, RunsLines, RunsTrace, ThenShows};
 ghost use Rattle.disk_jobs.specs.Saved.{has_changes, shows_zones};
 
@@ -12,14 +13,14 @@ use crate::job::Job;
 use crate::mounting::Mounting;
 use crate::statistics::run_counted;
 use disk_files::LineReader;
-use disk_runs::{RunFault, Taking, answer_trace, run_raw};
+use disk_runs::{RunFault, Taking, answer_any_trace, run_raw};
 use drive_journal::ChangeStore;
 use drive_port::{Device, Honest};
 use job_drives::{Begun, Left, Stop, Stored, leave, stopping};
 use std::alloc::Global;
 use std::io::{Read, Write};
 use zone_drive::Drive;
-use zone_translator::Disk;
+use zone_translator::AnyDisk;
 
 /// What a job begins with: a drive, and the store of its file.
 #[derive(Drop)]
@@ -45,7 +46,37 @@ pub struct TraceRun {
     pub takes: Taking,
 }
 
-/// Answers a trace over a device that stops. It tells what is known of the mount.
+/// Answers a trace over any device, which stops. It tells what is known of the mount.
+///
+/// Whatever the device's Reads return, each line is answered or ends the run. As long as they returned what it holds,
+/// the lines are answered by the disk of the drive: so are all before the first Read that lied.
+pub fn run_any_stopping<D: Device + Drop, R: Read + Drop, W: Write>(
+    alloc: Global,
+    device: D,
+    how: TraceRun,
+    input: &mut LineReader<R>,
+    output: &mut W,
+) -> (D, Mounting, Result<(), RunFault>)
+    ensures runs { RunsAnyTrace how.takes how.blocks (stopping how.stop (D.drive device))
+        (exchange input.old.left (W.contents output.old) (W.contents output.new)) result.2 (D.drive result.0) }
+    // While the drive is clean, the disk is told that was mounted.
+    ensures mounting { IsTrue (D.drive result.0).clean → TellsMount how.blocks (D.drive device) result.2 result.1 }
+    // Whatever the Reads returned.
+    ensures told { TellsMountAnyway (D.drive device).geometry result.2 result.1 }
+{
+    let disk = match AnyDisk::mount(alloc, stopping(device, how.stop), how.blocks) {
+        Ok(disk) => disk,
+        Err((fault, device)) => {
+            let mounting = Mounting::refused(device.completed());
+            return (device.into_inner(), mounting, Err(RunFault::Mount(fault)));
+        }
+    };
+    let mounting = Mounting::done(&disk);
+    let (disk, result) = answer_any_trace(alloc, how.takes, input, output, disk);
+    (disk.into_device().into_inner(), mounting, result)
+}
+
+/// The same over a device that is always clean.
 pub fn run_stopping<D: Device + Honest + Drop, R: Read + Drop, W: Write>(
     alloc: Global,
     device: D,
@@ -57,16 +88,9 @@ pub fn run_stopping<D: Device + Honest + Drop, R: Read + Drop, W: Write>(
         (exchange input.old.left (W.contents output.old) (W.contents output.new)) result.2 (D.drive result.0) }
     ensures mounting { TellsMount how.blocks (D.drive device) result.2 result.1 }
 {
-    let disk = match Disk::mount(alloc, stopping(device, how.stop), how.blocks) {
-        Ok(disk) => disk,
-        Err((fault, device)) => {
-            let mounting = Mounting::refused(device.completed());
-            return (device.into_inner(), mounting, Err(RunFault::Mount(fault)));
-        }
-    };
-    let mounting = Mounting::done(&disk);
-    let (disk, result) = answer_trace(alloc, how.takes, input, output, disk);
-    (disk.into_device().into_inner(), mounting, result)
+    let (device, mounting, result) = run_any_stopping(alloc, device, how, input, output);
+    device.vouch();
+    (device, mounting, result)
 }
 
 /// Answers the lines of a job over a device. It tells what is known of the mount, if there was one.

@@ -1,9 +1,9 @@
 ghost use Rattle.std.specs.Prelude.{◌≡◌, None, Some};
 ghost use Rattle.job_drives.specs.DiskSize.{size_of};
 
-use drive_port::{Device, Honest};
+use drive_port::Device;
 use job_drives::DiskSize;
-use zone_translator::Disk;
+use zone_translator::AnyDisk;
 
 /// What is known of the mount of a job.
 #[derive(Clone, Copy, Debug, PartialEq, Eq)]
@@ -22,7 +22,7 @@ impl Mounting {
     };
 
     /// Of the disk that was just mounted.
-    pub(crate) fn done<D: Device + Honest + Drop>(disk: &Disk<D>) -> Mounting
+    pub(crate) fn done<D: Device + Drop>(disk: &AnyDisk<D>) -> Mounting
         ensures commands { result.commands ≡ disk.now.drive.completed }
         ensures disk { result.disk ≡ Some (size_of disk.now) }
     {

@@ -1,4 +1,4 @@
 mod HeaderLaws
-mod MountLaws
+pub mod MountLaws
 mod BackingLaws
 pub mod KeptLaws

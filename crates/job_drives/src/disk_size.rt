@@ -1,8 +1,8 @@
 ghost use Rattle.std.specs.Prelude.{◌≡◌};
 ghost use Rattle.job_drives.specs.DiskSize.{size_of};
 
-use drive_port::{Device, Geometry, Honest};
-use zone_translator::Disk;
+use drive_port::{Device, Geometry};
+use zone_translator::AnyDisk;
 
 /// The disk that a job mounted.
 #[derive(Clone, Copy, Debug, PartialEq, Eq)]
@@ -14,8 +14,8 @@ pub struct DiskSize {
 }
 
 impl DiskSize {
-    /// That of a disk.
-    pub fn of<D: Device + Honest + Drop>(disk: &Disk<D>) -> DiskSize
+    /// That of a disk over any device.
+    pub fn of<D: Device + Drop>(disk: &AnyDisk<D>) -> DiskSize
         ensures { result ≡ size_of disk.now }
     {
         DiskSize {
