@@ -9,10 +9,10 @@ use Rattle.disk_copies.specs.DriveCopies.{ImportsAnyway, ImportsDisk, ImportsDri
 use Rattle.disk_copies.specs.declared.job.ImportJob.{ImportJob}
 
 -- an import into the disk of a drive is an import into the drive, whatever ended it
-pub drive-imported : (job : ImportJob) (input rest : Option (List ℕ)) (old : DriveState) (taken : Result ℕ ImportFault) (new : DriveState) → ImportsDisk job input rest old taken new
-    → ImportsDrive job input rest old (import_end taken) new
-drive-imported job input rest old (Ok count) new i = i
-drive-imported job input rest old (Err fault) new i = i
+pub drive-imported : (job : ImportJob) (input rest : Option (List ℕ)) (old : DriveState) (taken : Result ℕ ImportFault) (written : ℕ) (new : DriveState)
+    → ImportsDisk job input rest old taken written new → ImportsDrive job input rest old (import_end taken) written new
+drive-imported job input rest old (Ok count) written new i = i
+drive-imported job input rest old (Err fault) written new i = i
 
 -- and so whatever the Reads returned
 pub drive_imported-anyway : (geometry : Geometry) (input rest : Option (List ℕ)) (taken : Result ℕ ImportFault) → IfOk taken (AllComes geometry.block input rest)

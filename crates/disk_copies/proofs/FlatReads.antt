@@ -19,8 +19,8 @@ use Rattle.zone_translator.specs.declared.fault.DiskFault.TheVariants.{OutOfRang
 use Rattle.zone_translator.specs.declared.status.DiskStatus.{DiskStatus}
 use Rattle.zone_translator.specs.declared.status.DiskStatus.TheVariants as statuses
 use Rattle.disk_copies.specs.declared.stream_fault.ExportFault.{ExportFault}
-use Rattle.disk_copies.specs.declared.stream_fault.ExportFault.TheVariants.{Disk, Output, Unread}
-use Rattle.disk_copies.specs.Copies.{Exports, GoesWhole, RefusesRest, ShowsRange}
+use Rattle.disk_copies.specs.declared.stream_fault.ExportFault.TheVariants.{Disk, Output, PastEnd, Unread}
+use Rattle.disk_copies.specs.Copies.{EndsBefore, Exports, GoesWhole, RefusesRest, ShowsRange}
 use Rattle.disk_copies.proofs.FlatWrites.{known-in, known-past, past-or-in}
 
 -- ---- a read that is done
@@ -134,6 +134,13 @@ refused-as old new first n next k fault some fits more inside flat = of old.stat
 pub within-size : (size first n long : ℕ) → size ≡ long → false ≡ (nat_lt 0 n && nat_lt size (first + n)) → 0 < n → first + n ≤ long
 within-size size first n long same fits some = let inside : first + n ≤ size = grind (arith, nat_tests) in omega (arith, inside, same)
 
+-- and one that is not
+pub past-size : (disk : DiskView) (size first n : ℕ) → size ≡ disk_size disk → true ≡ (nat_lt 0 n && nat_lt size (first + n)) → EndsBefore disk first n size
+past-size disk size first n same past =
+    let some : 0 < n = grind (arith, nat_tests) in
+    let out : size < first + n = grind (arith, nat_tests) in
+    record { some = some; past = omega (arith, out, same); size_is = same }
+
 -- one piece more is written
 pub exports-more : (old mid new : DiskView) (first m next n k : ℕ) (written between contents : Option (List ℕ)) → next ≡ first + m → k ≡ m + n
     → Exports old first m written between (Ok tt) mid → Exports mid next n between contents (Ok tt) new → Exports old first k written contents (Ok tt) new
@@ -198,18 +205,20 @@ exports-refused old mid new first m next n total done fault written between cont
 -- a fault of a piece
 pub exports-fail : (old mid new : DiskView) (first m next n total : ℕ) (fault : ExportFault)
     (written between contents : Option (List ℕ)) → next ≡ first + m → 0 < n → m + n ≤ total
-    → first + total ≤ disk_size old → Exports old first m written between (Ok tt) mid
+    → first + total ≤ disk_size old → disk_size mid ≡ disk_size old → Exports old first m written between (Ok tt) mid
     → Exports mid next n between contents (Err fault) new → Exports old first total written contents (Err fault) new
-exports-fail old mid new first m next n total Output written between contents e some part fits x y =
+exports-fail old mid new first m next n total Output written between contents e some part fits same x y =
     exports-cut old mid new first m next n total written between contents e some part fits x y
-exports-fail old mid new first m next n total (Disk fault) written between contents e some part fits x r = record {
+exports-fail old mid new first m next n total (PastEnd size) written between contents e some part fits same x r =
+    absurd (omega (arith, r.0.past, e, part, fits, same))
+exports-fail old mid new first m next n total (Disk fault) written between contents e some part fits same x r = record {
   done = m + r.done;
   within = omega (arith, r.within, part);
   other = r.other;
   refuses = exports-refused old mid new first m next n total r.done fault written between contents e some part fits x
       r.refuses;
 }
-exports-fail old mid new first m next n total (Unread block) written between contents e some part fits x r = record {
+exports-fail old mid new first m next n total (Unread block) written between contents e some part fits same x r = record {
   done = m + r.done;
   within = omega (arith, r.within, part);
   block_is = omega (arith, e, r.block_is);
@@ -315,24 +324,27 @@ refuses-from old mid new first n done fault written contents same r = record {
 
 -- an export of a disk is also one of a disk that answers the same
 pub exports-from : (old mid new : DiskView) (first n : ℕ) (written contents : Option (List ℕ))
-    (result : Result (Unit {0}) ExportFault) → flat_of mid ≡ flat_of old
+    (result : Result (Unit {0}) ExportFault) → flat_of mid ≡ flat_of old → first + n ≤ disk_size old
     → Exports mid first n written contents result new → Exports old first n written contents result new
-exports-from old mid new first n written contents (Ok done) same x =
+exports-from old mid new first n written contents (Ok done) same fits x =
     (x.0, shows-from old mid new first n x.0 same x.1, x.2)
-exports-from old mid new first n written contents (Err Output) same x =
+exports-from old mid new first n written contents (Err Output) same fits x =
     (x.0, shows-from old mid new first n x.0 same x.1, x.2)
-exports-from old mid new first n written contents (Err (Disk fault)) same x = record {
+exports-from old mid new first n written contents (Err (Disk fault)) same fits x = record {
   done = x.done;
   within = x.within;
   other = x.other;
   refuses = refuses-from old mid new first n x.done fault written contents same x.refuses;
 }
-exports-from old mid new first n written contents (Err (Unread block)) same x = record {
+exports-from old mid new first n written contents (Err (Unread block)) same fits x = record {
   done = x.done;
   within = x.within;
   block_is = x.block_is;
   refuses = refuses-from old mid new first n x.done Failed written contents same x.refuses;
 }
+exports-from old mid new first n written contents (Err (PastEnd size)) same fits x =
+    let sizes : disk_size mid ≡ disk_size old = ap (λ (d : FlatDisk). d.size) same in
+    absurd (omega (arith, x.0.past, fits, sizes))
 
 -- ---- whatever the Reads returned
 

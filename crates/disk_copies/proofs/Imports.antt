@@ -7,6 +7,7 @@ use Rattle.std.proofs.KnownBytes.{Consumes-nil, Consumes-trans}
 use Rattle.std.proofs.lemmas.List.{append-nil, nil_from_length, length-append, length-drop, length-take, take-append-drop, take-take}
 use Rattle.std.proofs.lemmas.List.Folds.{concat-append}
 use Rattle.std.proofs.lemmas.Nat.{mod-mul-add}
+use Rattle.std.proofs.Math.Seq.{drop-append-add, take-append-add}
 use Rattle.std.proofs.Math.Nat.{add-mul, div-mul-le_self, mod-eq-sub-div-mul, mod-lt}
 use Rattle.zone_states.specs.declared.geometry.Geometry.{Geometry}
 use Rattle.zone_states.proofs.Cutting.{concat-cut, length-cut}
@@ -16,24 +17,25 @@ use Rattle.zone_translator.specs.Answers.{write_bytes}
 use Rattle.zone_translator.specs.Flat.{FlatCall, FlatDisk, with_nothing, write}
 use Rattle.zone_translator.specs.View.{DiskCause, DiskView, disk_size, flat_of}
 use Rattle.zone_translator.specs.declared.fault.DiskFault.{DiskFault}
-use Rattle.disk_copies.specs.Copies.{ComesWhole, PieceComes, Imports, ImportsPiece, StopsImport, TakesBlocks, piece_blocks, write_result}
+use Rattle.disk_copies.specs.Copies.{ComesWhole, CountsWritten, PieceComes, Imports, ImportsPiece, RefusesOthers, StopsImport, TakesBlocks, piece_blocks, write_result}
 use Rattle.disk_copies.specs.declared.stream_fault.ImportFault.{ImportFault}
 use Rattle.disk_copies.specs.declared.stream_fault.ImportFault.TheVariants.{Disk, Input, Memory, PastEnd, Rest}
 use Rattle.disk_copies.proofs.FlatWrites.{refuse-after, write-more, wrote, wrote-none}
-use Rattle.disk_copies.proofs.Pieces.{count-of, cut-whole}
+use Rattle.disk_copies.proofs.Pieces.{count-of, cut-whole, times-less}
 
 -- a fault that is handed on
-pub import-err : (old new : DiskView) (first : ℕ) (input rest : Option (List ℕ)) (result : Result ℕ ImportFault) (fault : ImportFault) → IsErrAnd result (λ e. e ≡ fault)
-    → ImportsPiece old first input rest (Err fault) new → ImportsPiece old first input rest result new
-import-err old new first input rest (Ok count) fault is p = absurd is
-import-err old new first input rest (Err e) fault is p = rw is p
+pub import-err : (old new : DiskView) (first : ℕ) (input rest : Option (List ℕ)) (result : Result ℕ ImportFault) (written : ℕ) (fault : ImportFault) → IsErrAnd result (λ e. e ≡ fault)
+    → ImportsPiece old first input rest (Err fault) written new → ImportsPiece old first input rest result written new
+import-err old new first input rest (Ok count) written fault is p = absurd is
+import-err old new first input rest (Err e) written fault is p = rw is p
 
 -- the reader failed in a piece
 pub piece-unread : (old : DiskView) (first long : ℕ) (input rest : Option (List ℕ)) → long ≡ piece_blocks old.drive.geometry.block * old.drive.geometry.block → DropsFewer input rest long
-    → ImportsPiece old first input rest (Err Input) old
+    → ImportsPiece old first input rest (Err Input) 0 old
 piece-unread old first long input rest e drops = record {
   takes = record { blocks = []; whole = tt; within = λ some. absurd (omega (arith, some)); left = drops.bytes; read = drops.consumes; flat = wrote-none (flat_of old) first };
   ends = omega (arith, e, drops.fewer);
+  counts = refl;
 }
 
 -- the whole blocks at the front of a piece are taken
@@ -112,15 +114,21 @@ taken-blocks old first piece count blocks room input rest r =
 
 -- the disk refused the blocks
 pub piece-refused : (old new : DiskView) (first : ℕ) (piece : List ℕ) (count blocks room : ℕ) (input rest : Option (List ℕ)) (fault : DiskFault) → IsRead old first piece count blocks room input rest
-    → Writes old first piece blocks (Err fault) new → DiskCause new fault → ImportsPiece old first input rest (Err (Disk fault)) new
-piece-refused old new first piece count blocks room input rest fault r flat cause = record {
-  takes = taken old new first piece count blocks room input rest (Err (Disk fault)) r flat;
-  ends = cause;
-}
+    → Writes old first piece blocks (Err fault) new → DiskCause new fault → ImportsPiece old first input rest (Err (Disk fault)) 0 new
+piece-refused old new first piece count blocks room input rest fault r flat cause =
+    let b = old.drive.geometry.block in
+    let n = taken-blocks old first piece count blocks room input rest r in
+    let most = times-less blocks (piece_blocks b) b r.some (omega (arith, read-within old first piece count blocks room input rest r, r.fits, r.long)) in
+    let at : first + 0 ≡ first = omega arith in
+    record {
+      takes = taken old new first piece count blocks room input rest (Err (Disk fault)) r flat;
+      ends = cause;
+      counts = record { mid = old; front = wrote-none (flat_of old) first; others = rw at flat; few = omega (arith, n, most) };
+    }
 
 -- more blocks came than there is room for
 pub piece-past : (old new : DiskView) (first : ℕ) (piece : List ℕ) (count blocks room : ℕ) (input rest : Option (List ℕ)) → IsRead old first piece count blocks room input rest
-    → Writes old first piece blocks (Ok tt) new → room < count / old.drive.geometry.block → ImportsPiece old first input rest (Err PastEnd) new
+    → Writes old first piece blocks (Ok tt) new → room < count / old.drive.geometry.block → ImportsPiece old first input rest (Err PastEnd) blocks new
 piece-past old new first piece count blocks room input rest r flat past =
     let b = old.drive.geometry.block in
     let n = taken-blocks old first piece count blocks room input rest r in
@@ -130,11 +138,12 @@ piece-past old new first piece count blocks room input rest r flat past =
     record {
       takes = taken old new first piece count blocks room input rest (Err PastEnd) r flat;
       ends = (omega (arith, left, more, add-mul room 1 b, ap (λ (k : ℕ). k * b) same, div-mul-le_self count b), omega (arith, n, same, r.room_is));
+      counts = sym n;
     }
 
 -- the reader ended within a block
 pub piece-rest : (old new : DiskView) (first : ℕ) (piece : List ℕ) (count blocks room : ℕ) (input rest : Option (List ℕ)) → IsRead old first piece count blocks room input rest
-    → Writes old first piece blocks (Ok tt) new → count / old.drive.geometry.block ≤ room → 0 < count % old.drive.geometry.block → ImportsPiece old first input rest (Err Rest) new
+    → Writes old first piece blocks (Ok tt) new → count / old.drive.geometry.block ≤ room → 0 < count % old.drive.geometry.block → ImportsPiece old first input rest (Err Rest) blocks new
 piece-rest old new first piece count blocks room input rest r flat fits some =
     let b = old.drive.geometry.block in
     let left = left-long (blocks * b) count piece r.fits in
@@ -144,6 +153,7 @@ piece-rest old new first piece count blocks room input rest r flat fits some =
     record {
       takes = taken old new first piece count blocks room input rest (Err Rest) r flat;
       ends = (omega (arith, over, some), omega (arith, over, mod-lt count r.some), r.end short);
+      counts = sym (taken-blocks old first piece count blocks room input rest r);
     }
   where
     not-whole : (count long n b : ℕ) → 0 < b → count ≤ long → long ≡ n * b → 0 < count % b → count < long
@@ -154,7 +164,7 @@ piece-rest old new first piece count blocks room input rest r flat fits some =
 
 -- a piece is taken
 pub piece-done : (old new : DiskView) (first : ℕ) (piece : List ℕ) (count blocks room : ℕ) (input rest : Option (List ℕ)) → IsRead old first piece count blocks room input rest
-    → Writes old first piece blocks (Ok tt) new → count / old.drive.geometry.block ≤ room → count % old.drive.geometry.block ≡ 0 → ImportsPiece old first input rest (Ok blocks) new
+    → Writes old first piece blocks (Ok tt) new → count / old.drive.geometry.block ≤ room → count % old.drive.geometry.block ≡ 0 → ImportsPiece old first input rest (Ok blocks) blocks new
 piece-done old new first piece count blocks room input rest r flat fits none =
     let b = old.drive.geometry.block in
     let n = taken-blocks old first piece count blocks room input rest r in
@@ -171,6 +181,7 @@ piece-done old new first piece count blocks room input rest r flat fits none =
             let empty : count ≡ 0 = whole ∙ ap (λ (k : ℕ). k * b) zero_blocks ∙ none_at in
             r.end (omega (arith, empty, r.long, r.some, times-more 1 (piece_blocks b) b (omega arith))),
       );
+      counts = sym n;
     }
 
 -- ---- pieces
@@ -236,9 +247,9 @@ takes-both old mid new first count next input between rest result e x y = record
 }
 
 -- a piece more is taken
-pub imported-more : (old mid new : DiskView) (first count next more sum : ℕ) (input between rest : Option (List ℕ)) → next ≡ first + count → sum ≡ count + more → new.drive.geometry ≡ mid.drive.geometry
-    → Imported old first count input between mid → ImportsPiece mid next between rest (Ok more) new → Imported old first sum input rest new
-imported-more old mid new first count next more sum input between rest e sum_is geometry x p =
+pub imported-more : (old mid new : DiskView) (first count next more sum written : ℕ) (input between rest : Option (List ℕ)) → next ≡ first + count → sum ≡ count + more → new.drive.geometry ≡ mid.drive.geometry
+    → Imported old first count input between mid → ImportsPiece mid next between rest (Ok more) written new → Imported old first sum input rest new
+imported-more old mid new first count next more sum written input between rest e sum_is geometry x p =
     let both = takes-both old mid new first count next input between rest (Ok more) e x p.takes in
     record {
       takes = record { blocks = both.blocks; whole = both.whole; within = both.within; left = both.left; read = both.read; flat = both.flat };
@@ -248,22 +259,48 @@ imported-more old mid new first count next more sum input between rest e sum_is 
     }
 
 -- the reader is at its end
-pub imported-end : (old mid new : DiskView) (first count next : ℕ) (input between rest : Option (List ℕ)) → next ≡ first + count → Imported old first count input between mid → ImportsPiece mid next between rest (Ok 0) new
-    → Imports old first input rest (Ok count) new
-imported-end old mid new first count next input between rest e x p =
+pub imported-end : (old mid new : DiskView) (first count next more sum : ℕ) (input between rest : Option (List ℕ)) → next ≡ first + count → sum ≡ count + more → Imported old first count input between mid
+    → ImportsPiece mid next between rest (Ok 0) more new → Imports old first input rest (Ok count) sum new
+imported-end old mid new first count next more sum input between rest e sum_is x p =
     let both = takes-both old mid new first count next input between rest (Ok 0) e x p.takes in
     record {
       takes = record { blocks = both.blocks; whole = both.whole; within = both.within; left = both.left; read = both.read; flat = both.flat };
       ends = (omega (arith, x.count_is, p.ends.0, length-append x.takes.blocks p.takes.blocks), p.ends.1, p.ends.2 refl);
+      counts = omega (arith, sum_is, x.count_is, p.counts, length-append x.takes.blocks p.takes.blocks);
+    }
+
+-- the disk wrote these blocks, and then a front of those after them
+refuses-later : (old mid new : DiskView) (first next more sum : ℕ) (xs ys : List (List ℕ)) (fault : DiskFault) → next ≡ first + length xs → sum ≡ length xs + more → mid.drive.geometry ≡ old.drive.geometry
+    → FlatCall (flat_of old) (write first xs) (with_nothing (Ok tt)) (flat_of mid) → RefusesOthers mid next ys more fault new → RefusesOthers old first (xs ++ ys) sum fault new
+refuses-later old mid new first next more sum xs ys fault e sum_is geometry flat r =
+    let front : take sum (xs ++ ys) ≡ xs ++ take more ys = ap (λ (k : ℕ). take k (xs ++ ys)) sum_is ∙ take-append-add xs ys more in
+    let others : drop sum (xs ++ ys) ≡ drop more ys = ap (λ (k : ℕ). drop k (xs ++ ys)) sum_is ∙ drop-append-add xs ys more in
+    let at : first + sum ≡ next + more = omega (arith, e, sum_is) in
+    let few = rw (ap (λ (h : Geometry). h.block) geometry) at r.few in
+    record {
+      mid = r.mid;
+      front = rw front (write-more (flat_of old) (flat_of mid) (flat_of r.mid) first next xs (take more ys) e flat r.front);
+      others = rw (others, at) r.others;
+      few = omega (arith, few, sum_is, length-append xs ys);
     }
 
 -- an import stops at a piece
-pub imported-stop : (old mid new : DiskView) (first count next : ℕ) (input between rest : Option (List ℕ)) (fault : ImportFault) (result : Result ℕ ImportFault) → IsErrAnd result (λ f. f ≡ fault) → next ≡ first + count
-    → Imported old first count input between mid → ImportsPiece mid next between rest (Err fault) new → Imports old first input rest result new
-imported-stop old mid new first count next input between rest fault (Ok v) is e x p = absurd is
-imported-stop old mid new first count next input between rest fault (Err f) is e x p = rw is (record { takes = takes-both old mid new first count next input between rest (Err fault) e x p.takes; ends = ended fault p x e })
+pub imported-stop : (old mid new : DiskView) (first count next more sum : ℕ) (input between rest : Option (List ℕ)) (fault : ImportFault) (result : Result ℕ ImportFault) → IsErrAnd result (λ f. f ≡ fault)
+    → next ≡ first + count → sum ≡ count + more → Imported old first count input between mid → ImportsPiece mid next between rest (Err fault) more new → Imports old first input rest result sum new
+imported-stop old mid new first count next more sum input between rest fault (Ok v) is e sum_is x p = absurd is
+imported-stop old mid new first count next more sum input between rest fault (Err f) is e sum_is x p =
+    rw is (record { takes = takes-both old mid new first count next input between rest (Err fault) e x p.takes; ends = ended fault p x e; counts = counted fault p x e })
   where
-    ended : (fault : ImportFault) (p : ImportsPiece mid next between rest (Err fault) new) (x : Imported old first count input between mid) → next ≡ first + count
+    counted : (fault : ImportFault) (p : ImportsPiece mid next between rest (Err fault) more new) (x : Imported old first count input between mid) → next ≡ first + count
+        → CountsWritten (Err fault) old first (x.takes.blocks ++ p.takes.blocks) sum new
+    counted Input p x e = omega (arith, sum_is, x.count_is, p.counts, length-append x.takes.blocks p.takes.blocks)
+    counted Rest p x e = omega (arith, sum_is, x.count_is, p.counts, length-append x.takes.blocks p.takes.blocks)
+    counted PastEnd p x e = omega (arith, sum_is, x.count_is, p.counts, length-append x.takes.blocks p.takes.blocks)
+    counted (Disk fault) p x e =
+        refuses-later old mid new first next more sum x.takes.blocks p.takes.blocks fault (omega (arith, e, x.count_is)) (omega (arith, sum_is, x.count_is)) x.geometry x.takes.flat p.counts
+    counted Memory p x e = absurd p.ends
+
+    ended : (fault : ImportFault) (p : ImportsPiece mid next between rest (Err fault) more new) (x : Imported old first count input between mid) → next ≡ first + count
         → StopsImport fault old (first + length (x.takes.blocks ++ p.takes.blocks)) p.takes.left rest new
     ended Input p x e = rw (ap (λ (h : Geometry). h.block) x.geometry) at p.ends
     ended Rest p x e = rw (ap (λ (h : Geometry). h.block) x.geometry) at p.ends
@@ -282,11 +319,12 @@ front-whole old first piece count blocks room input rest r =
     rw (count-of g (take bytes piece) blocks r.some long) long
 
 -- there is no memory for a piece
-pub imports-none : (old : DiskView) (first : ℕ) (input : Option (List ℕ)) (result : Result ℕ ImportFault) → IsErrAnd result (λ e. e ≡ Memory) → Imports old first input input result old
+pub imports-none : (old : DiskView) (first : ℕ) (input : Option (List ℕ)) (result : Result ℕ ImportFault) → IsErrAnd result (λ e. e ≡ Memory) → Imports old first input input result 0 old
 imports-none old first input (Ok v) is = absurd is
 imports-none old first input (Err e) is = rw is (record {
   takes = record { blocks = []; whole = tt; within = λ some. absurd (omega (arith, some)); left = []; read = Consumes-nil input; flat = wrote-none (flat_of old) first };
   ends = (refl, refl);
+  counts = refl;
 })
 
 -- ---- whatever the Reads of the drive returned

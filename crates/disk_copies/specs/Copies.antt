@@ -1,5 +1,5 @@
 -- Copies of a disk's blocks as flat bytes: out of the disk to a writer, and into it from a reader.
-use Rattle.std.specs.Prelude.{◌≡◌, ◌≢◌, ℕ, ◌+◌, ◌*◌, ◌/◌, ◌<◌, ◌≤◌, max, List, [], ◌++◌, length, Result, Ok, Err}
+use Rattle.std.specs.Prelude.{◌≡◌, ◌≢◌, ℕ, ◌+◌, ◌*◌, ◌/◌, ◌<◌, ◌≤◌, max, List, [], ◌++◌, drop, length, take, Result, Ok, Err}
 use Rattle.std.specs.Io.KnownBytes.{Appends, Consumes, IsAtEnd}
 use Rattle.std.specs.List.{AllByRecursion, concat}
 use Rattle.disk_files.specs.Input.{Known}
@@ -7,7 +7,7 @@ use Rattle.disk_files.specs.Output.{AppendsFront}
 use Rattle.zone_translator.specs.Flat.{FlatCall, blocks_from, read, with_nothing, write}
 use Rattle.zone_translator.specs.View.{DiskCause, DiskView, disk_array, disk_size, flat_of}
 use Rattle.zone_translator.specs.declared.fault.DiskFault.{DiskFault}
-use Rattle.zone_translator.specs.declared.fault.DiskFault.TheVariants.{Failed, OutOfRange}
+use Rattle.zone_translator.specs.declared.fault.DiskFault.TheVariants.{Failed}
 use Rattle.disk_copies.specs.declared.stream_fault.ExportFault.{ExportFault}
 use Rattle.disk_copies.specs.declared.stream_fault.ExportFault.TheVariants as exports
 use Rattle.disk_copies.specs.declared.stream_fault.ImportFault.{ImportFault}
@@ -46,9 +46,15 @@ pub record RefusesRange (old : DiskView) (first n : ℕ) (fault : DiskFault) (wr
   pub other : fault ≢ Failed
   pub refuses : RefusesRest old first n done fault written contents new
 
+-- n blocks from a given one on go past the end of a disk of this size
+pub record EndsBefore (disk : DiskView) (first n size : ℕ) : Type 0 where
+  pub some : 0 < n
+  pub past : disk_size disk < first + n
+  pub size_is : size ≡ disk_size disk
+
 -- An export of n blocks from a given one on. Done, the writer holds the bytes of these blocks more, and no other. Where
 -- the writer fails it holds a beginning of them; where the drive fails at a block, all blocks before it; where the disk
--- refuses, the first blocks.
+-- refuses, the first blocks; and where one is past its end, nothing.
 abbrev pub Exports : DiskView → ℕ → ℕ → Known → Known → Result (Unit {0}) ExportFault → DiskView → Type 0
 Exports old first n written contents (Ok done) new =
     (shown : List (List ℕ)) × ShowsRange old first n shown new × Appends written contents (concat shown)
@@ -58,6 +64,8 @@ Exports old first n written contents (Err (exports.Disk fault)) new =
     RefusesRange old first n fault written contents new
 Exports old first n written contents (Err (exports.Unread block)) new =
     LeavesUnread old first n block written contents new
+Exports old first n written contents (Err (exports.PastEnd size)) new =
+    EndsBefore old first n size × (contents ≡ written) × (new ≡ old)
 
 -- ---- into the disk
 
@@ -94,11 +102,28 @@ abbrev pub EndsImport : Result ℕ ImportFault → DiskView → ℕ → ℕ → 
 EndsImport (Ok count) old first taken left rest new = (count ≡ taken) × (left ≡ []) × IsAtEnd rest
 EndsImport (Err fault) old first taken left rest new = StopsImport fault old (first + taken) left rest new
 
--- An import, from a given block on.
-pub record Imports (old : DiskView) (first : ℕ) (input rest : Known) (result : Result ℕ ImportFault)
+-- The disk wrote the first of these blocks, so many, and then refused the others, which are a piece at most.
+pub record RefusesOthers (old : DiskView) (first : ℕ) (blocks : List (List ℕ)) (written : ℕ) (fault : DiskFault)
+    (new : DiskView) : Type 0 where
+  pub mid : DiskView
+  pub front : FlatCall (flat_of old) (write first (take written blocks)) (with_nothing (Ok tt)) (flat_of mid)
+  pub others : FlatCall (flat_of mid) (write (first + written) (drop written blocks)) (with_nothing (Err fault))
+      (flat_of new)
+  pub few : length blocks ≤ written + piece_blocks old.drive.geometry.block
+
+-- How many of the blocks that were taken are told as written: all, or those before the ones that the disk refused.
+abbrev pub CountsWritten : Result ℕ ImportFault → DiskView → ℕ → List (List ℕ) → ℕ → DiskView → Type 0
+CountsWritten (Ok count) old first blocks written new = written ≡ length blocks
+CountsWritten (Err (imports.Disk fault)) old first blocks written new =
+    RefusesOthers old first blocks written fault new
+CountsWritten (Err fault) old first blocks written new = written ≡ length blocks
+
+-- An import, from a given block on, and how many blocks it tells as written.
+pub record Imports (old : DiskView) (first : ℕ) (input rest : Known) (result : Result ℕ ImportFault) (written : ℕ)
     (new : DiskView) : Type 0 where
   pub takes : TakesBlocks old first input rest result new
   pub ends : EndsImport result old first (length takes.blocks) takes.left rest new
+  pub counts : CountsWritten result old first takes.blocks written new
 
 -- ---- a piece of an import
 
@@ -108,10 +133,11 @@ EndsPiece (Ok count) old first taken left rest new = (count ≡ taken) × (left 
 EndsPiece (Err imports.Memory) old first taken left rest new = ⊥
 EndsPiece (Err fault) old first taken left rest new = StopsImport fault old (first + taken) left rest new
 
-pub record ImportsPiece (old : DiskView) (first : ℕ) (input rest : Known) (result : Result ℕ ImportFault)
+pub record ImportsPiece (old : DiskView) (first : ℕ) (input rest : Known) (result : Result ℕ ImportFault) (written : ℕ)
     (new : DiskView) : Type 0 where
   pub takes : TakesBlocks old first input rest result new
   pub ends : EndsPiece result old first (length takes.blocks) takes.left rest new
+  pub counts : CountsWritten result old first takes.blocks written new
 
 -- ---- whatever the Reads of the drive returned
 
@@ -138,4 +164,4 @@ pub record GoesWhole (block : ℕ) (written contents : Known) (count : ℕ) : Ty
 -- a range past the end of the disk is refused, and nothing is written
 abbrev pub RefusesPast : DiskView → Known → Known → Result (Unit {0}) ExportFault → DiskView → Type 0
 RefusesPast old written contents result new =
-    (result ≡ Err (exports.Disk OutOfRange)) × (contents ≡ written) × (new ≡ old)
+    (result ≡ Err (exports.PastEnd (disk_size old))) × (contents ≡ written) × (new ≡ old)

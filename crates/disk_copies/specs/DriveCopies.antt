@@ -56,20 +56,22 @@ ExportsFile job file written contents (Err fault) = ⊥
 
 -- a drive is mounted, and blocks are imported; what is left can be mounted again
 pub record ImportsDisk (job : ImportJob) (input rest : Known) (old : DriveState) (taken : Result ℕ ImportFault)
-    (new : DriveState) : Type 0 where
+    (written : ℕ) (new : DriveState) : Type 0 where
   pub disk : DiskView
   pub served : IsServed old job.blocks disk
   pub last : DiskView
-  pub imports : Imports disk job.first input rest taken last
+  pub imports : Imports disk job.first input rest taken written last
   pub keeps : KeepsDisk disk last
   pub drive : new ≡ last.drive
 
--- what an import does to a drive; nothing is read for one that is not mounted
-abbrev pub ImportsDrive : ImportJob → Known → Known → DriveState → Result ℕ CopyFault → DriveState → Type 0
-ImportsDrive job input rest old (Ok count) new = ImportsDisk job input rest old (Ok count) new
-ImportsDrive job input rest old (Err (copies.Import fault)) new = ImportsDisk job input rest old (Err fault) new
-ImportsDrive job input rest old (Err (copies.Mount fault)) new = IsNotServed old job.blocks fault new × (rest ≡ input)
-ImportsDrive job input rest old (Err fault) new = ⊥
+-- what an import does to a drive; nothing is read or written for one that is not mounted
+abbrev pub ImportsDrive : ImportJob → Known → Known → DriveState → Result ℕ CopyFault → ℕ → DriveState → Type 0
+ImportsDrive job input rest old (Ok count) written new = ImportsDisk job input rest old (Ok count) written new
+ImportsDrive job input rest old (Err (copies.Import fault)) written new =
+    ImportsDisk job input rest old (Err fault) written new
+ImportsDrive job input rest old (Err (copies.Mount fault)) written new =
+    IsNotServed old job.blocks fault new × (rest ≡ input) × (written ≡ 0)
+ImportsDrive job input rest old (Err fault) written new = ⊥
 
 -- The same whatever the Reads of the drive returned: done, the reader gave so many whole blocks, and is at its end. For
 -- a drive that is not mounted nothing is read, and the room that is told is that of its geometry.
@@ -85,11 +87,12 @@ import_end (Ok count) = Ok count
 import_end (Err fault) = Err (copies.Import fault)
 
 -- what an import leaves of the drive that the bytes of a file hold, whatever ended it
-abbrev pub ImportsFile : ImportJob → Known → Known → Known → Result ℕ CopyFault → Left → Known → Bool → Type 0
-ImportsFile job file input rest taken left held failed =
-    LeavesFile (λ (old new : DriveState). ImportsDrive job input rest old taken new) file Lazy left held failed
+abbrev pub ImportsFile : ImportJob → Known → Known → Known → Result ℕ CopyFault → ℕ → Left → Known → Bool → Type 0
+ImportsFile job file input rest taken written left held failed =
+    LeavesFile (λ (old new : DriveState). ImportsDrive job input rest old taken written new) file Lazy left held failed
 
--- the file holds no drive, and nothing is read
-abbrev pub ImportsNothing : Known → Known → Known → Result ℕ CopyFault → Type 0
-ImportsNothing file input rest (Err (copies.File fault)) = IsUnread file fault × (rest ≡ input)
-ImportsNothing file input rest taken = ⊥
+-- the file holds no drive, and nothing is read or written
+abbrev pub ImportsNothing : Known → Known → Known → Result ℕ CopyFault → ℕ → Type 0
+ImportsNothing file input rest (Err (copies.File fault)) written =
+    IsUnread file fault × (rest ≡ input) × (written ≡ 0)
+ImportsNothing file input rest taken written = ⊥

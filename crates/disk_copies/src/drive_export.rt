@@ -9,6 +9,7 @@ use crate::job::ExportJob;
 use drive_port::Honest;
 use job_drives::{KeepFault, mount_served, restarted_drive};
 use std::alloc::Global;
+use std::cell::Cell;
 use std::io::{Read, Write};
 use zone_drive::Habit;
 
@@ -23,10 +24,12 @@ pub fn blocks_asked(count: Option<u64>, first: u64, size: u64) -> u64
     }
 }
 
-/// Writes blocks of the drive in a file: it is restarted and mounted in memory, and the file is only read.
+/// Writes blocks of the drive in a file: it is restarted and mounted in memory, and the file is only read. How many bytes
+/// these blocks have is put into `total` before.
 pub fn export_drive<I: Read, W: Write>(
     alloc: Global,
     job: &ExportJob,
+    total: &Cell<Option<u64>>,
     bytes: &mut I,
     writer: &mut W,
 ) -> Result<(), CopyFault>
@@ -41,6 +44,7 @@ pub fn export_drive<I: Read, W: Write>(
         Err((fault, _drive)) => return Err(CopyFault::Mount(fault)),
     };
     let blocks = blocks_asked(job.count, job.first, disk.blocks());
+    total.set(Some(blocks.saturating_mul(disk.block_bytes() as u64)));
     let exported = export_blocks(alloc, &mut disk, writer, job.first, blocks);
     disk.device().vouch();
     match exported {

@@ -1,5 +1,6 @@
 use crate::copy_fault::CopyFault;
 use crate::job::CopyJob;
+use crate::stream_fault::{ExportFault, ImportFault};
 use job_drives::NoDiskFault;
 use std::alloc::{AllocError, Global};
 
@@ -18,8 +19,35 @@ pub fn explain(alloc: Global, job: &CopyJob, fault: CopyFault) -> Result<String,
                 N from 1 to {most}, makes them say it"
             )
         }
+        (_, CopyFault::Export(ExportFault::PastEnd(1))) => {
+            String::from_str(
+                alloc,
+                "the disk has 1 block, and the export goes past its end",
+            )
+        }
         (_, CopyFault::File(fault)) => fault.explain(alloc, path),
         (_, CopyFault::Mount(fault)) => format!(in alloc; "{path}: {fault}"),
         (_, fault) => format!(in alloc; "{fault}"),
     }
+}
+
+/// One line for people that says how many blocks an import wrote, without a line feed. None if no disk was mounted, or if
+/// it is not known how many a file has.
+pub fn written_text(
+    alloc: Global,
+    path: &str,
+    written: u64,
+    taken: Result<u64, CopyFault>,
+) -> Result<Option<String>, AllocError> {
+    let more = match taken {
+        Ok(_) => "",
+        Err(CopyFault::Import(ImportFault::Disk(_))) => ", and perhaps some more",
+        Err(CopyFault::Import(_)) => "",
+        Err(_) => return Ok(None),
+    };
+    let text = match written {
+        1 => format!(in alloc; "{path}: 1 block was written{more}")?,
+        _ => format!(in alloc; "{path}: {written} blocks were written{more}")?,
+    };
+    Ok(Some(text))
 }

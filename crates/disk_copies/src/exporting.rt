@@ -125,8 +125,9 @@ pub fn export_blocks<D: Device + Drop, W: Write>(
     ensures past { 0 < blocks → disk_size disk.old < first + blocks
         → RefusesPast disk.old (W.contents writer.old) (W.contents writer.new) result disk.new }
 {
-    if is_past_end(disk.blocks(), first, blocks) {
-        return Err(ExportFault::Disk(DiskFault::OutOfRange));
+    let size = disk.blocks();
+    if is_past_end(size, first, blocks) {
+        return Err(ExportFault::PastEnd(size));
     }
     let most = u64::from(piece_blocks(block_of(disk)));
     let mut piece = Vec::new(alloc);

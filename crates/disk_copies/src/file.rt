@@ -10,6 +10,7 @@ use job_drives::{
     image_to_save,
 };
 use std::alloc::Global;
+use std::cell::Cell;
 use std::fs::File;
 use std::io::{BufReader, Read, Write};
 use std::rt::Files;
@@ -19,6 +20,9 @@ use std::rt::Files;
 pub struct Imported {
     /// How many blocks were taken.
     pub taken: Result<u64, CopyFault>,
+    /// How many blocks were written to the drive, also before a fault. A file that takes no more changes has only the
+    /// first ones.
+    pub written: u64,
     /// Of the drive. It is `Ok` if there is none to save.
     pub saved: Result<Saved, CopyFault>,
 }
@@ -28,21 +32,23 @@ impl Imported {
     fn unread(fault: CopyFault) -> Imported {
         Imported {
             taken: Err(fault),
+            written: 0,
             saved: Ok(Saved::IN_PLACE),
         }
     }
 }
 
 /// Writes blocks of the drive in a file. Other programs can read the file too, and none can change it until the blocks
-/// are written.
+/// are written. How many bytes these blocks have is put into `total` before.
 pub fn do_export<F: Files<File = File>, W: Write + Drop>(
     files: &F,
     alloc: Global,
     job: &ExportJob,
+    total: &Cell<Option<u64>>,
     mut output: W,
 ) -> Result<(), CopyFault> {
     let (_image, mut bytes) = image_to_read(files, alloc, &job.image)?;
-    let exported = export_drive(alloc, job, &mut bytes, &mut output);
+    let exported = export_drive(alloc, job, total, &mut bytes, &mut output);
     let sent = output.flush();
     exported.and(sent.or(Err(CopyFault::Export(ExportFault::Output))))
 }
@@ -53,9 +59,11 @@ fn import_file<F: Files<File = File>, R: Read>(
     job: &ImportJob,
     (file, bytes): (&ChangesFile<'_, F>, BufReader<File>),
     input: &mut R,
+    written: &mut u64,
 ) -> (Option<Left>, Result<u64, CopyFault>) {
     let store = file.store();
-    let (left, _store, taken) = import_drive(alloc, job, DriveFile { bytes, store }, input);
+    let file = DriveFile { bytes, store };
+    let (left, _store, taken) = import_drive(alloc, job, file, input, written);
     (left, taken)
 }
 
@@ -73,10 +81,12 @@ pub fn do_import<F: Files<File = File>, R: Read + Drop>(
         Err(fault) => return Imported::unread(CopyFault::from(fault)),
     };
     let file = ChangesFile::new(&saving, image);
-    let (left, taken) = import_file(alloc, job, (&file, bytes), &mut input);
+    let mut written = 0;
+    let (left, taken) = import_file(alloc, job, (&file, bytes), &mut input, &mut written);
     let Finished { fault, saved } = finish(file, left);
     Imported {
         taken: first_told(taken, fault.map(CopyFault::from)),
+        written,
         saved: saved.map_err(CopyFault::from),
     }
 }

@@ -3,9 +3,9 @@
 //!
 //! ```text
 //! export_blocks(alloc, &mut disk, &mut output, 0, disk.blocks())?;
-//! let taken = import_blocks(alloc, &mut disk, &mut input, 0, false)?; // whole blocks, to the end of the input
+//! let taken = import_blocks(alloc, &mut disk, &mut input, 0, false, &mut written)?; // whole blocks, to the end
 //! DiskWriter::new(disk).write(&bytes)?;                                // the first blocks, from a caller that writes
-//! do_export(&rt, alloc, &export_job, io::writer(&rt))?;               // of the drive in a file
+//! do_export(&rt, alloc, &export_job, &total, io::writer(&rt))?;       // of the drive in a file
 //! let imported = do_import(&rt, alloc, &import_job, rt.reader());
 //! ```
 //!
@@ -20,10 +20,13 @@
 //! * [`export_blocks`] writes exactly the bytes that one read of these blocks shows. If the writer fails, a beginning
 //!   of them is written; if the disk refuses, the bytes of the first blocks. The array stays as it is (`Exports`). If
 //!   the drive fails at a block, all blocks before it are written, no other byte, and the fault names it
-//!   (`LeavesUnread`). That comes only if the drive has failed at a command.
+//!   (`LeavesUnread`). That comes only if the drive has failed at a command. For blocks past the end of the disk nothing
+//!   is written, and the fault has the size of the disk (`RefusesPast`).
 //! * [`import_blocks`] does what one write of the blocks that it took does: the array has them all or, if the disk
 //!   refused, a front of them (`TakesBlocks`). They are whole, and below the size of the disk. `Ok(n)` says that the
-//!   reader was at its end, and gave n whole blocks and no other byte (`EndsImport`).
+//!   reader was at its end, and gave n whole blocks and no other byte (`EndsImport`). `written` is how many blocks it
+//!   took. Where the disk refused, so many were written before the ones that it refused, and those are a piece at most
+//!   (`CountsWritten`).
 //! * The faults of an import: `Input`, less than a piece was read of which nothing came; `Rest`, the reader ended
 //!   within a block; `PastEnd`, a block came for which there is no room; `Memory`, nothing was read or done
 //!   (`StopsImport`).
@@ -80,7 +83,7 @@ pub use copy_fault::CopyFault;
 pub use disk_writer::DiskWriter;
 pub use drive_export::{blocks_asked, export_drive};
 pub use drive_import::{import_drive, import_mounted};
-pub use explanation::explain;
+pub use explanation::{explain, written_text};
 pub use exporting::export_blocks;
 pub use file::{Imported, do_export, do_import};
 pub use importing::import_blocks;

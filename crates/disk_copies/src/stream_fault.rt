@@ -16,6 +16,9 @@ pub enum ExportFault {
     /// The drive failed at the command that reads this block. All blocks before it are written.
     #[error("block {0} cannot be read: the drive failed at a command")]
     Unread(u64),
+    /// The blocks go past the end of the disk, which has that many. Nothing is written.
+    #[error("the disk has {0} blocks, and the export goes past its end")]
+    PastEnd(u64),
     /// The writer failed.
     #[error("standard output failed")]
     Output,

@@ -1,5 +1,6 @@
 // How far a job is, on standard error.
 
+use std::cell::Cell;
 use std::fs::File;
 use std::io::{IsTerminal, Read, Write};
 use std::os::unix::fs::FileTypeExt;
@@ -119,6 +120,8 @@ pub struct Watched<'r, S: Drop, E: Eprint + Clock> {
     errors: &'r E,
     /// None if nothing is shown.
     progress: Option<Progress>,
+    /// Where it is told how many bytes there are in all.
+    total: Option<&'r Cell<Option<u64>>>,
 }
 
 impl<'r, S: Drop, E: Eprint + Clock + Files<File = File>> Watched<'r, S, E> {
@@ -138,7 +141,20 @@ impl<'r, S: Drop, E: Eprint + Clock + Files<File = File>> Watched<'r, S, E> {
             stream,
             errors,
             progress,
+            total: None,
         }
+    }
+
+    /// The same of a stream that is written. How many bytes there are in all is told meanwhile.
+    pub fn output(
+        stream: S,
+        errors: &'r E,
+        counted: Option<Counted>,
+        total: &'r Cell<Option<u64>>,
+    ) -> Self {
+        let mut watched = Watched::new(stream, errors, counted);
+        watched.total = Some(total);
+        watched
     }
 
     /// The same of standard input, whose length is known if it is a file.
@@ -158,6 +174,9 @@ impl<S: Drop, E: Eprint + Clock> Watched<'_, S, E> {
             return;
         };
         progress.count(bytes);
+        if let Some(total) = self.total {
+            progress.total = total.get();
+        }
         let Ok(now) = self.errors.monotonic() else {
             return;
         };

@@ -9,6 +9,7 @@ use rescue_jobs::{
     ListFile, RescueJob, RescueJobFault, do_rescue, explain, is_whole, lists_json, lists_text,
 };
 use std::alloc::{AllocError, Global};
+use std::cell::Cell;
 use std::fs;
 use std::fs::File;
 use std::process::{Abort, ExitCode};
@@ -185,7 +186,7 @@ fn exported<R: Files<File = File> + Abort>(
         panic!(rt; "no export was asked for");
     };
     let mut written = Vec::new(alloc);
-    let done = do_export(rt, alloc, &job, &mut written);
+    let done = do_export(rt, alloc, &job, &Cell::new(None), &mut written);
     (written, done)
 }
 
@@ -197,7 +198,7 @@ fn rescued<R: Files<File = File> + Abort>(
 ) -> (Vec<u8>, Result<Rescued, RescueJobFault>) {
     let job = rescue(rt, alloc, line);
     let mut written = Vec::new(alloc);
-    let done = do_rescue(rt, alloc, &job, &mut written);
+    let done = do_rescue(rt, alloc, &job, &Cell::new(None), &mut written);
     (written, done)
 }
 

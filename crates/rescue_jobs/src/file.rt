@@ -8,6 +8,7 @@ use drive_port::{Device, Halt};
 use drive_rescue::{DeviceSource, RescueFault, Rescued, Source};
 use job_drives::SystemError;
 use std::alloc::Global;
+use std::cell::Cell;
 use std::fs::{File, OpenOptions};
 use std::io::{BufWriter, Write};
 use std::rt::Files;
@@ -53,17 +54,18 @@ impl ListFile {
     }
 }
 
-/// Writes the disk of a source to an output.
+/// Writes the disk of a source to an output. How many bytes it has is put into `total` before.
 pub fn rescue_to_output<S: Source, W: Write>(
     alloc: Global,
     job: &RescueJob,
+    total: &Cell<Option<u64>>,
     source: &mut S,
     output: &mut W,
 ) -> Result<Rescued, RescueJobFault> {
     let Ok(mut writer) = BufWriter::new(alloc, output) else {
         return Err(RescueJobFault::Rescue(RescueFault::Halted(Halt::Memory)));
     };
-    let rescued = rescue_out(alloc, given_blocks(job.blocks), source, &mut writer)?;
+    let rescued = rescue_out(alloc, given_blocks(job.blocks), total, source, &mut writer)?;
     match writer.flush() {
         Ok(()) => Ok(rescued),
         Err(_) => Err(RescueJobFault::Rescue(RescueFault::Output)),
@@ -89,11 +91,12 @@ fn rescue_to_image<F: Files<File = File>>(
 }
 
 /// Rescues the disk of the drive in an image file, which is only read. Its blocks go to an output, or to the image of a
-/// new drive.
+/// new drive. How many bytes an output gets is put into `total` before.
 pub fn do_rescue<F: Files<File = File>, W: Write>(
     files: &F,
     alloc: Global,
     job: &RescueJob,
+    total: &Cell<Option<u64>>,
     output: &mut W,
 ) -> Result<Rescued, RescueJobFault> {
     let drive = match drive_in_image(files, alloc, &job.image) {
@@ -103,6 +106,6 @@ pub fn do_rescue<F: Files<File = File>, W: Write>(
     let mut source = DeviceSource::new(drive);
     match &job.to {
         Some(path) => rescue_to_image(files, alloc, job, path, &mut source),
-        None => rescue_to_output(alloc, job, &mut source, output),
+        None => rescue_to_output(alloc, job, total, &mut source, output),
     }
 }

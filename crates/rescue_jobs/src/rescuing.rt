@@ -12,6 +12,7 @@ use drive_port::{Device, Halt, Honest};
 use drive_rescue::{Findings, RescueFault, Rescued, Source, find, give};
 use job_drives::mount_served;
 use std::alloc::Global;
+use std::cell::Cell;
 use std::io::{BufWriter, Write};
 use zone_translator::Disk;
 
@@ -87,10 +88,11 @@ fn find_disk<S: Source>(
 }
 
 /// Writes the disk of a broken drive to a writer, as flat bytes. `given` is how many blocks it has if no header says
-/// how many. The drive is only read.
+/// how many. How many bytes that makes is put into `total` before. The drive is only read.
 pub fn rescue_out<S: Source, W: Write>(
     alloc: Global,
     given: u32,
+    total: &Cell<Option<u64>>,
     source: &mut S,
     writer: &mut W,
 ) -> Result<Rescued, RescueJobFault>
@@ -99,6 +101,8 @@ pub fn rescue_out<S: Source, W: Write>(
     ensures kept { KeepsZones (S.view source.old).drive (S.view source.new).drive }
 {
     let findings = find_disk(alloc, given, source)?;
+    let block = u64::from(source.geometry().block);
+    total.set(Some(u64::from(findings.blocks()).saturating_mul(block)));
     match give(alloc, source, &findings, writer) {
         Ok(rescued) => Ok(rescued),
         Err(fault) => Err(RescueJobFault::Rescue(fault)),

@@ -48,7 +48,7 @@ fn fresh_disk(alloc: Global) -> Result<Disk<Drive>, Fail> {
 fn copy_of(alloc: Global, bytes: &[u8], sparse: bool) -> Result<Vec<u8>, Fail> {
     let mut disk = fresh_disk(alloc)?.into_any();
     let mut input = bytes;
-    let taken = import_blocks(alloc, &mut disk, &mut input, 0, sparse)?;
+    let taken = import_blocks(alloc, &mut disk, &mut input, 0, sparse, &mut 0)?;
     let mut copy = Vec::new(alloc);
     export_blocks(alloc, &mut disk, &mut copy, 0, taken)?;
     Ok(copy)
@@ -69,7 +69,7 @@ fn show_copy<R: Runtime + AllocGlobal>(rt: &R, sparse: bool) -> Result<(), Fail>
 fn failing_disk(alloc: Global, bytes: &[u8]) -> Result<AnyDisk<FailingDevice<Drive>>, Fail> {
     let mut disk = fresh_disk(alloc)?.into_any();
     let mut input = bytes;
-    import_blocks(alloc, &mut disk, &mut input, 0, false)?;
+    import_blocks(alloc, &mut disk, &mut input, 0, false, &mut 0)?;
     let Place::At(address) = disk.place_of(UNREAD) else {
         return Err(Fail::new("the block has no data"));
     };

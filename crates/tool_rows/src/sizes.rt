@@ -9,6 +9,7 @@ use drive_port::Device;
 use job_drives::DriveFile;
 use nvme_wire::Command;
 use std::alloc::{AllocError, Global};
+use std::cell::Cell;
 use std::rt::Runtime;
 use std::test::Fail;
 use zone_drive::Drive;
@@ -37,7 +38,7 @@ fn imported(alloc: Global, blocks: &[u8]) -> Result<Vec<u8>, Fail> {
         store: Held::new(alloc, Vec::from_slice(alloc, &image)?, usize::MAX),
     };
     let mut input = blocks;
-    let (_, store, taken) = import_drive(alloc, &job, file, &mut input);
+    let (_, store, taken) = import_drive(alloc, &job, file, &mut input, &mut 0);
     match taken {
         Ok(1) => Ok(Vec::from_slice(alloc, store.bytes())?),
         _ => Err(Fail::new("the block is not imported")),
@@ -79,7 +80,13 @@ fn exported(alloc: Global, file: &[u8], into: &mut Vec<u8>) -> Result<String, Al
         progress: false,
     };
     let mut bytes = file;
-    let ended: Result<(), CopyFault> = export_drive(alloc, &export, &mut bytes, into);
+    let ended: Result<(), CopyFault> = export_drive(
+        alloc,
+        &export,
+        &Cell::new(None),
+        &mut bytes,
+        into,
+    );
     match ended {
         Ok(()) => format!(in alloc; "{} bytes", into.len()),
         Err(fault) => explain(alloc, &CopyJob::Export(export), fault),

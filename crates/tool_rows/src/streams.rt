@@ -11,6 +11,7 @@ use nbd_jobs::{NbdJob, failed_note, forgotten_note};
 use nbd_session::WriteThrough;
 use rescue_jobs::{RescueJob, lists_text, rescue_to_output};
 use std::alloc::Global;
+use std::cell::Cell;
 use std::test::Fail;
 
 /// Answers the lines of a trace.
@@ -67,11 +68,14 @@ fn show_served<R: Print>(rt: &R, alloc: Global, job: &NbdJob, sent: &[u8]) -> Re
 /// Exports blocks.
 fn show_exported<R: Print>(rt: &R, alloc: Global, job: &ExportJob) -> Result<(), Fail> {
     let mut written = Vec::new(alloc);
-    let (_, exported) = export_device(alloc, job, drive_of(alloc, &job.image)?, &mut written);
+    let total = Cell::new(None);
+    let drive = drive_of(alloc, &job.image)?;
+    let (_, exported) = export_device(alloc, job, &total, drive, &mut written);
     let first = written.first().copied();
     println!(rt;
-        "{} bytes, the first {first:?}, {exported:?}",
-        written.len()
+        "{} bytes of {:?}, the first {first:?}, {exported:?}",
+        written.len(),
+        total.get()
     )?;
     Ok(())
 }
@@ -80,9 +84,14 @@ fn show_exported<R: Print>(rt: &R, alloc: Global, job: &ExportJob) -> Result<(),
 fn show_rescued<R: Print>(rt: &R, alloc: Global, job: &RescueJob) -> Result<(), Fail> {
     let mut written = Vec::new(alloc);
     let mut source = MemoryDevices.open_source(alloc, &job.image)?;
-    let rescued = rescue_to_output(alloc, job, &mut source, &mut written);
+    let total = Cell::new(None);
+    let rescued = rescue_to_output(alloc, job, &total, &mut source, &mut written);
     let first = written.first().copied();
-    println!(rt; "{} bytes, the first {first:?}", written.len())?;
+    println!(rt;
+        "{} bytes of {:?}, the first {first:?}",
+        written.len(),
+        total.get()
+    )?;
     match rescued {
         Ok(rescued) => print!(rt; "{}", lists_text(alloc, &rescued)?)?,
         Err(fault) => println!(rt; "{fault:?}")?,
@@ -98,8 +107,9 @@ fn show_imported<R: Print>(
     mut blocks: &[u8],
 ) -> Result<(), Fail> {
     let drive = drive_of(alloc, &job.image)?;
-    let (_, taken) = import_mounted(alloc, job, drive, &mut blocks);
-    println!(rt; "{taken:?}")?;
+    let mut written = 0;
+    let (_, taken) = import_mounted(alloc, job, drive, &mut blocks, &mut written);
+    println!(rt; "{taken:?}, {written} written")?;
     Ok(())
 }
 

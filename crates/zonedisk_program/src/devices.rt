@@ -27,6 +27,7 @@ use nbd_jobs::NbdJob;
 use nbd_session::{Medium, WriteThrough};
 use nvme_wire::ZoneState;
 use std::alloc::Global;
+use std::cell::Cell;
 use std::io::Write;
 use std::process::ExitCode;
 use std::rt::Files;
@@ -527,8 +528,9 @@ fn export<R: Clock + Eprint + Files<File = fs::File> + Print, D: Device + Honest
     drive: D,
     job: &ExportJob,
 ) -> Result<(), CopyFault> {
-    let mut output = Watched::new(io::writer(rt), rt, counted(job.progress));
-    let (_drive, exported) = export_device(alloc, job, drive, &mut output);
+    let total = Cell::new(None);
+    let mut output = Watched::output(io::writer(rt), rt, counted(job.progress), &total);
+    let (_drive, exported) = export_device(alloc, job, &total, drive, &mut output);
     let sent = output.flush();
     exported.and(sent.or(Err(CopyFault::Export(ExportFault::Output))))
 }
@@ -541,8 +543,9 @@ fn import<R: Clock + Eprint + Files<File = fs::File> + Input, D: Device + Honest
     job: &ImportJob,
 ) -> (D, Result<(), CopyFault>) {
     let mut input = Watched::input(rt.reader(), rt, counted(job.progress));
-    let (drive, taken) = import_mounted(alloc, job, drive, &mut input);
-    tell_imported(rt, &job.image, taken);
+    let mut written = 0;
+    let (drive, taken) = import_mounted(alloc, job, drive, &mut input, &mut written);
+    tell_imported(rt, alloc, &job.image, written, taken);
     (drive, taken.map(|_count| ()))
 }
 

@@ -4,7 +4,7 @@ ghost use Rattle.std.specs.Prelude.{◌≡◌, OnErr};
 ghost use Rattle.std.specs.Process.{exit_status};
 ghost use Rattle.zonedisk_program.specs.Ends.{EndsSaved};
 
-use disk_copies::{CopyFault, CopyJob, do_export, do_import};
+use disk_copies::{CopyFault, CopyJob, do_export, do_import, written_text};
 use disk_jobs::{
     Counted, DiskSize, Explained, Gate, Job, JobInput, LineCount, LinesDone, ProgramFault, Saved,
     Watched, do_job, explain, explain_geometry, is_terminal, restored_note, size_notes,
@@ -14,6 +14,7 @@ use nbd_jobs::{
     Forgotten, NbdFault, NbdJob, SessionDone, SessionTold, do_nbd_job, failed_note, forgotten_note,
 };
 use std::alloc::{AllocError, Global};
+use std::cell::Cell;
 use std::io::{Read, Write};
 use std::process::ExitCode;
 use std::rt::Files;
@@ -201,10 +202,16 @@ pub(crate) fn counted(progress: bool) -> Option<Counted> {
     progress.then_some(Counted::Mebibytes)
 }
 
-/// Says on standard error how many blocks were written, if all were.
-pub(crate) fn tell_imported<R: Eprint>(rt: &R, path: &str, taken: Result<u64, CopyFault>) {
-    if let Ok(count) = taken {
-        let _ = eprintln!(rt; "zonedisk: {path}: {count} blocks were written");
+/// Says on standard error how many blocks were written, also before a fault.
+pub(crate) fn tell_imported<R: Eprint>(
+    rt: &R,
+    alloc: Global,
+    path: &str,
+    written: u64,
+    taken: Result<u64, CopyFault>,
+) {
+    if let Ok(Some(text)) = written_text(alloc, path, written, taken) {
+        let _ = eprintln!(rt; "zonedisk: {text}");
     }
 }
 
@@ -217,8 +224,9 @@ pub(crate) fn copy<R: Clock + Eprint + Files<File = fs::File> + Input + Print>(
 ) -> ExitCode {
     let ends = match job {
         CopyJob::Export(job) => {
-            let output = Watched::new(io::writer(rt), rt, counted(job.progress));
-            [do_export(rt, alloc, job, output), Ok(())]
+            let total = Cell::new(None);
+            let output = Watched::output(io::writer(rt), rt, counted(job.progress), &total);
+            [do_export(rt, alloc, job, &total, output), Ok(())]
         }
         CopyJob::Import(job) => {
             let input = Watched::input(rt.reader(), rt, counted(job.progress));
@@ -229,7 +237,7 @@ pub(crate) fn copy<R: Clock + Eprint + Files<File = fs::File> + Input + Print>(
                 &job.image,
                 imported.saved.unwrap_or(Saved::IN_PLACE),
             );
-            tell_imported(rt, &job.image, imported.taken);
+            tell_imported(rt, alloc, &job.image, imported.written, imported.taken);
             [imported.taken.map(|_| ()), imported.saved.map(|_| ())]
         }
     };

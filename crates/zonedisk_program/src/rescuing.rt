@@ -15,6 +15,7 @@ use rescue_jobs::{
     rescue_into, rescue_to_output,
 };
 use std::alloc::Global;
+use std::cell::Cell;
 use std::process::ExitCode;
 use std::rt::Files;
 use std::time::Clock;
@@ -87,8 +88,9 @@ pub(crate) fn rescue_image<R: Clock + Eprint + Files<File = fs::File> + Print>(
         Ok(lists) => lists,
         Err(fault) => return refuse_rescue(rt, alloc, job, fault),
     };
-    let mut output = Watched::new(io::writer(rt), rt, counted(job.progress));
-    let rescued = do_rescue(rt, alloc, job, &mut output);
+    let total = Cell::new(None);
+    let mut output = Watched::output(io::writer(rt), rt, counted(job.progress), &total);
+    let rescued = do_rescue(rt, alloc, job, &total, &mut output);
     end_rescue(rt, alloc, job, lists, rescued)
 }
 
@@ -144,7 +146,8 @@ pub(crate) fn rescue_device<
     if let Some(path) = &job.to {
         return rescue_to_file(rt, alloc, files, job, path, &mut source, lists);
     }
-    let mut output = Watched::new(io::writer(rt), rt, counted(job.progress));
-    let rescued = rescue_to_output(alloc, job, &mut source, &mut output);
+    let total = Cell::new(None);
+    let mut output = Watched::output(io::writer(rt), rt, counted(job.progress), &total);
+    let rescued = rescue_to_output(alloc, job, &total, &mut source, &mut output);
     end_rescue(rt, alloc, job, lists, rescued)
 }

@@ -6,5 +6,5 @@ use Rattle.disk_copies.proofs.drive_import.import_drive.Goals as goal
 
 pub returns-clause-left : goal.returns-clause-left
 returns-clause-left g c =
-    left-file (λ (old new : DriveState). ImportsDrive c.args.job.now (g.R.Read.remaining c.args.reader.now) (g.R.Read.remaining c.import_mounted-device.new.reader) old c.import_mounted-device.result.1 new)
+    left-file (λ (old new : DriveState). ImportsDrive c.args.job.now (g.R.Read.remaining c.args.reader.now) (g.R.Read.remaining c.import_mounted-device.new.reader) old c.import_mounted-device.result.1 c.import_mounted-device.new.written new)
     (g.I.Read.remaining c.args.file.bytes) Lazy _ _ _ _ _ _ c.in-Ok.ensures.ok (c.import_mounted-device.ensures.imports c.vouch.ensures) c.leave-left.ensures.was_image c.leave-left.ensures.left

@@ -16,7 +16,7 @@ returns-clause-imports g c now =
     let rest = g.R.Read.remaining c.import_blocks-taken.new.reader in
     let clean = subst (λ (d : DriveState). IsTrue d.clean) c.into_device.ensures now in
     let served = c.in-Ok.ensures.disk (c.import_blocks-taken.ensures.alike.shape.trusted clean) in
-    let imports : ImportsDisk c.args.job.now input rest old c.import_blocks-taken.result new = record {
+    let imports : ImportsDisk c.args.job.now input rest old c.import_blocks-taken.result c.import_blocks-taken.new.written new = record {
       disk = c.in-Ok.disk;
       served = served;
       last = c.import_blocks-taken.new.disk;
@@ -24,7 +24,7 @@ returns-clause-imports g c now =
       keeps = (c.import_blocks-taken.ensures.keeps clean).mounted served.mountable;
       drive = c.into_device.ensures;
     } in
-    rw c.import_end.ensures (drive-imported c.args.job.now input rest old c.import_blocks-taken.result new imports)
+    rw c.import_end.ensures (drive-imported c.args.job.now input rest old c.import_blocks-taken.result c.import_blocks-taken.new.written new imports)
 
 pub returns-clause-shape : goal.returns-clause-shape
 returns-clause-shape g c =
@@ -41,4 +41,4 @@ returns-clause-anyway g c =
     rw c.import_end.ensures (drive_imported-anyway old input rest c.import_blocks-taken.result comes)
 
 pub returns-in-Err-clause-imports : goal.returns-in-Err-clause-imports
-returns-in-Err-clause-imports g c clean = (c.in-Err.ensures.err clean, refl)
+returns-in-Err-clause-imports g c clean = (c.in-Err.ensures.err clean, refl, refl)

@@ -22,7 +22,7 @@ returns-in-Failed-clause-exports g c clean =
     exports-from old mid new.disk c.args.first c.args.blocks (g.W.Write.contents c.args.writer.now)
     (g.W.Write.contents new.writer) c.export_singly.result
     (failed-same (flat_of old) (flat_of mid) c.args.first c.args.blocks read.flat.shown c.requires.some
-    c.requires.in_range read.flat.flat) (c.export_singly.ensures.exports clean)
+    c.requires.in_range read.flat.flat) c.requires.in_range (c.export_singly.ensures.exports clean)
 
 pub returns-in-Failed-clause-keeps : goal.returns-in-Failed-clause-keeps
 returns-in-Failed-clause-keeps g c clean =

@@ -15,7 +15,7 @@ returns-in_err-export_block-clause-exports g c clean =
     exports-err old new.disk c.args.first c.args.blocks (held c.args.writer.now) (held new.writer)
     c.from_residual.result fault c.from_residual.ensures.1
     (exports-fail old before.disk new.disk c.args.first before.i _ 1 c.args.blocks fault (held c.args.writer.now)
-    (held before.writer) (held new.writer) refl (omega arith) (omega (arith, c.loop-i-test.true)) c.requires.in_range
+    (held before.writer) (held new.writer) refl (omega arith) (omega (arith, c.loop-i-test.true)) c.requires.in_range before.invariant.alike.size
     (before.invariant.exports (c.export_block.ensures.alike.shape.trusted clean))
     (c.in_err-export_block.ensures.exports clean))
 

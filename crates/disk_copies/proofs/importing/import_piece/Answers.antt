@@ -13,7 +13,7 @@ returns-in_err-count-clause-imports g c clean =
     let rest = g.R.Read.remaining c.fill.new.reader in
     let long = c.in_err-count.ensures.length ∙ c.requires in
     let unread = piece-unread old c.args.first _ input rest long c.in_err-count.ensures.err in
-    import-err old old c.args.first input rest c.from_residual.result Input c.from_residual.ensures.1 unread
+    import-err old old c.args.first input rest c.from_residual.result _ Input c.from_residual.ensures.1 unread
 
 -- a piece was read
 came : (g : Over) (c : goal.After-min-blocks g) →
@@ -41,7 +41,7 @@ returns-in_err-put-clause-imports g c clean =
     let fault = c.in_err-put.field-0.0 in
     let size = c.block_bytes-block.ensures.size in
     let read = came g ((goal.at.returns-in_err-put-clause-imports g c).After-min-blocks) in
-    import-err old new c.args.first _ _ c.from_residual-in_err-put.result (Disk fault)
+    import-err old new c.args.first _ _ c.from_residual-in_err-put.result _ (Disk fault)
     c.from_residual-in_err-put.ensures.1
     (piece-refused old new c.args.first c.fill.new.buffer _ _ _ _ _ fault read
     (rw size at (c.in_err-put.ensures.flat clean)) (c.in_err-put.ensures.cause clean))
