@@ -15,6 +15,8 @@ mod boots;
 #[cfg(test)]
 mod bytes_of_files;
 #[cfg(test)]
+mod called_disks;
+#[cfg(test)]
 mod copied_files;
 #[cfg(test)]
 mod counts;

@@ -19,7 +19,8 @@ const FORMAT_EXAMPLE: &str = "Examples:
   zonedisk format --image my.drive --in-place --block 4096 --zones 64 --size 8192 --capacity 8192 --transfer 128 --active 8 --open 8
   zonedisk format --device /dev/ng0n1
 
-A drive of --in-place is never read whole, and memory grows with its zones alone: ports/linux/out/zonedisk opens it.
+A drive of --in-place is never read whole, and takes memory for its zones alone: ports/linux/out/zonedisk opens it.
+The disk above a drive takes some 12 bytes of memory for each block that was written.
 A real drive has its own shape. If it is not empty, it is refused; with --force all that it holds is destroyed.";
 
 const RUN_EXAMPLE: &str = "Examples:

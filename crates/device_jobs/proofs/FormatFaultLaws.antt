@@ -11,10 +11,11 @@ use Rattle.drive_survey.specs.declared.fault.MountFault.{MountFault}
 use Rattle.drive_survey.specs.declared.reported.ReportedZone.{ReportedZone}
 use Rattle.drive_survey.specs.Reported.{KeepsZones}
 use Rattle.drive_survey.specs.Scan.{IsInterruption}
+use Rattle.tool_jobs.specs.Checks.{EndsLook}
 use Rattle.tool_jobs.specs.declared.fault.ToolFault.{ToolFault}
 use Rattle.tool_jobs.specs.declared.fault.ToolFault.TheVariants as tools
-use Rattle.drive_inspection.specs.Written.{AreAllEmpty, AreEmptyBelow, IsWritten, is_used}
-use Rattle.device_jobs.specs.Formats.{AreUsages, IsResetOf, IsUnformatted, IsUnlisted, IsUnlooked, IsUnreset, IsUnsaid, IsUnusable, IsUnusableAt, NoneIsUnusable, unlooked, unreported}
+use Rattle.drive_inspection.specs.Written.{AreAllEmpty, AreEmptyBelow, CountsWritten, IsWritten, is_used}
+use Rattle.device_jobs.specs.Formats.{AreUsages, HasFormatCause, IsOfLook, IsResetOf, IsUnformatted, IsUnlisted, IsUnlooked, IsUnreset, IsUnsaid, IsUnusable, IsUnusableAt, NoneIsUnusable, unlooked, unreported}
 use Rattle.device_jobs.specs.Looks.{IsUnasked}
 use Rattle.device_jobs.specs.declared.format_fault.FormatFault.{FormatFault}
 use Rattle.device_jobs.specs.declared.format_fault.FormatFault.TheVariants as faults
@@ -26,11 +27,24 @@ pub not-looked : (last : DriveState) (fault : ToolFault) → IsUnasked last faul
 not-looked last tools.Memory so = tt
 not-looked last tools.Stopped so = so
 not-looked last tools.Failed so = so
+not-looked last tools.Damaged so = absurd so
 not-looked last (tools.Plan cause) so = absurd so
 not-looked last tools.Bytes so = absurd so
 not-looked last (tools.Entry cause) so = absurd so
 not-looked last tools.Output so = absurd so
 not-looked last (tools.File cause) so = absurd so
+
+-- whatever ended a look
+pub of-look : (fault : ToolFault) → EndsLook fault → IsOfLook (unlooked fault)
+of-look tools.Memory so = tt
+of-look tools.Stopped so = tt
+of-look tools.Failed so = tt
+of-look tools.Damaged so = tt
+of-look (tools.Plan cause) so = absurd so
+of-look tools.Bytes so = absurd so
+of-look (tools.Entry cause) so = absurd so
+of-look tools.Output so = absurd so
+of-look (tools.File cause) so = absurd so
 
 -- ---- zones that cannot be used
 
@@ -69,30 +83,47 @@ unusable-before old new zone kept is =
 
 -- ---- faults
 
+abbrev used-count : List Content → ℕ
+used-count all = count_by (λ (c : Content). is_used c.usage) all
+
 written-before : (old middle new : DriveState) (written : Written) → KeepsZones old middle → IsWritten middle new written → IsWritten old new written
 written-before old middle new written kept so = record {
-  count = so.count ∙ ap count (kept-contents old middle kept);
+  count = so.count ∙ ap used-count (kept-contents old middle kept);
   some = so.some;
   seen = so.seen;
   keeps = keeps-both old middle so.seen kept so.keeps;
   holding = so.holding;
 }
-  where
-    count : List Content → ℕ
-    count all = count_by (λ (c : Content). is_used c.usage) all
+
+counts-before : (old middle : DriveState) (written : Written) → KeepsZones old middle → CountsWritten middle written → CountsWritten old written
+counts-before old middle written kept so = record { count = so.count ∙ ap used-count (kept-contents old middle kept); some = so.some }
 
 -- why a drive is not formatted that was looked at before
 pub unformatted-before : (force : Bool) (old middle new : DriveState) (fault : FormatFault) → KeepsZones old middle → IsUnformatted force middle new fault → IsUnformatted force old new fault
-unformatted-before force old middle new (faults.Written written) kept so = (so.0, written-before old middle new written kept so.1)
+unformatted-before force old middle new (faults.Written written) kept so = (so.0, counts-before old middle written kept so.1, keeps-both old middle new kept so.2)
 unformatted-before force old middle new (faults.Unusable zone) kept so = (unusable-before old middle zone kept so.0, keeps-both old middle new kept so.1)
 unformatted-before force old middle new faults.Untold kept so = (so.0, keeps-both old middle new kept so.1)
 unformatted-before force old middle new (faults.Reset zone cause) kept so = so
 unformatted-before force old middle new faults.Output kept so = so
 unformatted-before force old middle new faults.Limits kept so = ((λ range. so.0 (rw kept.geometry range)), keeps-both old middle new kept so.1)
-unformatted-before force old middle new faults.Stopped kept so = (so.0, keeps-both old middle new kept so.1)
-unformatted-before force old middle new faults.Failed kept so = (so.0, keeps-both old middle new kept so.1)
+unformatted-before force old middle new faults.Stopped kept so = keeps-both old middle new kept so
+unformatted-before force old middle new faults.Failed kept so = keeps-both old middle new kept so
+unformatted-before force old middle new faults.Damaged kept so = keeps-both old middle new kept so
 unformatted-before force old middle new faults.Memory kept (inl keeps) = inl (keeps-both old middle new kept keeps)
 unformatted-before force old middle new faults.Memory kept (inr done) = inr done
+
+-- and its cause
+pub cause-before : (old middle new : DriveState) (fault : FormatFault) → KeepsZones old middle → HasFormatCause middle new fault → HasFormatCause old new fault
+cause-before old middle new (faults.Written written) kept so = written-before old middle new written kept so
+cause-before old middle new (faults.Unusable zone) kept so = tt
+cause-before old middle new faults.Untold kept so = tt
+cause-before old middle new (faults.Reset zone cause) kept so = tt
+cause-before old middle new faults.Output kept so = tt
+cause-before old middle new faults.Limits kept so = tt
+cause-before old middle new faults.Stopped kept so = so
+cause-before old middle new faults.Failed kept so = so
+cause-before old middle new faults.Damaged kept so = so
+cause-before old middle new faults.Memory kept so = tt
 
 -- ---- what a part answers, of the whole
 
@@ -111,6 +142,7 @@ reset-of new number faults.Output is below = absurd is
 reset-of new number faults.Limits is below = absurd is
 reset-of new number faults.Stopped is below = absurd is
 reset-of new number faults.Failed is below = absurd is
+reset-of new number faults.Damaged is below = absurd is
 reset-of new number faults.Memory is below = absurd is
 
 pub unlisted : (old last : DriveState) (fault : MountFault) → IsInterruption last fault → IsUnlisted old last (unreported fault)
@@ -120,15 +152,16 @@ unlisted old last fault (inr (inl (inr failed))) = rw failed.0 failed.1
 unlisted old last fault (inr (inr none)) = absurd none
 
 module _ (force : Bool) (old new : DriveState) where
-  pub unlooked-so : KeepsZones old new → (fault : FormatFault) → IsUnlooked new fault → IsUnformatted force old new fault
+  pub unlooked-so : KeepsZones old new → (fault : FormatFault) → IsOfLook fault → IsUnformatted force old new fault
   unlooked-so kept (faults.Written written) so = absurd so
   unlooked-so kept (faults.Unusable zone) so = absurd so
   unlooked-so kept faults.Untold so = absurd so
   unlooked-so kept (faults.Reset zone cause) so = absurd so
   unlooked-so kept faults.Output so = absurd so
   unlooked-so kept faults.Limits so = absurd so
-  unlooked-so kept faults.Stopped so = (so, kept)
-  unlooked-so kept faults.Failed so = (so, kept)
+  unlooked-so kept faults.Stopped so = kept
+  unlooked-so kept faults.Failed so = kept
+  unlooked-so kept faults.Damaged so = kept
   unlooked-so kept faults.Memory so = inl kept
 
   pub unlisted-so : KeepsZones old new → (fault : FormatFault) → IsUnlisted old new fault → IsUnformatted force old new fault
@@ -138,8 +171,9 @@ module _ (force : Bool) (old new : DriveState) where
   unlisted-so kept (faults.Reset zone cause) so = absurd so
   unlisted-so kept faults.Output so = absurd so
   unlisted-so kept faults.Limits so = (so, kept)
-  unlisted-so kept faults.Stopped so = (so, kept)
-  unlisted-so kept faults.Failed so = (so, kept)
+  unlisted-so kept faults.Stopped so = kept
+  unlisted-so kept faults.Failed so = kept
+  unlisted-so kept faults.Damaged so = absurd so
   unlisted-so kept faults.Memory so = inl kept
 
   pub unreset-so : force ≡ true → (fault : FormatFault) → IsUnreset new fault → IsUnformatted force old new fault
@@ -151,6 +185,7 @@ module _ (force : Bool) (old new : DriveState) where
   unreset-so forced faults.Limits so = absurd so
   unreset-so forced faults.Stopped so = absurd so
   unreset-so forced faults.Failed so = absurd so
+  unreset-so forced faults.Damaged so = absurd so
   unreset-so forced faults.Memory so = absurd so
 
   -- all is done, and it is not told
@@ -163,4 +198,56 @@ module _ (force : Bool) (old new : DriveState) where
   unsaid-so done faults.Limits so = absurd so
   unsaid-so done faults.Stopped so = absurd so
   unsaid-so done faults.Failed so = absurd so
+  unsaid-so done faults.Damaged so = absurd so
   unsaid-so done faults.Memory so = inr done
+
+-- ---- its cause
+
+module _ (old new : DriveState) where
+  pub unlooked-cause : (fault : FormatFault) → IsUnlooked new fault → HasFormatCause old new fault
+  unlooked-cause (faults.Written written) so = absurd so
+  unlooked-cause (faults.Unusable zone) so = absurd so
+  unlooked-cause faults.Untold so = absurd so
+  unlooked-cause (faults.Reset zone cause) so = absurd so
+  unlooked-cause faults.Output so = absurd so
+  unlooked-cause faults.Limits so = absurd so
+  unlooked-cause faults.Stopped so = so
+  unlooked-cause faults.Failed so = so
+  unlooked-cause faults.Damaged so = absurd so
+  unlooked-cause faults.Memory so = tt
+
+  pub unlisted-cause : (fault : FormatFault) → IsUnlisted old new fault → HasFormatCause old new fault
+  unlisted-cause (faults.Written written) so = absurd so
+  unlisted-cause (faults.Unusable zone) so = absurd so
+  unlisted-cause faults.Untold so = absurd so
+  unlisted-cause (faults.Reset zone cause) so = absurd so
+  unlisted-cause faults.Output so = absurd so
+  unlisted-cause faults.Limits so = tt
+  unlisted-cause faults.Stopped so = so
+  unlisted-cause faults.Failed so = so
+  unlisted-cause faults.Damaged so = absurd so
+  unlisted-cause faults.Memory so = tt
+
+  pub unreset-cause : (fault : FormatFault) → IsUnreset new fault → HasFormatCause old new fault
+  unreset-cause (faults.Written written) so = absurd so
+  unreset-cause (faults.Unusable zone) so = absurd so
+  unreset-cause faults.Untold so = absurd so
+  unreset-cause (faults.Reset zone cause) so = tt
+  unreset-cause faults.Output so = absurd so
+  unreset-cause faults.Limits so = absurd so
+  unreset-cause faults.Stopped so = absurd so
+  unreset-cause faults.Failed so = absurd so
+  unreset-cause faults.Damaged so = absurd so
+  unreset-cause faults.Memory so = absurd so
+
+  pub unsaid-cause : (fault : FormatFault) → IsUnsaid fault → HasFormatCause old new fault
+  unsaid-cause (faults.Written written) so = absurd so
+  unsaid-cause (faults.Unusable zone) so = absurd so
+  unsaid-cause faults.Untold so = absurd so
+  unsaid-cause (faults.Reset zone cause) so = absurd so
+  unsaid-cause faults.Output so = tt
+  unsaid-cause faults.Limits so = absurd so
+  unsaid-cause faults.Stopped so = absurd so
+  unsaid-cause faults.Failed so = absurd so
+  unsaid-cause faults.Damaged so = absurd so
+  unsaid-cause faults.Memory so = tt

@@ -1,3 +1,4 @@
+pub mod ExportLaws
 pub mod FormatLaws
 pub mod FormatFaultLaws
 pub mod ShownLaws

@@ -1,9 +1,10 @@
 -- Blocks that are copied out of the drive behind a device.
-use Rattle.std.specs.Prelude.{◌≡◌, None, Result, Ok, Err}
+use Rattle.std.specs.Prelude.{◌≡◌, None, Result, Ok, Err, ⊤}
+use Rattle.zone_states.specs.declared.geometry.Geometry.{Geometry}
 use Rattle.drive_port.specs.Drive.{DriveState}
 use Rattle.zone_translator.specs.View.{DiskView, KeepsDisk, disk_array, disk_size}
 use Rattle.disk_runs.specs.Run.{Known}
-use Rattle.job_drives.specs.Mounted.{IsNotServed, IsServed}
+use Rattle.job_drives.specs.Mounted.{IsNotServed, IsServed, TellsRoom}
 use Rattle.disk_copies.specs.Copies.{Exports}
 use Rattle.disk_copies.specs.declared.stream_fault.ExportFault.{ExportFault}
 use Rattle.disk_copies.specs.DriveCopies.{blocks_asked}
@@ -28,3 +29,11 @@ ExportsDevice job old written contents (Ok done) new = ExportsDisk job old writt
 ExportsDevice job old written contents (Err (copies.Export fault)) new = ExportsDisk job old written contents (Err fault) new
 ExportsDevice job old written contents (Err (copies.Mount fault)) new = IsNotServed old None fault new × (contents ≡ written)
 ExportsDevice job old written contents (Err fault) new = ⊥
+
+-- The same whatever the Reads of the drive returned: nothing is written of one that is not mounted, and the room that is
+-- told is that of its geometry.
+abbrev pub ExportsAnyway : Geometry → Known → Known → Result (Unit {0}) CopyFault → Type 0
+ExportsAnyway geometry written contents (Ok done) = ⊤
+ExportsAnyway geometry written contents (Err (copies.Export fault)) = ⊤
+ExportsAnyway geometry written contents (Err (copies.Mount fault)) = TellsRoom geometry fault × (contents ≡ written)
+ExportsAnyway geometry written contents (Err fault) = ⊥

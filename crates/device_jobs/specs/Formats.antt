@@ -10,7 +10,7 @@ use Rattle.drive_survey.specs.declared.reported.ReportedZone.{ReportedZone}
 use Rattle.disk_files.specs.Output.{AppendsFront}
 use Rattle.disk_files.specs.Reply.{ok_text}
 use Rattle.disk_runs.specs.Run.{Known}
-use Rattle.drive_inspection.specs.Written.{AreAllEmpty, AreEmptyBelow, IsWritten, is_written, written_count}
+use Rattle.drive_inspection.specs.Written.{AreAllEmpty, AreEmptyBelow, CountsWritten, IsWritten, is_written, written_count}
 use Rattle.tool_jobs.specs.Checks.{HasFailed, HasStopped}
 use Rattle.tool_jobs.specs.declared.fault.ToolFault.{ToolFault}
 use Rattle.tool_jobs.specs.declared.fault.ToolFault.TheVariants as tools
@@ -53,6 +53,7 @@ pub record AreUsages (drive : DriveState) (reported : List ReportedZone) : Type 
 abbrev pub unlooked : ToolFault → FormatFault
 unlooked tools.Memory = faults.Memory
 unlooked tools.Failed = faults.Failed
+unlooked tools.Damaged = faults.Damaged
 unlooked fault = faults.Stopped
 
 abbrev pub unreported : MountFault → FormatFault
@@ -66,6 +67,14 @@ IsUnlooked last faults.Memory = ⊤
 IsUnlooked last faults.Stopped = HasStopped last
 IsUnlooked last faults.Failed = HasFailed last
 IsUnlooked last fault = ⊥
+
+-- whatever the Reads returned, only these faults end a look
+abbrev pub IsOfLook : FormatFault → Type 0
+IsOfLook faults.Memory = ⊤
+IsOfLook faults.Stopped = ⊤
+IsOfLook faults.Failed = ⊤
+IsOfLook faults.Damaged = ⊤
+IsOfLook fault = ⊥
 
 -- its zones are not known
 abbrev pub IsUnlisted : DriveState → DriveState → FormatFault → Type 0
@@ -90,15 +99,25 @@ IsUnsaid fault = ⊥
 
 -- Without force it holds something. A zone is reset with force alone, and only after it was told what is lost.
 abbrev pub IsUnformatted : Bool → DriveState → DriveState → FormatFault → Type 0
-IsUnformatted force old new (faults.Written written) = (force ≡ false) × IsWritten old new written
+IsUnformatted force old new (faults.Written written) = (force ≡ false) × CountsWritten old written × KeepsZones old new
 IsUnformatted force old new (faults.Unusable zone) = IsUnusableAt old zone × KeepsZones old new
 IsUnformatted force old new faults.Untold = (force ≡ true) × KeepsZones old new
 IsUnformatted force old new (faults.Reset zone cause) = (force ≡ true) × AreEmptyBelow zone new
 IsUnformatted force old new faults.Output = AreAllEmpty new
 IsUnformatted force old new faults.Limits = (IsInRange old.geometry → ⊥) × KeepsZones old new
-IsUnformatted force old new faults.Stopped = HasStopped new × KeepsZones old new
-IsUnformatted force old new faults.Failed = HasFailed new × KeepsZones old new
+IsUnformatted force old new faults.Stopped = KeepsZones old new
+IsUnformatted force old new faults.Failed = KeepsZones old new
+IsUnformatted force old new faults.Damaged = KeepsZones old new
 IsUnformatted force old new faults.Memory = KeepsZones old new ⊎ AreAllEmpty new
+
+-- While the drive is clean: it holds what is told, it has stopped, or it failed at a command. Then nothing is told as
+-- Damaged.
+abbrev pub HasFormatCause : DriveState → DriveState → FormatFault → Type 0
+HasFormatCause old new (faults.Written written) = IsWritten old new written
+HasFormatCause old new faults.Stopped = HasStopped new
+HasFormatCause old new faults.Failed = HasFailed new
+HasFormatCause old new faults.Damaged = ⊥
+HasFormatCause old new fault = ⊤
 
 -- what is written of a format that is not done: nothing, or a beginning of `ok` where the writer failed
 abbrev pub SaysNoOk : FormatFault → Known → Known → Type 0

@@ -1,5 +1,5 @@
 -- A trace over the drive behind a device.
-use Rattle.std.specs.Prelude.{◌≡◌, ℕ, Bool, true, false, Result, Ok, Err}
+use Rattle.std.specs.Prelude.{◌≡◌, ℕ, Bool, true, false, IsTrue, Result, Ok, Err}
 use Rattle.nvme_wire.specs.declared.command.ReportingOptions.TheVariants.{AnyState}
 use Rattle.drive_port.specs.Calls.{OnlyCloses}
 use Rattle.drive_port.specs.Drive.{DriveState}
@@ -8,10 +8,10 @@ use Rattle.disk_runs.specs.Run.{Exchange, Known}
 use Rattle.disk_runs.specs.declared.fault.RunFault.{RunFault}
 use Rattle.disk_runs.specs.declared.fault.RunFault.TheVariants as runs
 use Rattle.disk_runs.specs.declared.taking.Taking.{Taking}
-use Rattle.zone_translator.specs.declared.fault.DiskFault.TheVariants.{Failed, Stopped}
+use Rattle.zone_translator.specs.declared.fault.DiskFault.TheVariants.{Damaged, Failed, Stopped}
 use Rattle.job_drives.specs.Stop.{stopping}
-use Rattle.disk_jobs.specs.Mounted.{TellsMount}
-use Rattle.disk_jobs.specs.Saved.{RunsCounted, RunsTrace}
+use Rattle.disk_jobs.specs.AnyDevice.{RunsAnyCounted, RunsAnyTrace}
+use Rattle.disk_jobs.specs.Mounted.{TellsMount, TellsMountAnyway}
 use Rattle.disk_jobs.specs.declared.mounting.Mounting.{Mounting}
 use Rattle.tool_jobs.specs.declared.fault.ToolFault.{ToolFault}
 use Rattle.tool_jobs.specs.declared.fault.ToolFault.TheVariants as tools
@@ -20,14 +20,15 @@ use Rattle.device_jobs.specs.Reports.{IsUnreported, TellsReport}
 
 -- The lines of a trace are taken as it is asked. Then it is told what was counted if that is asked for.
 abbrev pub RunsAsked : Bool → Taking → ℕ → Stopping → Exchange → Result (Unit {0}) RunFault → DriveState → Type 0
-RunsAsked true takes blocks device bytes ended new = RunsCounted takes blocks device bytes ended new
-RunsAsked false takes blocks device bytes ended new = RunsTrace takes blocks device bytes ended new
+RunsAsked true takes blocks device bytes ended new = RunsAnyCounted takes blocks device bytes ended new
+RunsAsked false takes blocks device bytes ended new = RunsAnyTrace takes blocks device bytes ended new
 
 -- what a fault of a report is to a run
 abbrev pub run_fault : ToolFault → RunFault
 run_fault tools.Output = runs.Output
 run_fault tools.Memory = runs.Memory
 run_fault tools.Failed = runs.Disk Failed
+run_fault tools.Damaged = runs.Disk Damaged
 run_fault fault = runs.Disk Stopped
 
 -- A report of all zones was asked for. Why it was not shown is told as the fault of a run.
@@ -40,12 +41,15 @@ abbrev pub ThenReports : Bool → DriveState → Result (Unit {0}) RunFault → 
 ThenReports true old (Ok done) written ended new contents = OnlyCloses old new × ShowsAll old written ended new contents
 ThenReports zones old ran written ended new contents = (ended ≡ ran) × (new ≡ old) × (contents ≡ written)
 
--- The lines are answered by the disk of this drive, and the zones of the drive are shown then, if they are asked for. It is told which disk was mounted.
+-- The lines are answered by the disk of this drive as long as the drive is clean, and it is told which disk was mounted.
+-- The zones of the drive are shown then, if they are asked for. No report makes a drive clean again.
 pub record AnswersTrace (job : DeviceRun) (bytes : Exchange) (old : DriveState) (told : Mounting) (ended : Result (Unit {0}) RunFault)
     (new : DriveState) : Type 0 where
   pub ran : Result (Unit {0}) RunFault
   pub middle : Known
   pub left : DriveState
   pub runs : RunsAsked job.statistics job.takes job.blocks (stopping job.stop old) (record bytes { contents = middle }) ran left
-  pub tells : TellsMount job.blocks old ran told
+  pub tells : IsTrue left.clean → TellsMount job.blocks old ran told
+  pub anyway : TellsMountAnyway old.geometry ran told
   pub shows : ThenReports job.zones left ran middle ended new bytes.contents
+  pub trusted : IsTrue new.clean → IsTrue left.clean

@@ -4,7 +4,7 @@ ghost use Rattle.std.specs.Prelude.{◌≡◌, Bool, false};
 ghost use Rattle.device_jobs.specs.Ways.{HasNoWay};
 
 use crate::fault::DeviceFault;
-use drive_port::{Device, Honest};
+use drive_port::Device;
 use drive_rescue::Source;
 use nbd_session::Medium;
 use std::alloc::Global;
@@ -65,13 +65,13 @@ pub trait RawDrive {
 /// is opened, nor that one is: a way to real drives has its premise elsewhere.
 pub trait Devices {
     /// The drive of an open device.
-    type Drive: Device + Honest + Drop;
+    type Drive: Device + Drop;
 
     /// What makes durable what that drive has completed.
     type Medium: Medium + Drop;
 
     /// The drive of a device that is only read.
-    type Reader: Device + Honest + Drop;
+    type Reader: Device + Drop;
 
     /// A device of which a rescue reads what can be read.
     type Source: Source + Drop;

@@ -49,6 +49,9 @@ pub enum FormatFault {
     /// It failed at a command while it was looked at. Nothing was reset.
     #[error("the drive failed at a command, and nothing was reset")]
     Failed,
+    /// What it returned while it was looked at does not fit together. Nothing was reset.
+    #[error("what the drive returned does not fit together, and nothing was reset")]
+    Damaged,
     /// A Reset of the zone of this number was not answered by success. The zones before it are Empty.
     #[error("the reset of zone {0} failed: {1}. The zones before it are Empty: repeat format --force")]
     Reset(u32, PortFault),

@@ -1,14 +1,14 @@
 // A drive in which nothing is written, of the drive behind a device.
 
 ghost use Rattle.std.specs.Prelude.{◌≡◌, ℕ, ◌*◌, ◌<◌, ◌^◌, false, length};
-ghost use Rattle.std.specs.Prelude.{IfErr, IfNone, IfOk, IfSome, OnOk};
+ghost use Rattle.std.specs.Prelude.{IfErr, IfNone, IfOk, IfSome, IsTrue, OnOk};
 ghost use Rattle.drive_port.specs.Calls.{ResetZone};
 ghost use Rattle.std.specs.Io.KnownBytes.{Appends};
 ghost use Rattle.drive_port.specs.Drive.{IsLawful};
 ghost use Rattle.drive_survey.specs.Reported.{KeepsZones};
 ghost use Rattle.disk_files.specs.Reply.{ok_text};
 ghost use Rattle.drive_inspection.specs.Written.{AreAllEmpty, IsHolding};
-ghost use Rattle.device_jobs.specs.Formats.{AreUsages, IsResetOf, IsUnformatted, IsUnlisted};
+ghost use Rattle.device_jobs.specs.Formats.{AreUsages, HasFormatCause, IsOfLook, IsResetOf, IsUnformatted, IsUnlisted};
 ghost use Rattle.device_jobs.specs.Formats.{IsUnlooked, IsUnreset, IsUnsaid, IsUnusable, IsUnusableAt, NoneIsUnusable};
 ghost use Rattle.device_jobs.specs.Formats.{OnlyEmpties, SaysNoOk, is_unusable, unlooked, unreported};
 
@@ -16,7 +16,7 @@ use crate::format_fault::{FormatFault, NamedDrive};
 use crate::looking::look;
 use disk_files::{ok_reply, write_out};
 use drive_inspection::{Holding, Written, count_written, holding_of, is_written};
-use drive_port::{Device, Honest, reset};
+use drive_port::{Device, reset};
 use drive_survey::{MountFault, ReportedZone, report_zones};
 use nvme_wire::ZoneState;
 use std::alloc::Global;
@@ -51,14 +51,17 @@ fn unlooked(fault: ToolFault) -> FormatFault
     match fault {
         ToolFault::Memory => FormatFault::Memory,
         ToolFault::Failed => FormatFault::Failed,
+        ToolFault::Damaged => FormatFault::Damaged,
         _ => FormatFault::Stopped,
     }
 }
 
 /// What is in the zones of a drive.
-fn find_holding<D: Device + Honest>(alloc: Global, device: &mut D) -> Result<Holding, FormatFault>
-    ensures ok { IfOk result (IsHolding (D.drive device.old) (D.drive device.new)) }
-    ensures err { IfErr result (IsUnlooked (D.drive device.new)) }
+fn find_holding<D: Device>(alloc: Global, device: &mut D) -> Result<Holding, FormatFault>
+    ensures ok { IsTrue (D.drive device.new).clean
+        → IfOk result (IsHolding (D.drive device.old) (D.drive device.new)) }
+    ensures err { IsTrue (D.drive device.new).clean → IfErr result (IsUnlooked (D.drive device.new)) }
+    ensures kinds { IfErr result IsOfLook }
     ensures kept { KeepsZones (D.drive device.old) (D.drive device.new) }
 {
     match look(alloc, device) {
@@ -130,7 +133,7 @@ fn zones_of<D: Device>(alloc: Global, device: &mut D) -> Result<Vec<ReportedZone
 }
 
 /// Resets the zones of a drive that are not Empty, if they may be destroyed, and tells before what they hold.
-fn empty_zones<D: Device + Honest, E: Eprint>(
+fn empty_zones<D: Device, E: Eprint>(
     errors: &E,
     alloc: Global,
     named: NamedDrive<'_>,
@@ -143,6 +146,8 @@ fn empty_zones<D: Device + Honest, E: Eprint>(
     ensures empties { OnlyEmpties (D.drive device.old) (D.drive device.new) }
     ensures ok { OnOk result (AreAllEmpty (D.drive device.new)) }
     ensures err { IfErr result (IsUnformatted force (D.drive device.old) (D.drive device.new)) }
+    ensures cause { IsTrue (D.drive device.new).clean
+        → IfErr result (HasFormatCause (D.drive device.old) (D.drive device.new)) }
 {
     let count = count_written(zones);
     if count == 0 {
@@ -162,7 +167,7 @@ fn empty_zones<D: Device + Honest, E: Eprint>(
 }
 
 /// The same, but a drive with a zone that is Read Only or Offline is left as it is.
-fn empty_usable<D: Device + Honest, E: Eprint>(
+fn empty_usable<D: Device, E: Eprint>(
     errors: &E,
     alloc: Global,
     named: NamedDrive<'_>,
@@ -175,6 +180,8 @@ fn empty_usable<D: Device + Honest, E: Eprint>(
     ensures empties { OnlyEmpties (D.drive device.old) (D.drive device.new) }
     ensures ok { OnOk result (AreAllEmpty (D.drive device.new)) }
     ensures err { IfErr result (IsUnformatted force (D.drive device.old) (D.drive device.new)) }
+    ensures cause { IsTrue (D.drive device.new).clean
+        → IfErr result (HasFormatCause (D.drive device.old) (D.drive device.new)) }
 {
     let zones = zones_of(alloc, device)?;
     if let Some(number) = find_unusable(&zones) {
@@ -202,7 +209,7 @@ fn say_ok<W: Write>(alloc: Global, output: &mut W) -> Result<(), FormatFault>
 /// Makes a drive in which nothing is written, and says `ok`. A drive whose zones are all Empty is left as it is.
 /// Without `force` any other is refused. With it people are told which drive it is and what it holds. Then each zone
 /// that is not Empty is reset. A drive with a zone that is Read Only or Offline is refused, and no zone of it is reset.
-pub fn format_device<D: Device + Honest, E: Eprint, W: Write>(
+pub fn format_device<D: Device, E: Eprint, W: Write>(
     errors: &E,
     alloc: Global,
     named: NamedDrive<'_>,
@@ -219,6 +226,9 @@ pub fn format_device<D: Device + Honest, E: Eprint, W: Write>(
     // Done, each zone is Empty.
     ensures ok { OnOk result (AreAllEmpty (D.drive device.new)) }
     ensures err { IfErr result (IsUnformatted force (D.drive device.old) (D.drive device.new)) }
+    // While the drive is clean, it is told what it holds, and a stop or a failure has its cause.
+    ensures cause { IsTrue (D.drive device.new).clean
+        → IfErr result (HasFormatCause (D.drive device.old) (D.drive device.new)) }
     ensures silent { IfErr result (λ fault. SaysNoOk fault (W.contents output.old) (W.contents output.new)) }
     ensures says { OnOk result (Appends (W.contents output.old) (W.contents output.new) ok_text) }
 {

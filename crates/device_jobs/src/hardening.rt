@@ -1,5 +1,6 @@
 // What makes durable what a drive has completed.
 
+ghost use Rattle.std.specs.Prelude.{IsTrue};
 ghost use Rattle.device_jobs.specs.Durable.{FlushesBy, Hardens};
 
 use drive_port::{Device, PortFault, flush};
@@ -20,7 +21,8 @@ pub enum HardenFault {
 
 /// Flushes a drive, if that is asked for.
 fn flush_if<D: Device>(alloc: Global, flushes: bool, device: &mut D) -> Result<(), PortFault>
-    ensures { FlushesBy flushes (D.drive device.old) result (D.drive device.new) }
+    ensures flushes { FlushesBy flushes (D.drive device.old) result (D.drive device.new) }
+    ensures trusted { IsTrue (D.drive device.new).clean → IsTrue (D.drive device.old).clean }
 {
     if !flushes {
         return Ok(());
@@ -35,8 +37,9 @@ pub(crate) fn harden_by<D: Device, M: Medium>(
     device: &mut D,
     medium: &mut M,
 ) -> Result<(), HardenFault>
-    ensures { Hardens flushes (record { before = M.syncs medium.old; after = M.syncs medium.new })
+    ensures hardens { Hardens flushes (record { before = M.syncs medium.old; after = M.syncs medium.new })
         (D.drive device.old) result (D.drive device.new) }
+    ensures trusted { IsTrue (D.drive device.new).clean → IsTrue (D.drive device.old).clean }
 {
     if let Err(fault) = flush_if(alloc, flushes, device) {
         return Err(HardenFault::Drive(fault));

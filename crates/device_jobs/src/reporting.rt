@@ -1,6 +1,6 @@
 // The zones of a drive, by a report of the drive itself.
 
-ghost use Rattle.std.specs.Prelude.{◌≡◌, IfErr, OnOk};
+ghost use Rattle.std.specs.Prelude.{◌≡◌, IfErr, IsTrue, OnOk};
 ghost use Rattle.drive_port.specs.Calls.{OnlyCloses};
 ghost use Rattle.device_jobs.specs.Reports.{IsUnreported, TellsReport, options_for, report_dwords};
 
@@ -42,6 +42,7 @@ pub fn answer_report<D: Device, W: Write>(
     ensures err { IfErr result (λ fault. IsUnreported (D.drive device.old) (options_for state) fault
         (D.drive device.new) (W.contents output.old) (W.contents output.new)) }
     ensures kept { OnlyCloses (D.drive device.old) (D.drive device.new) }
+    ensures trusted { IsTrue (D.drive device.new).clean → IsTrue (D.drive device.old).clean }
 {
     let dwords = report_dwords(&device.geometry());
     let mut bytes = Vec::new(alloc);

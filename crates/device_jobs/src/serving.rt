@@ -1,18 +1,19 @@
 // The drive behind a device, served to one client.
 
-ghost use Rattle.std.specs.Prelude.{◌≡◌, is_some};
+ghost use Rattle.std.specs.Prelude.{◌≡◌, IsTrue, is_some};
 ghost use Rattle.drive_port.specs.Stop.{drive_of};
+ghost use Rattle.nbd_session.specs.Manners.{while_clean};
 ghost use Rattle.nbd_session.specs.Streams.{streams};
 ghost use Rattle.job_drives.specs.Stop.{stopping};
-ghost use Rattle.nbd_jobs.specs.Serving.{ServesStopping, TellsSession, sent_end};
+ghost use Rattle.nbd_jobs.specs.Serving.{ServesStoppingAs, TellsAnyway, TellsSession, sent_end};
 ghost use Rattle.device_jobs.specs.Durable.{ServesAndHardens};
 
 use crate::hardening::{HardenFault, harden_by};
-use drive_port::{Device, Honest};
+use drive_port::Device;
 use job_drives::KeepFault;
 use nbd_jobs::{
     Ended, Kept, NbdFault, NbdJob, REPLIES, REQUESTS, SessionTold, are_sent, sent_end,
-    serve_stopping,
+    serve_any_stopping,
 };
 use nbd_session::{Client, Medium};
 use std::alloc::Global;
@@ -31,7 +32,7 @@ pub struct Served {
 
 /// Mounts the drive behind a device, and serves it to a client, read only if the job says so. Each sync is one of the
 /// medium.
-pub fn serve_device<D: Device + Honest + Drop, M: Medium + Drop, R: Client, W: Write>(
+pub fn serve_device<D: Device + Drop, M: Medium + Drop, R: Client, W: Write>(
     alloc: Global,
     job: &NbdJob,
     device: D,
@@ -39,7 +40,8 @@ pub fn serve_device<D: Device + Honest + Drop, M: Medium + Drop, R: Client, W: W
     reader: &mut R,
     writer: &mut W,
 ) -> Ended<D, M>
-    ensures serves { ServesStopping job.now.read_only job.now
+    // Each message is answered, and each sync is one of the medium: while the drive is clean by the disk of the drive.
+    ensures serves { ServesStoppingAs while_clean job.now.read_only job.now
         (streams (R.remaining reader.old) (R.remaining reader.new) (W.contents writer.old) (W.contents writer.new))
         (record {
           before = M.syncs medium;
@@ -47,7 +49,12 @@ pub fn serve_device<D: Device + Honest + Drop, M: Medium + Drop, R: Client, W: W
           flushes = M.flushes medium;
         })
         (stopping job.now.stop (D.drive device)) result.told.result result.told.forgotten (D.drive result.device) }
-    ensures tells { TellsSession job.now (drive_of (stopping job.now.stop (D.drive device))) result.told.result
+    // While it is clean, the disk is told that was served.
+    ensures tells { IsTrue (D.drive result.device).clean
+        → TellsSession job.now (drive_of (stopping job.now.stop (D.drive device))) result.told.result
+        (is_some result.told.statistics) result.told.disk }
+    // Whatever the Reads returned.
+    ensures told { TellsAnyway job.now (D.drive device).geometry result.told.result
         (is_some result.told.statistics) result.told.disk }
 {
     let kept = Kept {
@@ -55,7 +62,7 @@ pub fn serve_device<D: Device + Honest + Drop, M: Medium + Drop, R: Client, W: W
         medium,
         read_only: job.read_only,
     };
-    serve_stopping(alloc, job, kept, reader, writer)
+    serve_any_stopping(alloc, job, kept, reader, writer)
 }
 
 /// A session over the drive behind a device, and whether what the drive completed was made durable after it.
@@ -66,7 +73,7 @@ pub struct Hardened<D: Device + Drop, M: Medium + Drop> {
 }
 
 /// The same, and makes durable at the end what the drive has completed, also after a fault.
-pub fn serve_hardened<D: Device + Honest + Drop, M: Medium + Drop, R: Client, W: Write>(
+pub fn serve_hardened<D: Device + Drop, M: Medium + Drop, R: Client, W: Write>(
     alloc: Global,
     job: &NbdJob,
     device: D,
@@ -83,8 +90,11 @@ pub fn serve_hardened<D: Device + Honest + Drop, M: Medium + Drop, R: Client, W:
         })
         (D.drive device) result.ended.told.result result.ended.told.forgotten result.hardened
         (D.drive result.ended.device) }
-    ensures tells { TellsSession job.now (drive_of (stopping job.now.stop (D.drive device)))
+    ensures tells { IsTrue (D.drive result.ended.device).clean
+        → TellsSession job.now (drive_of (stopping job.now.stop (D.drive device)))
         result.ended.told.result (is_some result.ended.told.statistics) result.ended.told.disk }
+    ensures told { TellsAnyway job.now (D.drive device).geometry result.ended.told.result
+        (is_some result.ended.told.statistics) result.ended.told.disk }
 {
     let flushes = medium.flushes();
     let mut ended = serve_device(alloc, job, device, medium, reader, writer);
@@ -112,7 +122,7 @@ fn told_after<D: Device + Drop, M: Medium + Drop>(done: Hardened<D, M>, sent: bo
 }
 
 /// The same for a client that sends to `input` and gets what `output` takes, both through buffers.
-pub fn serve_client<D: Device + Honest + Drop, M: Medium + Drop, R: Read + Drop, W: Write>(
+pub fn serve_client<D: Device + Drop, M: Medium + Drop, R: Read + Drop, W: Write>(
     alloc: Global,
     job: &NbdJob,
     device: D,

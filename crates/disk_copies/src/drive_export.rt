@@ -24,8 +24,8 @@ pub fn blocks_asked(count: Option<u64>, first: u64, size: u64) -> u64
     }
 }
 
-/// Writes blocks of the drive in a file: it is restarted and mounted in memory, and the file is only read. How many bytes
-/// these blocks have is put into `total` before.
+/// Writes blocks of the drive in a file: it is restarted and mounted in memory, and the file is only read. How many
+/// bytes these blocks have is put into `total` before.
 pub fn export_drive<I: Read, W: Write>(
     alloc: Global,
     job: &ExportJob,

@@ -53,9 +53,9 @@ pub fn import_mounted<D: Device + Drop, R: Read>(
     (disk.into_device(), import_end(taken))
 }
 
-/// Reads blocks to their end, and writes them to the drive of a file. The changes of the drive go to the store. What is
-/// left of the drive is handed back, also after a fault, if the file holds one. `written` is how many blocks were written,
-/// also before a fault.
+/// Reads blocks to their end, and writes them to the drive of a file. The changes of the drive go to the store. What
+/// is left of the drive is handed back, also after a fault, if the file holds one. `written` is how many blocks were
+/// written, also before a fault.
 pub fn import_drive<I: Read + Drop, S: ChangeStore<Drive> + Drop, R: Read>(
     alloc: Global,
     job: &ImportJob,

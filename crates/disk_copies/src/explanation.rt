@@ -31,8 +31,8 @@ pub fn explain(alloc: Global, job: &CopyJob, fault: CopyFault) -> Result<String,
     }
 }
 
-/// One line for people that says how many blocks an import wrote, without a line feed. None if no disk was mounted, or if
-/// it is not known how many a file has.
+/// One line for people that says how many blocks an import wrote, without a line feed. None if no disk was mounted,
+/// or if it is not known how many a file has.
 pub fn written_text(
     alloc: Global,
     path: &str,

@@ -25,8 +25,8 @@ fn piece_buffer(alloc: Global, block: u32) -> Result<Vec<u8>, AllocError>
     Ok(piece)
 }
 
-/// Reads a piece, and writes its blocks from the block `first` on. It tells how many: none only at the end. `written` is
-/// how many were written, also before a fault.
+/// Reads a piece, and writes its blocks from the block `first` on. It tells how many: none only at the end. `written`
+/// is how many were written, also before a fault.
 fn import_piece<D: Device + Drop, R: Read>(
     disk: &mut AnyDisk<D>,
     reader: &mut R,
@@ -69,8 +69,8 @@ fn import_piece<D: Device + Drop, R: Read>(
 /// sparse, blocks of zeros are trimmed.
 ///
 /// After a fault the blocks before are written. If the reader failed, those are missing that were read with the last
-/// bytes, less than 1 MiB of them; if the disk refused, a front of the last ones is written. `written` is how many blocks
-/// were written, without such a front.
+/// bytes, less than 1 MiB of them; if the disk refused, a front of the last ones is written. `written` is how many
+/// blocks were written, without such a front.
 pub fn import_blocks<D: Device + Drop, R: Read>(
     alloc: Global,
     disk: &mut AnyDisk<D>,

@@ -20,8 +20,8 @@
 //! * [`export_blocks`] writes exactly the bytes that one read of these blocks shows. If the writer fails, a beginning
 //!   of them is written; if the disk refuses, the bytes of the first blocks. The array stays as it is (`Exports`). If
 //!   the drive fails at a block, all blocks before it are written, no other byte, and the fault names it
-//!   (`LeavesUnread`). That comes only if the drive has failed at a command. For blocks past the end of the disk nothing
-//!   is written, and the fault has the size of the disk (`RefusesPast`).
+//!   (`LeavesUnread`). That comes only if the drive has failed at a command. For blocks past the end of the disk
+//!   nothing is written, and the fault has the size of the disk (`RefusesPast`).
 //! * [`import_blocks`] does what one write of the blocks that it took does: the array has them all or, if the disk
 //!   refused, a front of them (`TakesBlocks`). They are whole, and below the size of the disk. `Ok(n)` says that the
 //!   reader was at its end, and gave n whole blocks and no other byte (`EndsImport`). `written` is how many blocks it

@@ -168,15 +168,19 @@ impl<'r, S: Drop, E: Eprint + Clock + Files<File = File>> Watched<'r, S, E> {
 }
 
 impl<S: Drop, E: Eprint + Clock> Watched<'_, S, E> {
+    /// How many bytes there are in all, if that was told.
+    fn told(&self) -> Option<u64> {
+        self.total?.get()
+    }
+
     /// Counts bytes, and shows how much there was if a second has gone since that was shown.
     fn note(&mut self, bytes: &[u8]) {
+        let told = self.told();
         let Some(progress) = &mut self.progress else {
             return;
         };
         progress.count(bytes);
-        if let Some(total) = self.total {
-            progress.total = total.get();
-        }
+        progress.total = progress.total.or(told);
         let Ok(now) = self.errors.monotonic() else {
             return;
         };

@@ -15,12 +15,12 @@ use crate::fault::NbdFault;
 use crate::forgetting::{Forgotten, serve_store};
 use crate::job::NbdJob;
 use crate::mounted::mount_flushed;
-use crate::told::{shown_statistics, told_size};
+use crate::told::shown_statistics;
 use drive_counter::Counter;
 use drive_journal::ChangeStore;
 use drive_port::{Device, Honest};
 use job_drives::{
-    DriveFile, KeepFault, Left, Saved, keep_restarted, leave, restarted_drive, stopping,
+    DiskSize, DriveFile, KeepFault, Left, Saved, keep_restarted, leave, restarted_drive, stopping,
 };
 use nbd_session::{Client, Medium, ServeOptions, ServedDisk, SessionFault, WriteThrough};
 use std::alloc::Global;
@@ -104,7 +104,7 @@ fn serve_counted<D: Device + Drop, M: Medium + Drop, R: Client, W: Write>(
             };
         }
     };
-    let size = told_size(&disk);
+    let size = DiskSize::of(&disk);
     let options = ServeOptions {
         read_only: kept.read_only,
         cleans: job.idle,

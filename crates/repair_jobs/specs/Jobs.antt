@@ -1,20 +1,18 @@
 -- What a job on a drive finds and does of which zones end in something foreign.
-use Rattle.std.specs.Prelude.{◌≡◌, ◌==◌, ℕ, Bool, false, if◌then◌else◌, List, [], length, Option, None, Result, Ok, Err, IfErr, IfOk, is_none}
+use Rattle.std.specs.Prelude.{◌≡◌, ◌==◌, ℕ, Bool, false, if◌then◌else◌, List, [], length, Option, None, Result, Ok, Err, IfErr, IfOk, IsTrue, is_none}
 use Rattle.std.specs.List.{All}
 use Rattle.disk_files.specs.Output.{AppendsFront}
-use Rattle.drive_inspection.specs.Findings.{AreFindings}
+use Rattle.drive_inspection.specs.Findings.{AreByReport, AreFindings}
 use Rattle.drive_port.specs.Contents.{SameContents}
 use Rattle.drive_port.specs.Drive.{DriveState}
 use Rattle.drive_port.specs.Run.{restarted}
-use Rattle.drive_port.specs.declared.device.Halt.{Halt}
-use Rattle.drive_port.specs.declared.device.Halt.TheVariants.{Memory, Failed, Stopped}
+use Rattle.drive_port.specs.declared.device.Halt.TheVariants.{Memory}
 use Rattle.drive_survey.specs.Reported.{KeepsZones}
-use Rattle.drive_survey.specs.declared.fault.MountFault.{MountFault}
-use Rattle.drive_survey.specs.declared.fault.MountFault.TheVariants as mounts
 use Rattle.job_drives.specs.Kept.{IsReadIn}
 use Rattle.job_drives.specs.Left.{IsLeft, IsUnread, LeavesFile}
 use Rattle.job_drives.specs.declared.left.Left.{Left}
-use Rattle.tail_repair.specs.Repair.{AreRepaired, AreTails, AreWhereTold, FindFails, HaveLogs, IsTold, KeepsBatches, KeepsDrive, RepairFails, may_change}
+use Rattle.tail_repair.specs.Repair.{AreRepaired, AreTails, AreWhereTold, FindFails, HaveLogs, IsElsewhere, KeepsBatches, KeepsDrive, LookFails, RepairFails, may_change}
+use Rattle.tail_repair.specs.declared.fault.RepairFault.{RepairFault}
 use Rattle.tail_repair.specs.declared.fault.RepairFault.TheVariants as repair
 use Rattle.tail_repair.specs.declared.tails.ForeignTail.{ForeignTail}
 use Rattle.drive_inspection.specs.declared.finding.Findings.{Findings}
@@ -28,12 +26,6 @@ use Rattle.repair_jobs.specs.declared.fault.RepairJobFault.TheVariants.{File, Re
 use Rattle.repair_jobs.specs.declared.mending.Mended.{Mended}
 
 -- ---- faults
-
--- what ends a search for faults
-abbrev pub halt_of : MountFault → Halt
-halt_of mounts.OutOfMemory = Memory
-halt_of mounts.Failed = Failed
-halt_of fault = Stopped
 
 -- why a text is not written
 abbrev pub untold : ToolFault → RepairJobFault
@@ -54,9 +46,13 @@ ListFails old new (File fault) = ⊥
 ListFails old new (Repair fault) = FindFails old new fault
 ListFails old new Output = Unit {0}
 
+-- this is whether no zone is told
+abbrev pub SaysWhether : Bool → List ForeignTail → Type 0
+SaysWhether none tails = none ≡ (length tails == 0)
+
 -- just these zones end in something foreign, and this is whether there is none
 abbrev pub AreTailsOf : DriveState → Bool → List ForeignTail → Type 0
-AreTailsOf drive none tails = AreTails drive tails × (none ≡ (length tails == 0))
+AreTailsOf drive none tails = AreTails drive tails × SaysWhether none tails
 
 -- they are those of the drive that the bytes of a file hold, restarted
 pub record TailsInFile (file : Bytes) (none : Bool) (tails : List ForeignTail) : Type 0 where
@@ -71,34 +67,43 @@ ListsNone file fault old new = IsUntold fault old new
 
 -- ---- what is done
 
--- A drive was repaired: each zone holds a log, and no batch is lost with which a zone began. Just the zones are named
--- that ended in something foreign, how many blocks their batches take, and where these are then. These are all faults
--- that the drive has then; or the search for them has a cause to end.
+-- A drive was repaired. While it is clean, each zone holds a log, and no batch is lost with which a zone began. Just the
+-- zones are named that ended in something foreign, how many blocks their batches take, and where these are then. Those
+-- are all faults that the drive has at the end; or the search for them has a cause to end. In any case nothing is changed
+-- where no zone is named, what was moved is in another zone, and what reports tell is found.
 pub record Mends (old : DriveState) (mended : Mended) (new : DriveState) : Type 0 where
   pub drive : DriveState
   pub keeps : KeepsDrive old drive
-  pub logs : HaveLogs drive
-  pub moved : AreRepaired old mended.moved.items
+  pub logs : IsTrue drive.clean → HaveLogs drive
+  pub moved : IsTrue drive.clean → AreRepaired old mended.moved.items
   pub idle : mended.moved.items ≡ [] → SameContents old drive
-  pub there : All (AreWhereTold old drive) mended.moved.items
-  pub faults : IfOk mended.found (AreFindings drive new 1)
-  pub halted : IfErr mended.found (λ halt. IsTold new (repair.Halted halt))
+  pub elsewhere : All IsElsewhere mended.moved.items
+  pub there : IsTrue drive.clean → All (AreWhereTold old drive) mended.moved.items
+  pub faults : IsTrue new.clean → IfOk mended.found (AreFindings drive new 1)
+  pub failed : IsTrue new.clean → IfErr mended.found (LookFails new)
+  pub reported : IfOk mended.found (AreByReport drive)
   pub looks : KeepsZones drive new
 
 -- All faults that a drive has after a repair are told, and whether it can be mounted.
-abbrev pub TellsMended : Result Findings Halt → Bool → Bytes → Bytes → Type 0
+abbrev pub TellsMended : Result Findings RepairFault → Bool → Bytes → Bytes → Type 0
 TellsMended (Ok findings) mountable old new = (mountable ≡ is_none findings.refusal) × TellsText (any_text findings) old new
-TellsMended (Err halt) mountable old new = ⊥
+TellsMended (Err fault) mountable old new = ⊥
 
--- What a repair does to a drive, whatever ends it. A fault has its cause, and a refused one changes no zone.
+-- What a repair does to a drive, whatever ends it. While the drive is clean, a fault has its cause. A refused one changes
+-- no zone.
 abbrev pub MendsDrive : DriveState → Result Mended RepairJobFault → DriveState → Type 0
 MendsDrive old (Ok mended) new = Mends old mended new
-MendsDrive old (Err (Repair fault)) new = KeepsDrive old new × RepairFails old new fault × (may_change fault ≡ false → SameContents old new)
+MendsDrive old (Err (Repair fault)) new = KeepsDrive old new × (IsTrue new.clean → RepairFails old new fault) × (may_change fault ≡ false → SameContents old new)
 MendsDrive old (Err fault) new = ⊥
+
+-- A drive that is always clean is repaired so without a condition.
+pub record MendsClean (old : DriveState) (mended : Result Mended RepairJobFault) (new : DriveState) : Type 0 where
+  pub mends : MendsDrive old mended new
+  pub clean : IsTrue new.clean
 
 -- what a repair leaves of the drive that the bytes of a file hold, whatever ended it
 abbrev pub MendsFile : Bytes → Result Mended RepairJobFault → Left → Bytes → Bool → Type 0
-MendsFile file mended left held failed = LeavesFile (λ (old new : DriveState). MendsDrive old mended new) file Lazy left held failed
+MendsFile file mended left held failed = LeavesFile (λ (old new : DriveState). MendsClean old mended new) file Lazy left held failed
 
 -- The batches with which a zone began of the drive in a file, some zone begins with of the drive that is left.
 pub record KeepsFile (file : Bytes) (left : Left) (held : Bytes) (failed : Bool) : Type 0 where

@@ -1,9 +1,8 @@
 ghost use Rattle.std.specs.Prelude.{◌≡◌, not};
 ghost use Rattle.tail_repair.specs.Repair.{may_change};
-ghost use Rattle.repair_jobs.specs.Jobs.{halt_of, untold};
+ghost use Rattle.repair_jobs.specs.Jobs.{untold};
 
 use drive_port::Halt;
-use drive_survey::MountFault;
 use job_drives::KeepFault;
 use tail_repair::RepairFault;
 use thiserror::Error;
@@ -31,17 +30,6 @@ pub fn is_refusal(fault: RepairFault) -> bool
     match fault {
         RepairFault::Halted(_) | RepairFault::Unfinished => false,
         _ => true,
-    }
-}
-
-/// What ends a search for faults: the drive has stopped or failed at a command, or an allocation failed.
-pub(crate) fn halt_of(fault: MountFault) -> Halt
-    ensures { result ≡ halt_of fault }
-{
-    match fault {
-        MountFault::OutOfMemory => Halt::Memory,
-        MountFault::Failed => Halt::Failed,
-        _ => Halt::Stopped,
     }
 }
 

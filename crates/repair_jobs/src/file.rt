@@ -10,6 +10,7 @@ use crate::fault::{RepairJobFault, is_refusal};
 use crate::job::RepairJob;
 use crate::mending::{Mended, list_tails, mend};
 use drive_journal::ChangeStore;
+use drive_port::Honest;
 use job_drives::{
     ChangesFile, DriveFile, FileFault, Finished, KeepFault, Left, Saved, Saving, finish,
     first_told, image_to_read, image_to_save, keep_restarted, leave, restarted_drive,
@@ -47,7 +48,11 @@ pub fn list_file<I: Read, W: Write>(
         (W.contents output.old) (W.contents output.new)) }
 {
     match restarted_drive(alloc, bytes, Habit::Lazy) {
-        Ok(mut begun) => list_tails(alloc, &mut begun.drive, output),
+        Ok(mut begun) => {
+            let told = list_tails(alloc, &mut begun.drive, output);
+            begun.drive.vouch();
+            told
+        }
         Err(fault) => Err(RepairJobFault::File(KeepFault::Image(fault))),
     }
 }
@@ -79,6 +84,7 @@ pub fn mend_file<I: Read + Drop, S: ChangeStore<Drive> + Drop>(
         }
     };
     let mended = mend(alloc, &mut stored.device);
+    stored.device.vouch();
     let (left, store) = leave(stored.device, stored.was_image);
     (Some(left), store, mended)
 }

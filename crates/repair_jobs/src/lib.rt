@@ -12,7 +12,8 @@
 //!
 //! # What is promised
 //!
-//! Over every device, reader, writer and store (`specs/Jobs.antt`):
+//! Over every device, reader, writer and store (`specs/Jobs.antt`). What speaks of the bytes of blocks is promised
+//! while the drive is clean: as long as each Read returned what the drive holds. A drive in a file always is.
 //!
 //! * [`list_tails`] finds just the zones that end in something foreign, and says whether there is none. No zone is
 //!   changed, but that the controller may close some. [`list_file`] does so on the drive in a file, restarted.
@@ -21,6 +22,8 @@
 //!   batches of each take, and where these are then. A refusal changes no zone, nor does a repair that names none. A
 //!   fault has its cause (`RepairFails`), and one of [`list_tails`], too (`ListFails`). So has what ends the search for
 //!   faults.
+//! * Whatever the Reads returned, both end. The shape stays, a refusal changes no zone, nor does a repair that names
+//!   none, and what reports tell of faults is found. What does not fit together ends a job by `Unfinished` (8).
 //! * [`mend_file`] does so on the drive in a file: the store holds the drive that is left, and of it the same is true.
 //! * After a refusal nothing is saved ([`left_to_save`]): the file stays as it is.
 //! * [`repair_fault_line`] is the line of a fault: its number, its name, and the zone and the block that it names.

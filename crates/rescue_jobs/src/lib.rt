@@ -2,7 +2,7 @@
 //!
 //! ```text
 //! let mut source = DeviceSource::new(drive);                      // of drive_rescue: a drive that is only read
-//! let rescued = rescue_out(alloc, 0, &total, &mut source, &mut output)?; // its disk as flat bytes, as an export gives it
+//! let rescued = rescue_out(alloc, 0, &total, &mut source, &mut output)?; // its disk as flat bytes, as by an export
 //! let (new, rescued) = rescue_into(alloc, 0, &mut source, fresh)?; // or on a new drive
 //! let rescued = do_rescue(&rt, alloc, &job, &total, &mut output)?; // of the drive in an image file
 //! let text = lists_text(alloc, &rescued)?;                        // what is lost, and what may be older

@@ -15,7 +15,7 @@ use Rattle.job_drives.specs.Kept.{IsReadIn}
 use Rattle.tool_jobs.specs.Checks.{IsInterrupted}
 use Rattle.tool_jobs.specs.Pictures.{CountsLive, CountsNone, DrawsNone, FindsLive, LooksNone, live_counts, written_counts}
 use Rattle.tool_jobs.specs.declared.fault.ToolFault.{ToolFault}
-use Rattle.tool_jobs.specs.declared.fault.ToolFault.TheVariants.{Plan, Bytes, Entry, Stopped, Failed, Output, File, Memory}
+use Rattle.tool_jobs.specs.declared.fault.ToolFault.TheVariants.{Plan, Bytes, Entry, Stopped, Failed, Damaged, Output, File, Memory}
 
 length-counts : (zones : List ZoneInfo) → length (written_counts zones) ≡ length zones
 length-counts [] = refl
@@ -65,5 +65,6 @@ not-drawn file saved last Memory is_read keeps none = tt
 not-drawn file saved last (Plan f) is_read keeps none = absurd none
 not-drawn file saved last Bytes is_read keeps none = absurd none
 not-drawn file saved last (Entry f) is_read keeps none = absurd none
+not-drawn file saved last Damaged is_read keeps none = absurd none
 not-drawn file saved last Output is_read keeps none = absurd none
 not-drawn file saved last (File f) is_read keeps none = absurd none

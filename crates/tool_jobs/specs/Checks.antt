@@ -10,13 +10,23 @@ use Rattle.drive_inspection.specs.declared.finding.Findings.{Findings}
 use Rattle.job_drives.specs.Kept.{IsReadIn}
 use Rattle.tool_jobs.specs.Telling.{Bytes, HoldsNone}
 use Rattle.tool_jobs.specs.declared.fault.ToolFault.{ToolFault}
-use Rattle.tool_jobs.specs.declared.fault.ToolFault.TheVariants.{Stopped, Failed, Memory}
+use Rattle.tool_jobs.specs.declared.fault.ToolFault.TheVariants.{Damaged, Stopped, Failed, Memory}
 
 -- what an interruption is to a tool
 abbrev pub IsInterrupted : MountFault → ToolFault → Type 0
 IsInterrupted mounts.OutOfMemory fault = fault ≡ Memory
 IsInterrupted mounts.Failed fault = fault ≡ Failed
+IsInterrupted mounts.Damaged fault = fault ≡ Damaged
 IsInterrupted cause fault = fault ≡ Stopped
+
+-- A fault of a look that tells nothing of what the drive holds: memory ran out, the drive has stopped, it failed at a
+-- command, or what it returned does not fit together.
+abbrev pub EndsLook : ToolFault → Type 0
+EndsLook Memory = ⊤
+EndsLook Stopped = ⊤
+EndsLook Failed = ⊤
+EndsLook Damaged = ⊤
+EndsLook fault = ⊥
 
 -- These are all the faults of the drive that the file holds, once it is restarted. They refuse nothing exactly where a
 -- mount of that many logical blocks would be done.

@@ -2,7 +2,7 @@
 
 ghost use Rattle.std.specs.Prelude.{◌≡◌, IfErr, IfOk};
 ghost use Rattle.drive_survey.specs.Scan.{IsInterruption};
-ghost use Rattle.tool_jobs.specs.Checks.{AsksNone, FindsFaults, FindsMountable, IsInterrupted};
+ghost use Rattle.tool_jobs.specs.Checks.{AsksNone, EndsLook, FindsFaults, FindsMountable, IsInterrupted};
 ghost use Rattle.tool_jobs.specs.Telling.{TellsFound, TellsNothing};
 
 use crate::fault::ToolFault;
@@ -41,11 +41,13 @@ impl Form<Findings> for CheckForm {
 
 /// What an interruption of a check is to a tool.
 pub fn interrupted(fault: MountFault) -> ToolFault
-    ensures { IsInterrupted fault result }
+    ensures told { IsInterrupted fault result }
+    ensures ends { EndsLook result }
 {
     match fault {
         MountFault::OutOfMemory => ToolFault::Memory,
         MountFault::Failed => ToolFault::Failed,
+        MountFault::Damaged => ToolFault::Damaged,
         _ => ToolFault::Stopped,
     }
 }

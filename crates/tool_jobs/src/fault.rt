@@ -31,6 +31,9 @@ pub enum ToolFault {
     /// The drive failed at a command. No zone was changed, and the call can be made again.
     #[error("the drive failed at a command")]
     Failed,
+    /// What the drive returned does not fit together. No zone was changed.
+    #[error("what the drive returned does not fit together")]
+    Damaged,
     /// The output failed.
     #[error("standard output failed")]
     Output,

@@ -32,6 +32,10 @@
 //! * A picture shows the zones as they were saved, and is given how many blocks with data are live in each. Of a drive
 //!   that cannot be mounted it is given none of these numbers (`specs/Pictures.antt`).
 //!
+//! [`find_live`] counts live blocks over any device: while the drive is clean, as long as each Read returned what the
+//! drive holds. Whatever the Reads returned, zones hold what they held. A look that ends early says why: a stop, a
+//! failed command, memory, or `Damaged`, which never comes while the drive is clean (`EndsLook`, `LooksNone`).
+//!
 //! # What is not proved
 //!
 //! * [`do_tool_job`], [`drive_in_image`] and [`make_image`], which open files: no contract says what a file holds.

@@ -1,7 +1,8 @@
 // The zones of the drive in a file as a picture, with the blocks that are live.
 
-ghost use Rattle.std.specs.Prelude.{◌≡◌, IfErr, IfOk, OnOk};
+ghost use Rattle.std.specs.Prelude.{◌≡◌, IfErr, IfOk, IsTrue, OnOk};
 ghost use Rattle.drive_survey.specs.Reported.{KeepsZones};
+ghost use Rattle.tool_jobs.specs.Checks.{EndsLook};
 ghost use Rattle.tool_jobs.specs.Pictures.{DrawsNone, FindsLive, FindsPicture, LooksNone, live_counts, written_counts};
 ghost use Rattle.tool_jobs.specs.Telling.{TellsFound, TellsNothing};
 
@@ -70,15 +71,17 @@ fn live_counts(alloc: Global, found: &Result<Info, MountFault>) -> Result<Vec<u3
 }
 
 /// How many live blocks with data each zone of a drive has; none if a mount is refused.
-pub fn find_live<D: Device + Honest>(alloc: Global, device: &mut D) -> Result<Vec<u32>, ToolFault>
-    ensures ok { IfOk result (λ live. FindsLive (D.drive device.old) (D.drive device.new) live.items) }
-    ensures err { IfErr result (LooksNone (D.drive device.new)) }
+pub fn find_live<D: Device>(alloc: Global, device: &mut D) -> Result<Vec<u32>, ToolFault>
+    // While the drive is clean, these are its live blocks. A fault has its cause.
+    ensures ok { IsTrue (D.drive device.new).clean
+        → IfOk result (λ live. FindsLive (D.drive device.old) (D.drive device.new) live.items) }
+    ensures err { IsTrue (D.drive device.new).clean → IfErr result (LooksNone (D.drive device.new)) }
+    // Whatever the Reads returned, a fault tells nothing of what the drive holds, and zones hold what they held.
+    ensures kinds { IfErr result EndsLook }
     ensures kept { KeepsZones (D.drive device.old) (D.drive device.new) }
 {
     let given = blocks_taken(&device.geometry());
-    let looked = inspect_drive(alloc, device, given);
-    device.vouch();
-    match looked {
+    match inspect_drive(alloc, device, given) {
         Ok(info) => Ok(live_counts(alloc, &info.found)?),
         Err(fault) => Err(interrupted(fault)),
     }
@@ -90,8 +93,12 @@ fn find_picture<I: Read>(alloc: Global, bytes: &mut I) -> Result<PicturedDrive, 
     ensures err { IfErr result (DrawsNone (I.remaining bytes.old)) }
 {
     let mut drive = saved_drive(alloc, bytes)?;
-    let live = find_live(alloc, &mut drive)?;
-    Ok(PicturedDrive { drive, live })
+    let looked = find_live(alloc, &mut drive);
+    drive.vouch();
+    match looked {
+        Ok(live) => Ok(PicturedDrive { drive, live }),
+        Err(fault) => Err(fault),
+    }
 }
 
 /// Draws the zones of the drive in a file, as they were saved, with their live blocks if it can be mounted.

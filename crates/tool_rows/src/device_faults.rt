@@ -22,7 +22,7 @@ fn show_no_way<R: Clock + Eprint + Files<File = File> + Input + Print>(
         force: true,
     };
     let mut written = Vec::new(alloc);
-    let ended = do_device(rt, alloc, &NoDevices, &job, &mut written);
+    let ended = do_device(rt, alloc, &NoDevices, &NoDevices, &job, &mut written);
     print!(rt; "{}", std::str::from_utf8(&written)?)?;
     println!(rt; "{}", ended == ExitCode::FAILURE)?;
     Ok(())

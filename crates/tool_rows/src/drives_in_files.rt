@@ -3,6 +3,7 @@
 use crate::device_words::words_of;
 use crate::memory_devices::MemoryDevices;
 use device_jobs::{Devices, NoDevices};
+use drive_port::Honest;
 use std::alloc::Global;
 use std::fs;
 use std::fs::File;
@@ -45,7 +46,10 @@ fn show_task<R: Clock + Eprint + Files<File = File> + Input + Print, F: Devices>
     alloc: Global,
     line: &str,
     files: &F,
-) -> Result<(), Fail> {
+) -> Result<(), Fail>
+where
+    F::Drive: Honest,
+{
     let task = match task_of(alloc, &words_of(alloc, line)?) {
         Ok(task) => task,
         Err(_) => return Ok(println!(rt; "the words are refused")?),

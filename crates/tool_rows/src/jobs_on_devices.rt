@@ -25,7 +25,7 @@ fn show_job<R: Clock + Eprint + Files<File = File> + Input + Print>(
         return Ok(());
     }
     let mut written = Vec::new(alloc);
-    let ended = do_device(rt, alloc, &MemoryDevices, job, &mut written);
+    let ended = do_device(rt, alloc, &MemoryDevices, &MemoryDevices, job, &mut written);
     print!(rt; "{}", std::str::from_utf8(&written)?)?;
     println!(rt;
         "{}",

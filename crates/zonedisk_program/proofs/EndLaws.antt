@@ -1,19 +1,20 @@
 -- What is written before the program ends, and how it ends.
 use Rattle.std.proofs.Common.{◌≡◌, ◌∙◌, ◌⊎◌, ℕ, Bool, true, false, List, inl, inr, refl, sym}
 use Rattle.std.proofs.KnownBytes.{Appends-kept}
-use Rattle.std.specs.Prelude.{IfOk, OnErr, OnOk, Option, Some, None, Result, Ok, Err}
+use Rattle.std.specs.Prelude.{IfOk, OnErr, OnOk, Option, Some, None, Result, Ok, Err, is_some}
 use Rattle.std.specs.Io.KnownBytes.{Appends, Keeps}
 use Rattle.std.specs.Process.{exit_status}
 use Rattle.std.specs.declared.process.ExitCode.{ExitCode}
 use Rattle.asked_tasks.specs.declared.task.Task.{Task}
 use Rattle.asked_tasks.specs.declared.task.Task.TheVariants as tasks
 use Rattle.device_jobs.specs.declared.job.DeviceJob.{DeviceJob}
+use Rattle.device_jobs.specs.declared.job.DeviceJob.TheVariants as jobs
 use Rattle.disk_files.specs.Output.{AppendsFront}
 use Rattle.drive_inspection.specs.declared.finding.Findings.{Findings}
-use Rattle.drive_port.specs.declared.device.Halt.{Halt}
+use Rattle.tail_repair.specs.declared.fault.RepairFault.{RepairFault}
 use Rattle.repair_jobs.specs.Jobs.{TellsMended}
 use Rattle.repair_jobs.specs.declared.fault.RepairJobFault.{RepairJobFault}
-use Rattle.zonedisk_program.specs.Ends.{EndsAsked, EndsFound, EndsInPlace, EndsJob, EndsTask, EndsTold, Ways, is_device}
+use Rattle.zonedisk_program.specs.Ends.{EndsAsked, EndsFound, EndsInPlace, EndsJob, EndsTask, EndsTold, Ways, is_device, reaches, way_of_rescue}
 use Rattle.zonedisk_program.specs.InPlace.{counterpart}
 
 -- a text is written, or a beginning of it; a flush changes no bytes
@@ -24,12 +25,12 @@ told (Ok value) old middle new text ok err keeps = inl (Appends-kept old middle 
 told (Err fault) old middle new text ok err keeps = inr (record { count = err.count; short = err.short; appends = Appends-kept old middle new _ err.appends keeps })
 
 -- what a check finds after a repair is told and sent, and ends as that says
-pub ends-found : (found : Result Findings Halt) (told sent : Result Bool RepairJobFault) (old new : Option (List ℕ)) (ended : ExitCode)
+pub ends-found : (found : Result Findings RepairFault) (told sent : Result Bool RepairJobFault) (old new : Option (List ℕ)) (ended : ExitCode)
     → IfOk told (λ mountable. TellsMended found mountable old new) → IfOk sent (λ well. told ≡ Ok well) → EndsTold sent ended → EndsFound found ended
 ends-found (Ok findings) told (Err fault) old new ended tells sends ends = λ refused. ends
-ends-found (Err halt) told (Err fault) old new ended tells sends ends = ends
+ends-found (Err cause) told (Err fault) old new ended tells sends ends = ends
 ends-found found (Err fault) (Ok well) old new ended tells sends ends = absurd (cc)
-ends-found (Err halt) (Ok mountable) (Ok well) old new ended tells sends ends = absurd tells
+ends-found (Err cause) (Ok mountable) (Ok well) old new ended tells sends ends = absurd tells
 ends-found (Ok findings) (Ok mountable) (Ok well) old new ended tells sends ends = λ refused.
     let same : mountable ≡ well = cc in
     let is : well ≡ false = sym same ∙ tells.0 ∙ refused in
@@ -47,6 +48,27 @@ ends-task true ways (tasks.Tool job) ended apart ends = tt
 ends-task true ways (tasks.Convert job) ended apart ends = ends
 ends-task true ways (tasks.Rescue job) ended apart ends = tt
 ends-task true ways (tasks.Repair job) ended apart ends = tt
+
+rescue-none : (new : Bool) → way_of_rescue new (record { devices = false; files = false }) ≡ false
+rescue-none true = refl
+rescue-none false = refl
+
+-- where one way serves for devices and for new drives, and there is none, no job is reached
+pub none-reached : (has : Bool) (job : DeviceJob) → has ≡ false → reaches (record { devices = has; files = has }) job ≡ false
+none-reached true job none = absurd (cc)
+none-reached false (jobs.Format device force) none = refl
+none-reached false (jobs.Create image geometry) none = refl
+none-reached false (jobs.Run job) none = refl
+none-reached false (jobs.Report device state) none = refl
+none-reached false (jobs.Zones job) none = refl
+none-reached false (jobs.Nvme device explain habit sync) none = refl
+none-reached false (jobs.Nbd job) none = refl
+none-reached false (jobs.Check job) none = refl
+none-reached false (jobs.Info job) none = refl
+none-reached false (jobs.Plan device aim form) none = refl
+none-reached false (jobs.Copy job) none = refl
+none-reached false (jobs.Rescue job) none = rescue-none (is_some job.to)
+none-reached false (jobs.Repair job) none = refl
 
 -- a job that there is ends as it needs a way to such files
 ends-job : (ways : Ways) (made : Option DeviceJob) (job : DeviceJob) (ended : ExitCode) → made ≡ Some job → (ways.files ≡ false → exit_status ended ≡ 1) → EndsJob ways made ended

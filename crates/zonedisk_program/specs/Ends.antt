@@ -13,7 +13,7 @@ use Rattle.device_jobs.specs.declared.job.DeviceJob.{DeviceJob}
 use Rattle.device_jobs.specs.declared.job.DeviceJob.TheVariants.{Create, Rescue}
 use Rattle.drive_rescue.specs.declared.giving.Rescued.{Rescued}
 use Rattle.drive_inspection.specs.declared.finding.Findings.{Findings}
-use Rattle.drive_port.specs.declared.device.Halt.{Halt}
+use Rattle.tail_repair.specs.declared.fault.RepairFault.{RepairFault}
 use Rattle.repair_jobs.specs.declared.fault.RepairJobFault.{RepairJobFault}
 use Rattle.repair_jobs.specs.declared.mending.Mended.{Mended}
 use Rattle.rescue_jobs.specs.Jobs.{is_whole}
@@ -108,9 +108,9 @@ EndsTold (Ok true) ended = exit_status ended ≡ 0
 EndsTold sent ended = exit_status ended ≡ 1
 
 -- a repair ends with the status 1 if a check finds then that the drive cannot be mounted
-abbrev pub EndsFound : Result Findings Halt → ExitCode → Type 0
+abbrev pub EndsFound : Result Findings RepairFault → ExitCode → Type 0
 EndsFound (Ok findings) ended = is_none findings.refusal ≡ false → exit_status ended ≡ 1
-EndsFound (Err halt) ended = exit_status ended ≡ 1
+EndsFound (Err fault) ended = exit_status ended ≡ 1
 
 -- A repair ends with the status 1 if it ended by a fault, if what it did may be lost, or if the drive cannot be mounted then.
 abbrev pub EndsMended : Result Mended RepairJobFault → Result (Unit {0}) Unkept → ExitCode → Type 0

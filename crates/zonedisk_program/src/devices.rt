@@ -4,7 +4,7 @@ ghost use Rattle.std.specs.Prelude.{◌≡◌, ◌⊎◌, codes, false};
 ghost use Rattle.std.specs.Io.KnownBytes.{Appends};
 ghost use Rattle.std.specs.Process.{exit_status};
 ghost use Rattle.disk_files.specs.Output.{AppendsFront};
-ghost use Rattle.zonedisk_program.specs.Ends.{EndsLines, EndsServed};
+ghost use Rattle.zonedisk_program.specs.Ends.{EndsLines, EndsServed, reaches};
 
 use crate::files::{counted, fail, tell_imported, tell_session, tell_size, tell_terminal};
 use crate::repairing::repair_device;
@@ -204,11 +204,13 @@ fn run_end(ran: Result<(), RunFault>, geometry: &Geometry) -> Result<(), Program
 }
 
 /// Answers a trace over a drive. Its lines are on standard input. The drive is given back, with whether all was done.
-fn answer_lines<
-    R: Clock + Eprint + Files<File = fs::File> + Input,
-    D: Device + Honest + Drop,
-    W: Write,
->(rt: &R, alloc: Global, drive: D, job: &DeviceRun, output: &mut W) -> (D, bool) {
+fn answer_lines<R: Clock + Eprint + Files<File = fs::File> + Input, D: Device + Drop, W: Write>(
+    rt: &R,
+    alloc: Global,
+    drive: D,
+    job: &DeviceRun,
+    output: &mut W,
+) -> (D, bool) {
     let gate = Gate::open();
     let count = LineCount::new();
     let counted = job.progress.then_some(Counted::Lines);
@@ -377,7 +379,7 @@ fn do_nvme<R: Eprint + Input, D: Devices, W: Write>(
 }
 
 /// Serves a drive on the standard streams.
-fn serve<R: Input + Print, D: Device + Honest + Drop, M: Medium + Drop>(
+fn serve<R: Input + Print, D: Device + Drop, M: Medium + Drop>(
     rt: &R,
     alloc: Global,
     job: &NbdJob,
@@ -522,7 +524,7 @@ fn do_plan<R: Eprint, D: Devices, W: Write>(
 }
 
 /// Writes blocks of a drive to standard output.
-fn export<R: Clock + Eprint + Files<File = fs::File> + Print, D: Device + Honest + Drop>(
+fn export<R: Clock + Eprint + Files<File = fs::File> + Print, D: Device + Drop>(
     rt: &R,
     alloc: Global,
     drive: D,
@@ -536,7 +538,7 @@ fn export<R: Clock + Eprint + Files<File = fs::File> + Print, D: Device + Honest
 }
 
 /// Writes blocks of standard input to a drive, which is given back.
-fn import<R: Clock + Eprint + Files<File = fs::File> + Input, D: Device + Honest + Drop>(
+fn import<R: Clock + Eprint + Files<File = fs::File> + Input, D: Device + Drop>(
     rt: &R,
     alloc: Global,
     drive: D,
@@ -612,23 +614,25 @@ fn do_copy<R: Clock + Eprint + Files<File = fs::File> + Input + Print, D: Device
     }
 }
 
-/// Does a job on the drive behind a device, with this way to devices. A program that has none ends with the status of a
-/// fault.
-pub fn do_device<R: Clock + Eprint + Files<File = fs::File> + Input + Print, D: Devices, W: Write>(
-    rt: &R,
-    alloc: Global,
-    devices: &D,
-    job: &DeviceJob,
-    output: &mut W,
-) -> ExitCode
-    ensures { D.has_way devices.now ≡ false → exit_status result ≡ 1 }
+/// Does a job on a device, or makes a new drive in a file. A rescue may do both. The Reads of a new drive are true. The
+/// job ends with the status of a fault if there is no way to it.
+pub fn do_device<
+    R: Clock + Eprint + Files<File = fs::File> + Input + Print,
+    D: Devices,
+    F: Devices,
+    W: Write,
+>(rt: &R, alloc: Global, devices: &D, files: &F, job: &DeviceJob, output: &mut W) -> ExitCode
+where
+    F::Drive: Honest,
+    ensures { reaches (record { devices = D.has_way devices.now; files = F.has_way files.now }) job.now ≡ false
+        → exit_status result ≡ 1 }
 {
     match job {
         DeviceJob::Format { device, force } => {
             do_format(rt, alloc, devices, device, *force, output)
         }
         DeviceJob::Create { image, geometry } => {
-            do_create(rt, alloc, devices, image, geometry, output)
+            do_create(rt, alloc, files, image, geometry, output)
         }
         DeviceJob::Run(job) => do_run(rt, alloc, devices, job, output),
         DeviceJob::Report { device, state } => {
@@ -656,7 +660,7 @@ pub fn do_device<R: Clock + Eprint + Files<File = fs::File> + Input + Print, D: 
             do_plan(rt, alloc, devices, device, *aim, *form, output)
         }
         DeviceJob::Copy(job) => do_copy(rt, alloc, devices, job),
-        DeviceJob::Rescue(job) => rescue_device(rt, alloc, devices, devices, job),
+        DeviceJob::Rescue(job) => rescue_device(rt, alloc, devices, files, job),
         DeviceJob::Repair(job) => repair_device(rt, alloc, devices, job, output),
     }
 }

@@ -8,11 +8,12 @@
 //! ```
 //!
 //! [`run_program`] is the whole program over any two ways: one to devices, and one to drives that stay in their files.
-//! So programs with different ways share all else. [`task_of`] reads the words of the command line, and each job is
-//! done by its crate: [`do_job`], [`do_nbd_job`], [`do_export`], [`do_import`], [`do_tool_job`], `do_rescue` and
-//! `mend_image` on the drive whose image is in a file, and those of `device_jobs` on the drive of a device. What people
-//! are told goes to standard error: what a fault is, what a status means with `nvme --explain`, what to know of the
-//! size of a disk, and what is missing of a rescued one.
+//! The Reads of a device may lie. A drive in its file is always clean, since a rescue writes one. So programs with
+//! different ways share all else. [`task_of`] reads the words of the command line, and each job is done by its crate:
+//! [`do_job`], [`do_nbd_job`], [`do_export`], [`do_import`], [`do_tool_job`], `do_rescue` and `mend_image` on the drive
+//! whose image is in a file, and those of `device_jobs` on the drive of a device. What people are told goes to standard
+//! error: what a fault is, what a status means with `nvme --explain`, what to know of the size of a disk, and what is
+//! missing of a rescued one.
 //!
 //! A file that is named by `--image` may hold a drive that stays in it. The first bytes of the file say so. Then the
 //! task becomes a job on a device with that path ([`in_place`]), and the second way opens it. A drive is put into a
@@ -51,9 +52,7 @@
 //! Tests: `job_tests`, and the rows of `tool_rows`.
 #![tactic(auto)]
 
-ghost use Rattle.std.specs.Prelude.{◌≡◌, false};
-ghost use Rattle.std.specs.Process.{exit_status};
-ghost use Rattle.zonedisk_program.specs.Ends.{EndsAsked, EndsTask, is_new, reaches};
+ghost use Rattle.zonedisk_program.specs.Ends.{EndsAsked, EndsTask};
 
 mod converting;
 mod counterpart;
@@ -74,12 +73,12 @@ use crate::repairing::repair_image;
 use crate::rescuing::{rescue_device, rescue_image};
 pub use asked_tasks::{Task, task_of};
 use clap::error::ErrorKind;
-use device_jobs::DeviceJob;
 pub use device_jobs::{Devices, NoDevices};
 pub use disk_copies::{do_export, do_import};
 use disk_jobs::ProgramFault;
 pub use disk_jobs::do_job;
 use disk_runs::RunFault;
+use drive_port::Honest;
 pub use nbd_jobs::do_nbd_job;
 use std::alloc::Global;
 use std::env::Env;
@@ -110,33 +109,6 @@ fn fill_streams<F: Files>(files: &F) -> [io::Result<F::File>; 3] {
     ]
 }
 
-/// Whether a job makes a new drive that stays in its file.
-fn is_new(job: &DeviceJob) -> bool
-    ensures { result ≡ is_new job.now }
-{
-    matches!(job, DeviceJob::Create { .. })
-}
-
-/// Does a job on a device, or makes a new drive in a file. A rescue may do both. It ends with the status of a fault if
-/// there is no way to it.
-fn do_named<
-    R: Clock + Eprint + Files<File = fs::File> + Input + Print,
-    D: Devices,
-    F: Devices,
-    W: io::Write,
->(rt: &R, alloc: Global, devices: &D, files: &F, job: &DeviceJob, output: &mut W) -> ExitCode
-    ensures { reaches (record { devices = D.has_way devices.now; files = F.has_way files.now }) job.now ≡ false
-        → exit_status result ≡ 1 }
-{
-    if let DeviceJob::Rescue(job) = job {
-        return rescue_device(rt, alloc, devices, files, job);
-    }
-    if is_new(job) {
-        return do_device(rt, alloc, files, job, output);
-    }
-    do_device(rt, alloc, devices, job, output)
-}
-
 /// Does a task, whatever its file holds. What a job with lines writes goes through a buffer.
 fn do_as_it_is<
     R: Clock + Eprint + Files<File = fs::File> + Input + Print,
@@ -144,6 +116,8 @@ fn do_as_it_is<
     F: Devices,
     W: io::Write,
 >(rt: &R, alloc: Global, devices: &D, files: &F, task: &Task, output: &mut W) -> ExitCode
+where
+    F::Drive: Honest,
     ensures { EndsTask (record { devices = D.has_way devices.now; files = F.has_way files.now }) task.now result }
 {
     match task {
@@ -154,7 +128,7 @@ fn do_as_it_is<
         Task::Convert(job) => into_drive_file(rt, alloc, files, job, output),
         Task::Rescue(job) => rescue_image(rt, alloc, job),
         Task::Repair(job) => repair_image(rt, alloc, job, output),
-        Task::Device(job) => do_named(rt, alloc, devices, files, job, output),
+        Task::Device(job) => do_device(rt, alloc, devices, files, job, output),
     }
 }
 
@@ -173,13 +147,15 @@ fn do_asked<
     task: Task,
     output: &mut W,
 ) -> ExitCode
+where
+    F::Drive: Honest,
     ensures { EndsAsked begins (record { devices = D.has_way devices.now; files = F.has_way files.now }) task result }
 {
     if !begins {
         return do_as_it_is(rt, alloc, devices, files, &task, output);
     }
     match in_place(task) {
-        Ok(job) => do_device(rt, alloc, files, &job, output),
+        Ok(job) => do_device(rt, alloc, files, files, &job, output),
         Err(Task::Convert(job)) => into_image(rt, alloc, files, &job, output),
         Err(task) => refuse_in_place(rt, &task),
     }
@@ -193,6 +169,8 @@ pub fn do_task<
     F: Devices,
     W: io::Write,
 >(rt: &R, alloc: Global, devices: &D, files: &F, task: Task, output: &mut W) -> ExitCode
+where
+    F::Drive: Honest,
     ensures { EndsTask (record { devices = D.has_way devices.now; files = F.has_way files.now }) task result }
 {
     let begins = begins_in_place(rt, &task);
@@ -244,7 +222,10 @@ pub fn run_program<
     R: Env + Alloc<A = Global> + Clock + Eprint + Files<File = fs::File> + Input + Print,
     D: Devices,
     F: Devices,
->(rt: &R, devices: &D, files: &F) -> io::Result<ExitCode> {
+>(rt: &R, devices: &D, files: &F) -> io::Result<ExitCode>
+where
+    F::Drive: Honest,
+{
     let _streams = fill_streams(rt);
     let alloc = rt.alloc();
     let Ok(mut output) = BufWriter::new(alloc, io::writer(rt)) else {

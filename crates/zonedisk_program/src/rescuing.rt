@@ -8,7 +8,7 @@ use crate::devices::{is_synced, refuse};
 use crate::files::counted;
 use device_jobs::{Devices, OpenDevice};
 use disk_jobs::{Habit, Watched};
-use drive_port::Halt;
+use drive_port::{Halt, Honest};
 use drive_rescue::{RescueFault, Rescued, Source};
 use rescue_jobs::{
     ListFile, RescueJob, RescueJobFault, do_rescue, explain, given_blocks, is_whole, lists_text,
@@ -104,6 +104,8 @@ fn rescue_to_file<R: Eprint, S: Source, F: Devices>(
     source: &mut S,
     lists: ListFile,
 ) -> ExitCode
+where
+    F::Drive: Honest,
     ensures { F.has_way files.now ≡ false → exit_status result ≡ 1 }
 {
     if let Err(fault) = files.create(path, &source.geometry()) {
@@ -132,6 +134,8 @@ pub(crate) fn rescue_device<
     D: Devices,
     F: Devices,
 >(rt: &R, alloc: Global, devices: &D, files: &F, job: &RescueJob) -> ExitCode
+where
+    F::Drive: Honest,
     ensures old { D.has_way devices.now ≡ false → exit_status result ≡ 1 }
     ensures new { is_some job.now.to ≡ true → F.has_way files.now ≡ false → exit_status result ≡ 1 }
 {

@@ -1,8 +1,8 @@
 use Rattle.std.proofs.lemmas.Result.{IfErr-weaker}
 use Rattle.drive_survey.proofs.ReadLaws.{keeps-both}
-use Rattle.device_jobs.specs.Formats.{IsUnformatted}
+use Rattle.device_jobs.specs.Formats.{HasFormatCause, IsUnformatted}
 use Rattle.device_jobs.proofs.FormatLaws.{empties-both, empties-kept}
-use Rattle.device_jobs.proofs.FormatFaultLaws.{exit, none-unusable, unformatted-before, unlisted-so, unusable-before, unusable-found, unusable-kept}
+use Rattle.device_jobs.proofs.FormatFaultLaws.{cause-before, exit, none-unusable, unformatted-before, unlisted-cause, unlisted-so, unusable-before, unusable-found, unusable-kept}
 use Rattle.device_jobs.proofs.formatting.empty_usable.Goals as goal
 
 pub returns-in_err-zones-clause-empties : goal.returns-in_err-zones-clause-empties
@@ -14,6 +14,13 @@ returns-in_err-zones-clause-err g c =
     let new = g.D.Device.drive c.zones_of.new.device in
     exit (IsUnformatted c.args.force old new) c.from_residual.result c.in_err-zones.field-0.0 c.from_residual.ensures.1
     (unlisted-so c.args.force old new c.zones_of.ensures.kept c.in_err-zones.field-0.0 c.in_err-zones.ensures.err)
+
+pub returns-in_err-zones-clause-cause : goal.returns-in_err-zones-clause-cause
+returns-in_err-zones-clause-cause g c clean =
+    let old = g.D.Device.drive c.args.device.now in
+    let new = g.D.Device.drive c.zones_of.new.device in
+    exit (HasFormatCause old new) c.from_residual.result c.in_err-zones.field-0.0 c.from_residual.ensures.1
+    (unlisted-cause old new c.in_err-zones.field-0.0 c.in_err-zones.ensures.err)
 
 pub returns-in-Some-clause-empties : goal.returns-in-Some-clause-empties
 returns-in-Some-clause-empties g c = empties-kept _ _ c.zones_of.ensures.kept
@@ -47,3 +54,11 @@ returns-clause-err g c =
     let new = g.D.Device.drive c.empty_zones.new.device in
     IfErr-weaker c.empty_zones.result (IsUnformatted c.args.force middle new) (IsUnformatted c.args.force old new)
     (λ fault so. unformatted-before c.args.force old middle new fault c.zones_of.ensures.kept so) c.empty_zones.ensures.err
+
+pub returns-clause-cause : goal.returns-clause-cause
+returns-clause-cause g c clean =
+    let old = g.D.Device.drive c.args.device.now in
+    let middle = g.D.Device.drive c.zones_of.new.device in
+    let new = g.D.Device.drive c.empty_zones.new.device in
+    IfErr-weaker c.empty_zones.result (HasFormatCause middle new) (HasFormatCause old new)
+    (λ fault so. cause-before old middle new fault c.zones_of.ensures.kept so) (c.empty_zones.ensures.cause clean)

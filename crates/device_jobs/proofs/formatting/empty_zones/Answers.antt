@@ -1,8 +1,9 @@
 use Rattle.std.proofs.Common.{◌∙◌, arith, sym}
 use Rattle.drive_survey.proofs.ReadLaws.{keeps-none}
 use Rattle.device_jobs.proofs.FormatLaws.{none-reported, empties-both, empties-kept, empties-none, usages-kept}
-use Rattle.device_jobs.specs.Formats.{IsUnformatted}
-use Rattle.device_jobs.proofs.FormatFaultLaws.{exit, unlooked-so}
+use Rattle.std.proofs.lemmas.Result.{IfErr-weaker}
+use Rattle.device_jobs.specs.Formats.{HasFormatCause, IsUnformatted, IsUnreset}
+use Rattle.device_jobs.proofs.FormatFaultLaws.{exit, unlooked-cause, unlooked-so, unreset-cause}
 use Rattle.device_jobs.proofs.formatting.empty_zones.Goals as goal
 
 pub returns-in_err-find_holding-clause-err : goal.returns-in_err-find_holding-clause-err
@@ -10,7 +11,14 @@ returns-in_err-find_holding-clause-err g c =
     let old = g.D.Device.drive c.args.device.now in
     let new = g.D.Device.drive c.find_holding.new.device in
     exit (IsUnformatted c.args.force old new) c.from_residual.result c.in_err-find_holding.field-0.0 c.from_residual.ensures.1
-    (unlooked-so c.args.force old new c.find_holding.ensures.kept c.in_err-find_holding.field-0.0 c.in_err-find_holding.ensures.err)
+    (unlooked-so c.args.force old new c.find_holding.ensures.kept c.in_err-find_holding.field-0.0 c.in_err-find_holding.ensures.kinds)
+
+pub returns-in_err-find_holding-clause-cause : goal.returns-in_err-find_holding-clause-cause
+returns-in_err-find_holding-clause-cause g c clean =
+    let old = g.D.Device.drive c.args.device.now in
+    let new = g.D.Device.drive c.find_holding.new.device in
+    exit (HasFormatCause old new) c.from_residual.result c.in_err-find_holding.field-0.0 c.from_residual.ensures.1
+    (unlooked-cause old new c.in_err-find_holding.field-0.0 (c.in_err-find_holding.ensures.err clean))
 
 pub returns-then-count-eq0-clause-kept : goal.returns-then-count-eq0-clause-kept
 returns-then-count-eq0-clause-kept g c = λ unforced. keeps-none (g.D.Device.drive c.args.device.now) c.requires.reported.lawful
@@ -35,14 +43,24 @@ returns-then-not-force-clause-empties g c = empties-kept _ _ c.find_holding.ensu
 pub returns-then-not-force-clause-err : goal.returns-then-not-force-clause-err
 returns-then-not-force-clause-err g c = (
   c.if-not-force.true,
-  record {
-    count = c.count_written-count.ensures ∙ c.requires.reported.written;
-    some = omega (arith, c.if-count-eq0.false);
-    seen = g.D.Device.drive c.args.device.now;
-    keeps = keeps-none (g.D.Device.drive c.args.device.now) c.requires.reported.lawful;
-    holding = c.in_ok-find_holding.ensures.ok;
-  },
+  record { count = c.count_written-count.ensures ∙ c.requires.reported.written; some = omega (arith, c.if-count-eq0.false) },
+  c.find_holding.ensures.kept,
 )
+
+pub returns-then-not-force-clause-cause : goal.returns-then-not-force-clause-cause
+returns-then-not-force-clause-cause g c clean = record {
+  count = c.count_written-count.ensures ∙ c.requires.reported.written;
+  some = omega (arith, c.if-count-eq0.false);
+  seen = g.D.Device.drive c.args.device.now;
+  keeps = keeps-none (g.D.Device.drive c.args.device.now) c.requires.reported.lawful;
+  holding = c.in_ok-find_holding.ensures.ok clean;
+}
+
+pub returns-clause-cause : goal.returns-clause-cause
+returns-clause-cause g c clean =
+    let old = g.D.Device.drive c.args.device.now in
+    let new = g.D.Device.drive c.reset_zones.new.device in
+    IfErr-weaker c.reset_zones.result (IsUnreset new) (HasFormatCause old new) (unreset-cause old new) c.reset_zones.ensures.err
 
 pub returns-then-is_err-clause-empties : goal.returns-then-is_err-clause-empties
 returns-then-is_err-clause-empties g c = empties-kept _ _ c.find_holding.ensures.kept

@@ -45,12 +45,12 @@ returns-clause-tells g c = λ clean.
     let drive = c.into_inner-2.ensures ∙ c.into_device.ensures ∙ ap (λ (d : DiskView). d.drive) c.into_any_parts-disk.ensures.disk in
     let was = first-clean c.args.job.now.forget _ _ c.serve_store-after.result.result c.serve_store-after.result.forgotten _ c.serve_store-after.ensures.1 (rw drive at clean) in
     rw c.session_end.ensures
-    (session-told c.args.job.now (g.D.Device.drive c.args.kept.device) c.in-Ok.disk c.serve_store-after.result.result _ c.told_size-size.result (g.M.Medium.flushes c.args.kept.medium) (rw (c.new.ensures, c.flushes-flushes.ensures) at (c.in-Ok.ensures.disk (rw c.over-store.ensures.disk at was))) c.told_size-size.ensures c.shown_statistics-statistics.ensures)
+    (session-told c.args.job.now (g.D.Device.drive c.args.kept.device) c.in-Ok.disk c.serve_store-after.result.result _ c.of-size.result (g.M.Medium.flushes c.args.kept.medium) (rw (c.new.ensures, c.flushes-flushes.ensures) at (c.in-Ok.ensures.disk (rw c.over-store.ensures.disk at was))) c.of-size.ensures c.shown_statistics-statistics.ensures)
 
 pub returns-clause-told : goal.returns-clause-told
 returns-clause-told g c =
     rw c.session_end.ensures
-    (session_told-anyway c.args.job.now (g.D.Device.drive c.args.kept.device) c.in-Ok.disk c.serve_store-after.result.result _ c.told_size-size.result (rw c.new.ensures at c.in-Ok.ensures.shape) c.told_size-size.ensures c.shown_statistics-statistics.ensures)
+    (session_told-anyway c.args.job.now (g.D.Device.drive c.args.kept.device) c.in-Ok.disk c.serve_store-after.result.result _ c.of-size.result (rw c.new.ensures at c.in-Ok.ensures.shape) c.of-size.ensures c.shown_statistics-statistics.ensures)
 
 -- no disk was
 pub returns-in-Err-clause-tells : goal.returns-in-Err-clause-tells

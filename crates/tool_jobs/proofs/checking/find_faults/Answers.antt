@@ -8,4 +8,4 @@ returns-in-Ok-clause-ok g c = faults-found (g.I.Read.remaining c.args.bytes.now)
 pub returns-clause-err : goal.returns-clause-err
 returns-clause-err g c =
     not-asked (g.I.Read.remaining c.args.bytes.now) Lazy c.in_ok-drive.field-0 c.in_ok-drive.ensures.ok
-    c.check_drive-checked.new.device.state c.in-Err.fault c.interrupted.result c.in-Err.ensures.kept c.interrupted.ensures (c.in-Err.ensures.err c.vouch.ensures)
+    c.check_drive-checked.new.device.state c.in-Err.fault c.interrupted.result c.in-Err.ensures.kept c.interrupted.ensures.told (c.in-Err.ensures.err c.vouch.ensures)

@@ -11,4 +11,4 @@ returns-in-Ok-clause-ok g c =
 pub returns-clause-err : goal.returns-clause-err
 returns-clause-err g c =
     let up = rw c.in-Err.is at (c.inspect_and_rehearse-drive.ensures.err c.vouch.ensures) in
-    not-asked (g.I.Read.remaining c.args.bytes.now) Lazy c.in_ok-drive.field-0 c.in_ok-drive.ensures.ok up.last c.in-Err.fault c.interrupted.result up.keeps c.interrupted.ensures up.interrupted
+    not-asked (g.I.Read.remaining c.args.bytes.now) Lazy c.in_ok-drive.field-0 c.in_ok-drive.ensures.ok up.last c.in-Err.fault c.interrupted.result up.keeps c.interrupted.ensures.told up.interrupted

@@ -1,0 +1,3 @@
+pub mod ExtentLaws
+pub mod HoleLaws
+pub mod ServeLaws
