@@ -45,5 +45,5 @@ while read -r number; do
 done < /synced
 umount /mnt
 nbd-client -d /dev/nbd0 > /tmp/client
-wait || fail "the server ended badly"
+wait $! || fail "the server ended badly"
 zonedisk check --device /dev/ng0n1 || fail "the drive cannot be mounted"
