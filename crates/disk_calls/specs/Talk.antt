@@ -23,9 +23,8 @@ pub record Exchange : Type 0 where
   pub passed : Passed
   pub told : Result (Unit {0}) CallFault
 
--- What was said so far: the calls that were answered, oldest first; then the one that is asked now, if there is one, and
--- what has passed in it. All that is only so while it is known. A host may lose count of what was said, as one that
--- keeps it in memory.
+-- What was said so far: the calls that were answered, oldest first; then the one that is asked now, or none, and what has
+-- passed in it. That counts only while it is known. A host that keeps it in memory may lose count.
 pub record Talk : Type 0 where
   pub past : List Exchange
   pub asked : Option Asked
@@ -36,7 +35,7 @@ pub record Talk : Type 0 where
 abbrev pub Becomes : Talk → Talk → Talk → Type 0
 Becomes old next new = IsTrue new.known → IsTrue old.known × (new ≡ next)
 
--- the calls that were answered once this one is, if there is one
+-- the calls that were answered once this one is
 abbrev pub with_answer : List Exchange → Option Asked → Passed → Result (Unit {0}) CallFault → List Exchange
 with_answer past None passed told = past
 with_answer past (Some asked) passed told = past ++ (record { asked = asked; passed = passed; told = told }) ∷ []

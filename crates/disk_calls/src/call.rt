@@ -7,21 +7,21 @@ pub const MOST_BYTES: u64 = 33_554_432;
 /// What a host asks of a disk.
 #[derive(Clone, Copy, Debug, PartialEq, Eq)]
 pub enum Asked {
-    /// To show so many blocks from `first` on.
+    /// To show `blocks` blocks from `first` on.
     Read { first: u64, blocks: u64 },
-    /// To write so many blocks from `first` on. The host gives their bytes.
+    /// To write `blocks` blocks from `first` on. The host gives their bytes.
     Write { first: u64, blocks: u64 },
-    /// To make so many blocks from `first` on zeros, whose data take no room.
+    /// To make `blocks` blocks from `first` on zeros, whose data take no room.
     Trim { first: u64, blocks: u64 },
-    /// To write so many blocks of zeros from `first` on. They take room, as other data do.
+    /// To write `blocks` blocks of zeros from `first` on. They take room, as other data do.
     Zero { first: u64, blocks: u64 },
-    /// To tell which of so many blocks from `first` on have data.
+    /// To tell which of `blocks` blocks from `first` on have data.
     Extents { first: u64, blocks: u64 },
     /// To make the array durable.
     Flush,
     /// To take a turn of cleaning.
     Idle,
-    /// To have so many blocks.
+    /// To have `blocks` blocks.
     Grow { blocks: u64 },
     /// To let the host look at the disk.
     Look,

@@ -10,8 +10,7 @@ pub trait Host<D: Device + Drop> {
     /// What was said so far, while it is known.
     ghost talk: { Self → Talk };
 
-    /// Takes the answer to the last call, and asks for the next one, if there is one. There is no last call before the
-    /// first one.
+    /// Takes the answer to the last call, and asks for the next one, or for none. The first answer belongs to no call.
     fn next(&mut self, told: Result<(), CallFault>) -> Option<Asked>
         ensures { Becomes (talk self.old) (turned (talk self.old) told result) (talk self.new) };
 
